@@ -1,0 +1,63 @@
+-- Cutting an input into segments.
+use Prim.Native.Nat.{ℕ, zero, suc}
+use mathlib.Core.List.{List, [], _∷_}
+use mathlib.Core.Bool.{Bool, true, false, cond, _&&_, _||_}
+use lib.Dec.{eqb, leb}
+use lib.ListN.{drop}
+use lib.Seq.{slice}
+use Rattle.syntax.specs.Octets.{digit, capital}
+use Rattle.syntax.specs.Service.{kind}
+use Rattle.syntax.specs.Repertoire.{outside}
+use Rattle.syntax.specs.declared.Service.{Service}
+use Rattle.syntax.specs.declared.Syntax.{Syntax}
+use Rattle.syntax.specs.declared.Found.{Found}
+use Rattle.syntax.specs.declared.Found.the-variants.{At, Nothing}
+use Rattle.syntax.specs.declared.cutting.Cut.{Cut}
+use Rattle.syntax.specs.declared.cutting.Cut.the-variants.{Ends, Spoilt, Open}
+use Rattle.syntax.specs.declared.cutting.Tag.{Tag}
+use Rattle.syntax.specs.declared.cutting.Tag.the-variants.{Is, Bad}
+
+-- the place of the first octet of kind n or above; `i` is the place of the list's head.
+-- With n = 5: "A segment ends at the first terminator that isn't released."
+abbrev pub stopFrom : Service → ℕ → Bool → List ℕ → ℕ → Found
+stopFrom σ n f [] i = Nothing
+stopFrom σ n f (b ∷ s) i = cond (leb n (kind σ f b)) (At i) (stopFrom σ n (eqb (kind σ f b) 0) s (suc i))
+
+-- the end of the segment that starts at a place: its terminator
+abbrev pub endAt : Service → List ℕ → ℕ → Found
+endAt σ s a = stopFrom σ 5 false (drop a s) a
+
+-- all ends of an input, in one pass
+abbrev pub ends : Service → Bool → List ℕ → ℕ → List ℕ
+ends σ f [] i = []
+ends σ f (b ∷ s) i = let r : List ℕ = ends σ (eqb (kind σ f b) 0) s (suc i) in cond (leb 5 (kind σ f b)) (i ∷ r) r
+
+-- the first octet of a stretch that is outside the repertoire
+abbrev pub firstOutside : Syntax → List ℕ → ℕ → Found
+firstOutside y [] i = Nothing
+firstOutside y (b ∷ s) i = cond (outside y b) (At i) (firstOutside y s (suc i))
+
+-- a segment's end, and its first octet outside, tag to terminator
+abbrev pub cutBy : Found → Found → Cut
+cutBy Nothing x = Open
+cutBy (At e) Nothing = Ends e
+cutBy (At e) (At b) = Spoilt e b
+
+abbrev pub stretch : List ℕ → ℕ → Found → List ℕ
+stretch s a (At e) = slice a (suc e) s
+stretch s a Nothing = []
+
+abbrev pub cutAt : Syntax → List ℕ → ℕ → Cut
+cutAt y s a = cutBy (endAt (y .service) s a) (firstOutside y (stretch s a (endAt (y .service) s a)) a)
+
+-- "A tag is three octets A to Z or 0 to 9, then an element separator or the terminator."
+abbrev pub tagOctet : ℕ → Bool
+tagOctet b = digit b || capital b
+
+abbrev pub tagOf : Service → List ℕ → Tag
+tagOf σ [] = Bad
+tagOf σ (a ∷ []) = Bad
+tagOf σ (a ∷ b ∷ []) = Bad
+tagOf σ (a ∷ b ∷ c ∷ []) = Bad
+tagOf σ (a ∷ b ∷ c ∷ d ∷ s) =
+    cond (tagOctet a && tagOctet b && tagOctet c && (eqb d (σ .element) || eqb d (σ .terminator))) (Is a b c) Bad

@@ -1,0 +1,10 @@
+pub mod Octets
+pub mod Service
+pub mod Repertoire
+pub mod Cutting
+pub mod Content
+pub mod Segment
+pub mod Opening
+pub mod Example
+pub mod Tree
+pub mod Reader

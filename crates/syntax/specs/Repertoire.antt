@@ -1,0 +1,43 @@
+-- The repertoires, and the table of classes that the code reads by.
+use Prim.Native.Nat.{ℕ, _<_}
+use mathlib.Core.List.{List}
+use mathlib.Core.Path.{_≡_}
+use mathlib.Core.Bool.{Bool, false, cond, not, _||_}
+use lib.Dec.{eqb}
+use lib.ListN.{length, getD}
+use Rattle.syntax.specs.Octets.{octets, within, digit, capital, small, among}
+use Rattle.syntax.specs.Service.{kindOf, serves}
+use Rattle.syntax.specs.declared.Service.{Service}
+use Rattle.syntax.specs.declared.Syntax.{Syntax}
+use Rattle.syntax.specs.declared.Level.{Level}
+use Rattle.syntax.specs.declared.Level.the-variants.{A, B, C}
+
+-- "UNOA: A to Z, 0 to 9, space and `. , - ( ) / = ' + : ? ! " % & * ; < >`."
+abbrev pub insideA : ℕ → Bool
+insideA b = capital b || digit b || eqb b 32 || among (octets ".,-()/='+:?!\"%&*;<>") b
+
+-- "UNOB adds a to z. UNOC: 0x20 to 0x7E and 0xA0 to 0xFF."
+unfoldable pub inside : Level → ℕ → Bool
+inside A b = insideA b
+inside B b = insideA b || small b
+inside C b = within 32 126 b || within 160 255 b
+
+-- "Service characters in force are always inside."
+abbrev pub outside : Syntax → ℕ → Bool
+outside y b = cond (serves (y .service) b) false (not (inside (y .level) b))
+
+-- the code's class of an octet: 0 data, 2 component, 3 repetition, 4 element, 5 terminator, 6 release, 7 outside
+abbrev pub toClass : ℕ → Bool → ℕ
+toClass k i = cond (eqb k 1) (cond i 0 7) (cond (eqb k 0) 6 k)
+
+unfoldable pub classOf : Syntax → ℕ → ℕ
+classOf y b = toClass (kindOf (y .service) b) (inside (y .level) b)
+
+-- a table of what is outside, and a table of classes: one rule for every octet
+pub record Base (l : Level) (t : List ℕ) : Type 0 where
+  pub size : length t ≡ 256
+  pub rule : (b : ℕ) → b < 256 → getD t b 0 ≡ cond (inside l b) 0 7
+
+pub record Table (y : Syntax) (t : List ℕ) : Type 0 where
+  pub size : length t ≡ 256
+  pub rule : (b : ℕ) → b < 256 → getD t b 0 ≡ classOf y b

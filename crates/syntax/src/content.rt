@@ -1,0 +1,196 @@
+// Content: the octets of a part with releases dropped. Nothing is copied.
+ghost use mathlib.Core.Path.{_≡_};
+ghost use mathlib.Core.Bool.{Bool, true, false};
+ghost use Prim.Native.Nat.{_≤_, _<_};
+ghost use lib.ListN.{length, drop};
+ghost use lib.Seq.{slice};
+ghost use Rattle.syntax.specs.Octets.{same};
+ghost use Rattle.syntax.specs.Content.{content, nextOf, allDigits, numberIn};
+
+// The next octet of content, and the place after it.
+pub enum Next {
+    Octet(u8, usize),
+    Over,
+}
+
+// The number that 1 to 15 digits give.
+pub enum Number {
+    Is(u64),
+    Not,
+}
+
+// The octets from `a` up to, not including, `e`, as far as `s` has them.
+pub fn part<'a>(s: &'a [u8], a: usize, e: usize) -> &'a [u8]
+    ensures { λ r. ⌜ now r ≡ slice a e (now (s .entry)) ⌝ }
+{
+    let n = s.len();
+    if e <= n {
+        if a <= e {
+            return &s[a..e];
+        }
+        return &s[0..0];
+    }
+    if a <= n {
+        return &s[a..n];
+    }
+    &s[0..0]
+}
+
+// A release frees the octet after it; as the very last octet it frees nothing. A space is no release.
+pub fn next_octet(x: &[u8], i: usize, release: u8) -> Next
+    ensures { λ r. ⌜ r ≡ nextOf release (drop i (now (x .entry))) i ⌝ }
+{
+    if x.len() <= i {
+        return Next::Over;
+    }
+    let b = x[i];
+    if b == 32 {
+        return Next::Octet(b, i + 1);
+    }
+    if b != release {
+        return Next::Octet(b, i + 1);
+    }
+    let j = i + 1;
+    if x.len() <= j {
+        return Next::Over;
+    }
+    Next::Octet(x[j], j + 1)
+}
+
+pub fn content_length(x: &[u8], release: u8) -> usize
+    ensures { λ r. ⌜ r ≡ length (content release (now (x .entry))) ⌝ }
+{
+    let mut i = 0;
+    let mut n: usize = 0;
+    loop {
+        match next_octet(x, i, release) {
+            Next::Octet(_, j) => {
+                n += 1;
+                i = j;
+            }
+            Next::Over => {
+                return n;
+            }
+        }
+    }
+}
+
+// Whether the content of `x` is `t`.
+pub fn content_is(x: &[u8], release: u8, t: &[u8]) -> bool
+    ensures { λ r. ⌜ r ≡ same (content release (now (x .entry))) (now (t .entry)) ⌝ }
+{
+    let mut i = 0;
+    let mut k = 0;
+    loop {
+        match next_octet(x, i, release) {
+            Next::Octet(b, j) => {
+                if t.len() <= k {
+                    return false;
+                }
+                if b != t[k] {
+                    return false;
+                }
+                i = j;
+                k += 1;
+            }
+            Next::Over => {
+                return k == t.len();
+            }
+        }
+    }
+}
+
+// Whether `x` and `z` have the same content, each under its own release.
+pub fn same_content(x: &[u8], release: u8, z: &[u8], other: u8) -> bool
+    ensures { λ r. ⌜ r ≡ same (content release (now (x .entry))) (content other (now (z .entry))) ⌝ }
+{
+    let mut i = 0;
+    let mut k = 0;
+    loop {
+        let f = next_octet(x, i, release);
+        let g = next_octet(z, k, other);
+        match f {
+            Next::Octet(b, j) => match g {
+                Next::Octet(c, l) => {
+                    if b != c {
+                        return false;
+                    }
+                    i = j;
+                    k = l;
+                }
+                Next::Over => {
+                    return false;
+                }
+            },
+            Next::Over => match g {
+                Next::Octet(_, _) => {
+                    return false;
+                }
+                Next::Over => {
+                    return true;
+                }
+            },
+        }
+    }
+}
+
+pub fn all_digits(x: &[u8], release: u8) -> bool
+    ensures { λ r. ⌜ r ≡ allDigits (content release (now (x .entry))) ⌝ }
+{
+    let mut i = 0;
+    loop {
+        match next_octet(x, i, release) {
+            Next::Octet(b, j) => {
+                if b < 48 {
+                    return false;
+                }
+                if 57 < b {
+                    return false;
+                }
+                i = j;
+            }
+            Next::Over => {
+                return true;
+            }
+        }
+    }
+}
+
+fn wide(b: u8) -> u64
+    ensures { λ r. ⌜ (r ≡ b) × (r < 256) ⌝ }
+{
+    b as u64
+}
+
+// The number that the content gives, where it is 1 to 15 digits.
+pub fn digits_value(x: &[u8], release: u8) -> Number
+    ensures { λ r. ⌜ r ≡ numberIn (content release (now (x .entry))) ⌝ }
+{
+    let mut i = 0;
+    let mut n: usize = 0;
+    let mut v: u64 = 0;
+    loop {
+        match next_octet(x, i, release) {
+            Next::Octet(b, j) => {
+                if b < 48 {
+                    return Number::Not;
+                }
+                if 57 < b {
+                    return Number::Not;
+                }
+                if 15 <= n {
+                    return Number::Not;
+                }
+                v = v * 10 + (wide(b) - 48);
+                n += 1;
+                i = j;
+            }
+            Next::Over => {
+                if n == 0 {
+                    return Number::Not;
+                }
+                return Number::Is(v);
+            }
+        }
+    }
+}

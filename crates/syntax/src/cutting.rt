@@ -1,0 +1,136 @@
+// Cutting: where a segment ends, its first octet outside the repertoire, its tag.
+ghost use mathlib.Core.Path.{_≡_};
+ghost use mathlib.Core.Bool.{false};
+ghost use Prim.Native.Nat.{_≤_};
+ghost use lib.ListN.{drop};
+ghost use Rattle.syntax.specs.Repertoire.{classOf, Table};
+ghost use Rattle.syntax.specs.Cutting.{stopFrom, cutAt, cutBy, tagOctet, tagOf};
+use crate::Found;
+use crate::Service;
+use crate::Syntax;
+use crate::repertoire::class;
+
+// A segment's end; its end and its first octet outside the repertoire; no end.
+pub enum Cut {
+    Ends(usize),
+    Spoilt(usize, usize),
+    Open,
+}
+
+pub enum Tag {
+    Is(u8, u8, u8),
+    Bad,
+}
+
+// The place of the first octet at or after `from` that is of kind `n` or above and not released.
+pub fn stop(s: &[u8], from: usize, t: &[u8; 256], y: Syntax, n: u8) -> Found
+    requires { ⌜ Table y (now t) ⌝ }
+    requires { ⌜ (2 ≤ n) × (n ≤ 5) ⌝ }
+    ensures { λ r. ⌜ r ≡ stopFrom (y .service) n false (drop from (now (s .entry))) from ⌝ }
+{
+    let mut i = from;
+    while i < s.len() {
+        let c = class(t, y, s[i]);
+        if c < n {
+            i += 1;
+            continue;
+        }
+        if c < 6 {
+            return Found::At(i);
+        }
+        if c == 7 {
+            i += 1;
+            continue;
+        }
+        i += 1;
+        if s.len() <= i {
+            return Found::Nothing;
+        }
+        i += 1;
+    }
+    Found::Nothing
+}
+
+fn spoilt(f: Found, b: usize) -> Cut
+    ensures { λ r. ⌜ r ≡ cutBy f (Found.At b) ⌝ }
+{
+    match f {
+        Found::At(e) => Cut::Spoilt(e, b),
+        Found::Nothing => Cut::Open,
+    }
+}
+
+// The segment at `from`. The hot way round is the first test; a release takes the octet that it frees at once.
+pub fn scan(s: &[u8], from: usize, t: &[u8; 256], y: Syntax) -> Cut
+    requires { ⌜ Table y (now t) ⌝ }
+    ensures { λ r. ⌜ r ≡ cutAt y (now (s .entry)) from ⌝ }
+{
+    let mut i = from;
+    while i < s.len() {
+        let c = class(t, y, s[i]);
+        if c < 5 {
+            i += 1;
+            continue;
+        }
+        if c == 5 {
+            return Cut::Ends(i);
+        }
+        if c == 7 {
+            return spoilt(stop(s, i + 1, t, y, 5), i);
+        }
+        i += 1;
+        if s.len() <= i {
+            return Cut::Open;
+        }
+        let d = class(t, y, s[i]);
+        if d == 7 {
+            return spoilt(stop(s, i + 1, t, y, 5), i);
+        }
+        i += 1;
+    }
+    Cut::Open
+}
+
+fn tag_octet(b: u8) -> bool
+    ensures { λ r. ⌜ r ≡ tagOctet b ⌝ }
+{
+    if b < 48 {
+        return false;
+    }
+    if b <= 57 {
+        return true;
+    }
+    if b < 65 {
+        return false;
+    }
+    b <= 90
+}
+
+// The tag of the segment at `at`: three octets A to Z or 0 to 9, then an element separator or the terminator.
+pub fn tag_at(s: &[u8], at: usize, v: Service) -> Tag
+    ensures { λ r. ⌜ r ≡ tagOf v (drop at (now (s .entry))) ⌝ }
+{
+    if s.len() < 4 {
+        return Tag::Bad;
+    }
+    if s.len() - 4 < at {
+        return Tag::Bad;
+    }
+    let a = s[at];
+    let b = s[at + 1];
+    let c = s[at + 2];
+    let d = s[at + 3];
+    if tag_octet(a) {
+        if tag_octet(b) {
+            if tag_octet(c) {
+                if d == v.element {
+                    return Tag::Is(a, b, c);
+                }
+                if d == v.terminator {
+                    return Tag::Is(a, b, c);
+                }
+            }
+        }
+    }
+    Tag::Bad
+}

@@ -1,0 +1,46 @@
+// The octets of one EDIFACT interchange: service characters, repertoire, segments, elements, components, content.
+// specs/ says what each call means. No call has a `requires` but those that read by the class table, which `table` makes.
+pub mod content;
+pub mod cutting;
+pub mod opening;
+pub mod reading;
+pub mod repertoire;
+
+// A refusal as document 01 numbers it, with its place.
+pub struct Refusal {
+    pub number: u8,
+    pub place: usize,
+}
+
+// The service characters. A release or a repetition that is a space, 32, is not in force.
+pub struct Service {
+    pub component: u8,
+    pub element: u8,
+    pub release: u8,
+    pub repetition: u8,
+    pub terminator: u8,
+}
+
+pub enum Version {
+    Three,
+    Four,
+}
+
+// The repertoires UNOA, UNOB and UNOC.
+pub enum Level {
+    A,
+    B,
+    C,
+}
+
+// What UNB's first element and UNA settle for the whole interchange.
+pub struct Syntax {
+    pub version: Version,
+    pub level: Level,
+    pub service: Service,
+}
+
+pub enum Found {
+    At(usize),
+    Nothing,
+}
