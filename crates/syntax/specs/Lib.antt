@@ -8,3 +8,10 @@ pub mod Opening
 pub mod Example
 pub mod Tree
 pub mod Reader
+pub mod RepertoireLaws
+pub mod CuttingLaws
+pub mod ContentLaws
+pub mod SegmentLaws
+pub mod TreeLaws
+pub mod ReaderLaws
+pub mod OpeningLaws

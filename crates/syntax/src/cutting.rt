@@ -1,5 +1,6 @@
 // Cutting: where a segment ends, its first octet outside the repertoire, its tag.
 ghost use mathlib.Core.Path.{_≡_};
+ghost use mathlib.Core.List.{[], _∷_};
 ghost use mathlib.Core.Bool.{false};
 ghost use Prim.Native.Nat.{_≤_};
 ghost use lib.ListN.{drop};
@@ -106,6 +107,27 @@ fn tag_octet(b: u8) -> bool
     b <= 90
 }
 
+fn tag_of(a: u8, b: u8, c: u8, d: u8, v: Service) -> Tag
+    ensures { λ r. ⌜ r ≡ tagOf v (a ∷ b ∷ c ∷ d ∷ []) ⌝ }
+{
+    if !tag_octet(a) {
+        return Tag::Bad;
+    }
+    if !tag_octet(b) {
+        return Tag::Bad;
+    }
+    if !tag_octet(c) {
+        return Tag::Bad;
+    }
+    if d == v.element {
+        return Tag::Is(a, b, c);
+    }
+    if d == v.terminator {
+        return Tag::Is(a, b, c);
+    }
+    Tag::Bad
+}
+
 // The tag of the segment at `at`: three octets A to Z or 0 to 9, then an element separator or the terminator.
 pub fn tag_at(s: &[u8], at: usize, v: Service) -> Tag
     ensures { λ r. ⌜ r ≡ tagOf v (drop at (now (s .entry))) ⌝ }
@@ -116,21 +138,5 @@ pub fn tag_at(s: &[u8], at: usize, v: Service) -> Tag
     if s.len() - 4 < at {
         return Tag::Bad;
     }
-    let a = s[at];
-    let b = s[at + 1];
-    let c = s[at + 2];
-    let d = s[at + 3];
-    if tag_octet(a) {
-        if tag_octet(b) {
-            if tag_octet(c) {
-                if d == v.element {
-                    return Tag::Is(a, b, c);
-                }
-                if d == v.terminator {
-                    return Tag::Is(a, b, c);
-                }
-            }
-        }
-    }
-    Tag::Bad
+    tag_of(s[at], s[at + 1], s[at + 2], s[at + 3], v)
 }

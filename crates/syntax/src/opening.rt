@@ -7,7 +7,7 @@ ghost use Prim.Native.Nat.{_≤_};
 ghost use Rattle.syntax.specs.Repertoire.{Table};
 ghost use Rattle.syntax.specs.Service.{servant, differ, repetitionDiffers, fit, withoutRepetition};
 ghost use Rattle.syntax.specs.Content.{content};
-ghost use Rattle.syntax.specs.Opening.{startsUna, unaService, readUna, openingOf, levelNamed, versionNamed, refusedUnb, settled, declaredAt, isUnb, isTag, begunAt, begunOf};
+ghost use Rattle.syntax.specs.Opening.{startsUna, unaService, readUna, openingOf, levelNamed, versionNamed, refusedUnb, settled, declaredAt, isUnb, isTag, isThere, begunAt, begunOf};
 use crate::Found;
 use crate::Level;
 use crate::Refusal;
@@ -79,7 +79,7 @@ fn servant_octet(b: u8) -> bool
     if b < 123 {
         return false;
     }
-    b < 127
+    b <= 126
 }
 
 fn optional_octet(b: u8) -> bool
@@ -140,18 +140,22 @@ fn repetition_differs(v: Service) -> bool
 fn is_fit(v: Service) -> bool
     ensures { λ r. ⌜ r ≡ fit v ⌝ }
 {
-    if servant_octet(v.component) {
-        if servant_octet(v.element) {
-            if optional_octet(v.release) {
-                if optional_octet(v.repetition) {
-                    if servant_octet(v.terminator) {
-                        return all_differ(v);
-                    }
-                }
-            }
-        }
+    if !servant_octet(v.component) {
+        return false;
     }
-    false
+    if !servant_octet(v.element) {
+        return false;
+    }
+    if !optional_octet(v.release) {
+        return false;
+    }
+    if !optional_octet(v.repetition) {
+        return false;
+    }
+    if !servant_octet(v.terminator) {
+        return false;
+    }
+    all_differ(v)
 }
 
 fn starts_una(s: &[u8]) -> bool
@@ -365,6 +369,15 @@ fn is_tag(g: Tag) -> bool
     }
 }
 
+fn is_there(f: Found) -> bool
+    ensures { λ r. ⌜ r ≡ isThere f ⌝ }
+{
+    match f {
+        Found::At(_) => true,
+        Found::Nothing => false,
+    }
+}
+
 // The first segment: 5 where there is none, then 4, 5, 6.
 fn begin_at(s: &[u8], o: Opening) -> Begun
     ensures { λ r. ⌜ r ≡ begunAt (now (s .entry)) o ⌝ }
@@ -380,7 +393,7 @@ fn begin_at(s: &[u8], o: Opening) -> Begun
         service: v,
     };
     let t = table(y);
-    if let Found::Nothing = stop(s, at, &t, y, 5) {
+    if !is_there(stop(s, at, &t, y, 5)) {
         return unb_refused(4, at);
     }
     let g = tag_at(s, at, v);

@@ -49,10 +49,12 @@ fn element_from(s: &[u8], a: usize, t: &[u8; 256], y: Syntax, e: usize) -> Found
                 if k == 5 {
                     return Found::Nothing;
                 }
-                i = q + 1;
                 if k == 4 {
                     n -= 1;
+                    i = q + 1;
+                    continue;
                 }
+                i = q + 1;
             }
             Edge::Off => {
                 return Found::Nothing;
@@ -197,10 +199,12 @@ pub fn count_elements(s: &[u8], a: usize, t: &[u8; 256], y: Syntax) -> usize
                 if k == 5 {
                     return n;
                 }
-                i = q + 1;
                 if k == 4 {
                     n += 1;
+                    i = q + 1;
+                    continue;
                 }
+                i = q + 1;
             }
             Edge::Off => {
                 return n;

@@ -1,0 +1,80 @@
+use Prim.Native.Nat.{ℕ, _≤_, _<_, _-_, _+_}
+use mathlib.Core.Path.{_≡_, refl, sym, _∙_}
+use mathlib.Core.Bool.{Bool, true, false}
+use borrow.Author.Needs.{needs}
+use lib.ListN.{length}
+use Rattle.syntax.specs.Segment.{piecesAt, atComponent}
+use Rattle.syntax.specs.SegmentLaws.{edge-steps, Nearing, nearing-over, nearing-there, nearing-gone, nearing-on}
+use Rattle.syntax.proofs.reading.component_from.Statement.{statement}
+use Rattle.syntax.proofs.reading.component_from.Tie as tie
+use Rattle.syntax.proofs.reading.component_from.Reads as reads
+use Rattle.syntax.proofs.reading.component_from.Lts as lts
+use Rattle.syntax.proofs.reading.piece_end.Reads as piece-end-reads
+
+abbrev Inv-loop : tie.InvT-loop
+Inv-loop s p t y c i₀ n₀ i n = Nearing y (atComponent c (piecesAt (y .service) s p)) s i n
+
+abbrev μ-loop : tie.MeasureT-loop
+μ-loop s p t y c i₀ n₀ i n = length s - i
+
+-- src/reading.rt:74:5
+loop-holds : tie.Need-loop-holds Inv-loop μ-loop
+loop-holds c = record { left = refl }
+
+-- src/reading.rt:75:15
+piece-end-requires : tie.Need-piece-end-requires Inv-loop μ-loop
+piece-end-requires c κs = search needs
+
+-- src/reading.rt:76:22
+enum-known-q : tie.Need-enum-known-q Inv-loop μ-loop
+enum-known-q c = search needs
+
+-- src/reading.rt:78:21
+returns : tie.Need-returns Inv-loop μ-loop
+returns c = search (nearing-there, needs)
+
+-- src/reading.rt:81:21
+returns-2 : tie.Need-returns-2 Inv-loop μ-loop
+returns-2 c = search (nearing-gone, needs)
+
+-- src/reading.rt:83:17
+sub-n : tie.Need-sub-n Inv-loop μ-loop
+sub-n c = search needs
+
+-- src/reading.rt:84:21
+add-i : tie.Need-add-i Inv-loop μ-loop
+add-i c = let w = edge-steps (c .before .before .before .before .before .before .before .before .args .y .service) (c .before .before .before .before .before .before .before .before .args .s .now) (c .before .before .before .before .before .before .loop .i) (c .before .before .before .before .before .piece-end .ensures) (c .before .before .before .q .given .1) in search needs
+
+-- src/reading.rt:74:5
+loop-less : tie.Need-loop-less Inv-loop μ-loop
+loop-less c = let w = edge-steps (c .before .before .before .before .before .before .before .before .args .y .service) (c .before .before .before .before .before .before .before .before .args .s .now) (c .before .before .before .before .before .before .loop .i) (c .before .before .before .before .before .piece-end .ensures) (c .before .before .before .q .given .1) in search needs
+
+-- src/reading.rt:74:5
+loop-again : tie.Need-loop-again Inv-loop μ-loop
+loop-again c = search (nearing-on, needs)
+
+-- src/reading.rt:87:17
+enum-told : tie.Need-enum-told Inv-loop μ-loop
+enum-told c = search needs
+
+-- src/reading.rt:87:17
+returns-3 : tie.Need-returns-3 Inv-loop μ-loop
+returns-3 c = search (nearing-over, needs)
+
+pub component-from-spec : {M : Type 1} → statement M
+component-from-spec =
+    tie.close
+    (tie.spec
+    Inv-loop
+    μ-loop
+    loop-holds
+    piece-end-requires
+    enum-known-q
+    returns
+    returns-2
+    sub-n
+    add-i
+    loop-less
+    loop-again
+    enum-told
+    returns-3)

@@ -1,0 +1,189 @@
+-- Laws for the proofs of `opening` and of the tags of `cutting`: one for each way through a function's tests.
+use Prim.Native.Nat.{ℕ, suc, _<_, _≤_, _+_}
+use mathlib.Core.Path.{_≡_, refl, sym, ap, ap₂, _∙_}
+use mathlib.Core.List.{List, [], _∷_}
+use mathlib.Core.Bool.{Bool, true, false, cond, not, _&&_}
+use native.Mathlib.Omega.{arith}
+use borrow.Author.Tests.{le-leb, lt-leb, not-true, not-false}
+use lib.Dec.{eqb, leb}
+use native.Mathlib.Nat.{le-of-suc-le-suc, not-suc-le-zero}
+use lib.ListN.{length, getD, drop, length-drop}
+use lib.Seq.{drop-cons}
+use Rattle.syntax.specs.Service.{servant, withoutRepetition}
+use Rattle.syntax.specs.Cutting.{tagOctet, tagOf, endAt}
+use Rattle.syntax.specs.Segment.{componentAt, partOf}
+use Rattle.syntax.specs.Content.{content}
+use Rattle.syntax.specs.Opening.{startsUna, isThere, levelNamed, versionNamed, bothNamed, declaredAt}
+use Rattle.syntax.specs.declared.Service.{Service}
+use Rattle.syntax.specs.declared.Found.{Found}
+use Rattle.syntax.specs.declared.cutting.Tag.{Tag}
+use Rattle.syntax.specs.declared.cutting.Tag.the-variants.{Bad}
+use Rattle.syntax.specs.declared.opening.Opening.{Opening}
+use Rattle.syntax.specs.declared.opening.LevelName.{LevelName}
+use Rattle.syntax.specs.declared.opening.VersionName.{VersionName}
+
+-- what `if !f(x)` tells of the test that `f` answers
+pub refused : {r x : Bool} → r ≡ x → not r ≡ true → x ≡ false
+refused {r} e h = sym e ∙ not-true r h
+
+pub granted : {r x : Bool} → r ≡ x → not r ≡ false → x ≡ true
+granted {r} e h = sym e ∙ not-false r h
+
+-- `_&&_` computes from the left only
+and-true : (t : Bool) → t && true && true && true ≡ t
+and-true true = refl
+and-true false = refl
+
+-- `servant` and `tagOctet` by the stretches that the code tests; a law's number is where its stretch starts
+module _ {b : ℕ} where
+  pub servant-0 : b < 33 → false ≡ servant b
+  servant-0 h = rw (lt-leb 33 b h)
+
+  pub servant-33 : 33 ≤ b → b < 48 → true ≡ servant b
+  servant-33 g h =
+      rw (le-leb 33 b g, le-leb b 126 (omega arith), lt-leb 48 b h, lt-leb 65 b (omega arith), lt-leb 97 b (omega arith))
+
+  pub servant-48 : 48 ≤ b → b < 58 → false ≡ servant b
+  servant-48 g h = rw (le-leb 33 b (omega arith), le-leb b 126 (omega arith), le-leb 48 b g, le-leb b 57 (omega arith))
+
+  pub servant-58 : 58 ≤ b → b < 65 → true ≡ servant b
+  servant-58 g h =
+      rw (
+        le-leb 33 b (omega arith),
+        le-leb b 126 (omega arith),
+        le-leb 48 b (omega arith),
+        lt-leb b 57 g,
+        lt-leb 65 b h,
+        lt-leb 97 b (omega arith),
+      )
+
+  pub servant-65 : 65 ≤ b → b < 91 → false ≡ servant b
+  servant-65 g h =
+      rw (
+        le-leb 33 b (omega arith),
+        le-leb b 126 (omega arith),
+        le-leb 48 b (omega arith),
+        lt-leb b 57 (omega arith),
+        le-leb 65 b g,
+        le-leb b 90 (omega arith),
+      )
+
+  pub servant-91 : 91 ≤ b → b < 97 → true ≡ servant b
+  servant-91 g h =
+      rw (
+        le-leb 33 b (omega arith),
+        le-leb b 126 (omega arith),
+        le-leb 48 b (omega arith),
+        lt-leb b 57 (omega arith),
+        le-leb 65 b (omega arith),
+        lt-leb b 90 g,
+        lt-leb 97 b h,
+      )
+
+  pub servant-97 : 97 ≤ b → b < 123 → false ≡ servant b
+  servant-97 g h =
+      rw (
+        le-leb 33 b (omega arith),
+        le-leb b 126 (omega arith),
+        le-leb 48 b (omega arith),
+        lt-leb b 57 (omega arith),
+        le-leb 65 b (omega arith),
+        lt-leb b 90 (omega arith),
+        le-leb 97 b g,
+        le-leb b 122 (omega arith),
+      )
+
+  pub servant-123 : 123 ≤ b → leb b 126 ≡ servant b
+  servant-123 g =
+      rw (
+        le-leb 33 b (omega arith),
+        le-leb 48 b (omega arith),
+        lt-leb b 57 (omega arith),
+        le-leb 65 b (omega arith),
+        lt-leb b 90 (omega arith),
+        le-leb 97 b (omega arith),
+        lt-leb b 122 g,
+      ) (sym (and-true (leb b 126)))
+
+  pub tag-0 : b < 48 → false ≡ tagOctet b
+  tag-0 h = rw (lt-leb 48 b h, lt-leb 65 b (omega arith))
+
+  pub tag-48 : 48 ≤ b → b ≤ 57 → true ≡ tagOctet b
+  tag-48 g h = rw (le-leb 48 b g, le-leb b 57 h)
+
+  pub tag-58 : 57 < b → b < 65 → false ≡ tagOctet b
+  tag-58 g h = rw (lt-leb b 57 g, le-leb 48 b (omega arith), lt-leb 65 b h)
+
+  pub tag-65 : 65 ≤ b → leb b 90 ≡ tagOctet b
+  tag-65 g = rw (le-leb 48 b (omega arith), lt-leb b 57 (omega arith), le-leb 65 b g)
+
+-- `starts` by places, as the code reads it
+either-false : (t : Bool) → cond t false false ≡ false
+either-false true = refl
+either-false false = refl
+
+or-false : (t : Bool) → cond t true false ≡ t
+or-false true = refl
+or-false false = refl
+
+pub una-short : (s : List ℕ) → length s < 3 → false ≡ startsUna s
+una-short [] h = refl
+una-short (x ∷ []) h = sym (either-false (eqb x 85))
+una-short (x ∷ y ∷ []) h = rw (either-false (eqb y 78), either-false (eqb x 85))
+una-short (x ∷ y ∷ z ∷ s) h = absurd (not-suc-le-zero (le-of-suc-le-suc (le-of-suc-le-suc (le-of-suc-le-suc h))))
+
+pub una-read : (s : List ℕ) → 3 ≤ length s →
+    startsUna s ≡ cond (eqb (getD s 0 0) 85) (cond (eqb (getD s 1 0) 78) (eqb (getD s 2 0) 65) false) false
+una-read [] h = absurd (not-suc-le-zero h)
+una-read (x ∷ []) h = absurd (not-suc-le-zero (le-of-suc-le-suc h))
+una-read (x ∷ y ∷ []) h = absurd (not-suc-le-zero (le-of-suc-le-suc (le-of-suc-le-suc h)))
+una-read (x ∷ y ∷ z ∷ s) h = rw (or-false (eqb z 65))
+
+-- a tag needs four octets, and reads no more
+short : (σ : Service) (l : List ℕ) → length l < 4 → Bad ≡ tagOf σ l
+short σ [] h = refl
+short σ (a ∷ []) h = refl
+short σ (a ∷ b ∷ []) h = refl
+short σ (a ∷ b ∷ c ∷ []) h = refl
+short σ (a ∷ b ∷ c ∷ d ∷ s) h =
+    absurd (not-suc-le-zero (le-of-suc-le-suc (le-of-suc-le-suc (le-of-suc-le-suc (le-of-suc-le-suc h)))))
+
+pub tag-short : (σ : Service) (s : List ℕ) (i : ℕ) → length s < i + 4 → Bad ≡ tagOf σ (drop i s)
+tag-short σ s i h = short σ (drop i s) (omega (arith, length-drop i s))
+
+next : (s : List ℕ) (i j : ℕ) → j ≡ suc i → i < length s → drop i s ≡ getD s i 0 ∷ drop j s
+next s i j e h = rw (e, drop-cons s i 0 h)
+
+pub tag-read : (σ : Service) (s : List ℕ) (i : ℕ) → i + 4 ≤ length s →
+    tagOf σ (getD s i 0 ∷ getD s (i + 1) 0 ∷ getD s (i + 2) 0 ∷ getD s (i + 3) 0 ∷ []) ≡ tagOf σ (drop i s)
+tag-read σ s i h =
+    rw (
+      next s i (i + 1) (omega arith) (omega arith),
+      next s (i + 1) (i + 2) (omega arith) (omega arith),
+      next s (i + 2) (i + 3) (omega arith) (omega arith),
+      next s (i + 3) (i + 4) (omega arith) (omega arith),
+    )
+
+-- the repetition is no part of a tag
+no-repetition : (σ : Service) (l : List ℕ) → tagOf (withoutRepetition σ) l ≡ tagOf σ l
+no-repetition σ [] = refl
+no-repetition σ (a ∷ []) = refl
+no-repetition σ (a ∷ b ∷ []) = refl
+no-repetition σ (a ∷ b ∷ c ∷ []) = refl
+no-repetition σ (a ∷ b ∷ c ∷ d ∷ s) = refl
+
+-- what the parts of `begin_at` and `declared` answer, put together. `v` is the service without repetition, as the code has it
+module _ (s : List ℕ) (o : Opening) {v : Service} (e : v ≡ withoutRepetition (o .service)) where
+  pub there-by : {f : Found} {x : Bool} → f ≡ endAt v s (o .at) → x ≡ isThere f →
+      x ≡ isThere (endAt (withoutRepetition (o .service)) s (o .at))
+  there-by a b = b ∙ ap isThere (a ∙ ap (λ (w : Service). endAt w s (o .at)) e)
+
+  pub tag-by : {g : Tag} → g ≡ tagOf v (drop (o .at) s) → g ≡ tagOf (o .service) (drop (o .at) s)
+  tag-by a = a ∙ ap (λ (w : Service). tagOf w (drop (o .at) s)) e ∙ no-repetition (o .service) (drop (o .at) s)
+
+pub named-by : (s : List ℕ) (σ : Service) (o : Opening) {x z : List ℕ} {l : LevelName} {n : VersionName} →
+    x ≡ partOf s (componentAt σ s (o .at) 1 0) → l ≡ levelNamed (content (σ .release) x) →
+    z ≡ partOf s (componentAt σ s (o .at) 1 1) → n ≡ versionNamed (content (σ .release) z) → bothNamed o l n ≡ declaredAt s σ o
+named-by s σ o p a q b =
+    ap₂ (bothNamed o) (a ∙ ap (λ (u : List ℕ). levelNamed (content (σ .release) u)) p)
+    (b ∙ ap (λ (u : List ℕ). versionNamed (content (σ .release) u)) q)

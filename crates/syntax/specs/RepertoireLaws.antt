@@ -1,0 +1,240 @@
+-- The table of classes has its rule, and what a class says of an octet.
+use Prim.Native.Nat.{ℕ, zero, suc, _+_, _≤_, _<_}
+use native.Mathlib.Omega.{arith}
+use mathlib.Core.List.{List, [], _∷_}
+use mathlib.Core.Path.{_≡_, refl, ap, sym, _∙_}
+use mathlib.Core.Bool.{Bool, true, false, cond, _&&_}
+use borrow.Author.Tests.{eqb-true, eqb-false, leb-true, ltb-true, ltb-false, lt-ltb, le-ltb, le-leb}
+use lib.Dec.{eqb, leb, ltb}
+use lib.ListN.{length, getD, set, length-set, replicate, getD-replicate, List·getD-eq-default}
+use lib.Seq.{getD-set-same, getD-set-other, set-out}
+use Rattle.syntax.specs.Service.{kindOf}
+use Rattle.syntax.specs.Repertoire.{inside, toClass, classOf, Base, Table}
+use Rattle.syntax.specs.declared.Service.{Service}
+use Rattle.syntax.specs.declared.Syntax.{Syntax}
+use Rattle.syntax.specs.declared.Level.{Level}
+use Rattle.syntax.specs.declared.Level.the-variants.{A, B, C}
+
+-- ---- one store
+
+getD-put : (t : List ℕ) (b c x : ℕ) → b < length t → getD (set t b c) x 0 ≡ cond (eqb x b) c (getD t x 0)
+getD-put t b c x h = by-test (eqb x b) refl
+  where
+    by-test : (e : Bool) → eqb x b ≡ e → getD (set t b c) x 0 ≡ cond e c (getD t x 0)
+    by-test true e = let p = eqb-true x b e in rw p (getD-set-same t b c 0 h)
+    by-test false e = getD-set-other t b x c 0 (eqb-false x b e)
+
+-- a store of 0, the default, also beyond the end
+getD-zero : (t : List ℕ) (b x : ℕ) → getD (set t b 0) x 0 ≡ cond (eqb x b) 0 (getD t x 0)
+getD-zero t b x = by (ltb b (length t)) refl
+  where
+    out : (e : Bool) → eqb x b ≡ e → length t ≤ b → getD t x 0 ≡ cond e 0 (getD t x 0)
+    out true e h = let p = eqb-true x b e in rw p (List·getD-eq-default t 0 h)
+    out false e h = refl
+
+    by : (e : Bool) → ltb b (length t) ≡ e → getD (set t b 0) x 0 ≡ cond (eqb x b) 0 (getD t x 0)
+    by true e = getD-put t b 0 x (ltb-true b (length t) e)
+    by false e = let h = ltb-false b (length t) e in ap (λ (l : List ℕ). getD l x 0) (set-out t b 0 h) ∙ out (eqb x b) refl h
+
+-- ---- a range of stores: u is t with 0 from a up to, not including, i
+
+pub record Filled (a i : ℕ) (t u : List ℕ) : Type 0 where
+  pub size : length u ≡ length t
+  pub at : (x : ℕ) → getD u x 0 ≡ cond (leb a x && ltb x i) 0 (getD t x 0)
+
+pub filled-none : {a : ℕ} {t : List ℕ} → Filled a a t t
+filled-none {a} {t} = record { size = refl; at = λ x. by x (leb a x) refl }
+  where
+    by : (x : ℕ) (b : Bool) → leb a x ≡ b → getD t x 0 ≡ cond (b && ltb x a) 0 (getD t x 0)
+    by x true h = let l : a ≤ x = leb-true a x h in rw (le-ltb x a l)
+    by x false h = refl
+
+pub filled-one : {a i : ℕ} {t u : List ℕ} → Filled a i t u → a ≤ i → Filled a (i + 1) t (set u i 0)
+filled-one {a} {i} {t} {u} g h = record {
+  size = length-set u i 0 ∙ g .size;
+  at = λ x. getD-zero u i x ∙ ap (λ (r : ℕ). cond (eqb x i) 0 r) (g .at x) ∙ by x (eqb x i) refl;
+}
+  where
+    grow : (x : ℕ) → (x ≡ i → ⊥) → (b : Bool) → ltb x i ≡ b → b ≡ ltb x (i + 1)
+    grow x d true e = let l : x < i = ltb-true x i e in sym (lt-ltb x (i + 1) (omega arith))
+    grow x d false e = let l : i ≤ x = ltb-false x i e in sym (le-ltb x (i + 1) (let m : i < x = omega (arith, d) in omega arith))
+
+    by : (x : ℕ) (b : Bool) → eqb x i ≡ b → cond b 0 (cond (leb a x && ltb x i) 0 (getD t x 0)) ≡ cond (leb a x && ltb x (i + 1)) 0 (getD t x 0)
+    by x true e = let p : x ≡ i = eqb-true x i e in rw (p, le-leb a i h, lt-ltb i (i + 1) (omega arith))
+    by x false e = ap (λ (q : Bool). cond (leb a x && q) 0 (getD t x 0)) (grow x (eqb-false x i e) (ltb x i) refl)
+
+-- the stores under way
+pub record Filling (a e last i : ℕ) (t u : List ℕ) : Type 0 where
+  pub low : a ≤ i
+  pub high : i ≤ e + 1
+  pub end : last ≡ e
+  pub done : Filled a i t u
+
+pub filling-start : {a e last i : ℕ} {t : List ℕ} → last ≡ e → i ≡ a → a ≤ e → Filling a e last i t t
+filling-start p q h = record { low = omega arith; high = omega arith; end = p; done = rw q filled-none }
+
+pub filling-on : {a e last i : ℕ} {t u : List ℕ} → Filling a e last i t u → i ≤ last → Filling a e last (i + 1) t (set u i 0)
+filling-on g h =
+    let l = g .low in let m = g .high in let n = g .end in
+    record { low = omega arith; high = omega arith; end = n; done = filled-one (g .done) l }
+
+pub filling-end : {a e last i : ℕ} {t u : List ℕ} → Filling a e last i t u → last < i → Filled a (e + 1) t u
+filling-end {a} {e} {last} {i} {t} {u} g h =
+    let m = g .high in let n = g .end in let p : i ≡ e + 1 = omega arith in rw p at (g .done)
+
+-- ---- a rule at each octet, by one test that antt computes
+
+and-l : (a b : Bool) → (a && b) ≡ true → a ≡ true
+and-l true b e = refl
+and-l false b e = e
+
+and-r : (a b : Bool) → (a && b) ≡ true → b ≡ true
+and-r true b e = e
+and-r false b e = cc
+
+abbrev below : (ℕ → Bool) → ℕ → Bool
+below f zero = true
+below f (suc n) = f n && below f n
+
+below-all : (f : ℕ → Bool) (n x : ℕ) → below f n ≡ true → x < n → f x ≡ true
+below-all f zero x e h = let z : ⊥ = omega arith in absurd z
+below-all f (suc n) x e h = by (eqb x n) refl (below-all f n x (and-r (f n) _ e))
+  where
+    by : (b : Bool) → eqb x n ≡ b → (x < n → f x ≡ true) → f x ≡ true
+    by true q r = rw (eqb-true x n q) (and-l (f n) _ e)
+    by false q r = let d = eqb-false x n q in r (omega (arith, d))
+
+-- the ranges of the repertoires, 0 inside and 7 outside
+abbrev rangedA : ℕ → ℕ
+rangedA x = cond (leb 65 x && ltb x 91) 0 (cond (leb 37 x && ltb x 64) 0 (cond (leb 32 x && ltb x 35) 0 7))
+
+abbrev ranged : Level → ℕ → ℕ
+ranged A x = rangedA x
+ranged B x = cond (leb 97 x && ltb x 123) 0 (rangedA x)
+ranged C x = cond (leb 160 x && ltb x 256) 0 (cond (leb 32 x && ltb x 127) 0 7)
+
+right : (l : Level) (x : ℕ) → x < 256 → ranged l x ≡ cond (inside l x) 0 7
+unfolding inside
+right A x h = eqb-true _ _ (below-all (λ (x : ℕ). eqb (ranged A x) (cond (inside A x) 0 7)) 256 x refl h)
+right B x h = eqb-true _ _ (below-all (λ (x : ℕ). eqb (ranged B x) (cond (inside B x) 0 7)) 256 x refl h)
+right C x h = eqb-true _ _ (below-all (λ (x : ℕ). eqb (ranged C x) (cond (inside C x) 0 7)) 256 x refl h)
+
+blank : (x : ℕ) → x < 256 → _≡_ {A = ℕ} (getD (replicate 256 7) x 0) 7
+blank x h = getD-replicate 256 x 7 0 h
+
+pub base-c : {t u : List ℕ} → Filled 32 127 (replicate 256 7) t → Filled 160 256 t u → Base C u
+base-c a b = record {
+  size = b .size ∙ a .size;
+  rule = λ x h. b .at x ∙ ap (λ (r : ℕ). cond (leb 160 x && ltb x 256) 0 r)
+      (a .at x ∙ ap (λ (r : ℕ). cond (leb 32 x && ltb x 127) 0 r) (blank x h)) ∙ right C x h;
+}
+
+module _ {t u v : List ℕ} (a : Filled 32 35 (replicate 256 7) t) (b : Filled 37 64 t u) (c : Filled 65 91 u v) where
+  in-a : (x : ℕ) → x < 256 → getD v x 0 ≡ ranged A x
+  in-a x h =
+      c .at x ∙ ap (λ (r : ℕ). cond (leb 65 x && ltb x 91) 0 r)
+      (b .at x ∙ ap (λ (r : ℕ). cond (leb 37 x && ltb x 64) 0 r)
+      (a .at x ∙ ap (λ (r : ℕ). cond (leb 32 x && ltb x 35) 0 r) (blank x h)))
+
+  pub base-a : Base A v
+  base-a = record { size = c .size ∙ b .size ∙ a .size; rule = λ x h. in-a x h ∙ right A x h }
+
+  pub base-b : {w : List ℕ} → Filled 97 123 v w → Base B w
+  base-b d = record {
+    size = d .size ∙ c .size ∙ b .size ∙ a .size;
+    rule = λ x h. d .at x ∙ ap (λ (r : ℕ). cond (leb 97 x && ltb x 123) 0 r) (in-a x h) ∙ right B x h;
+  }
+
+-- ---- the six stores of `table`
+
+pub record Bytes (σ : Service) : Type 0 where
+  pub component : σ .component < 256
+  pub element : σ .element < 256
+  pub release : σ .release < 256
+  pub repetition : σ .repetition < 256
+  pub terminator : σ .terminator < 256
+
+-- a table of 256 whose every entry is x's
+record Holds (t : List ℕ) (v : ℕ → ℕ) : Type 0 where
+  size : length t ≡ 256
+  at : (x : ℕ) → x < 256 → getD t x 0 ≡ v x
+
+stored : {t u : List ℕ} {v : ℕ → ℕ} (b c : ℕ) → b < 256 → Holds t v → u ≡ set t b c → Holds u (λ x. cond (eqb x b) c (v x))
+stored {t} b c h g e = rw e (record {
+  size = length-set t b c ∙ g .size;
+  at = λ x k. getD-put t b c x (let n = g .size in omega arith) ∙ ap (λ (r : ℕ). cond (eqb x b) c r) (g .at x k);
+})
+
+inside-space : (l : Level) → inside l 32 ≡ true
+unfolding inside
+inside-space A = refl
+inside-space B = refl
+inside-space C = refl
+
+-- the stores, last first, are the tests of `kindOf`
+ordered : (y : Syntax) (x : ℕ) →
+    cond (eqb x 32) 0 (cond (eqb x (y .service .release)) 6 (cond (eqb x (y .service .terminator)) 5 (cond (eqb x (y .service .element)) 4
+    (cond (eqb x (y .service .component)) 2 (cond (eqb x (y .service .repetition)) 3 (cond (inside (y .level) x) 0 7)))))) ≡ classOf y x
+unfolding classOf
+ordered y x = by (eqb x 32) refl (eqb x (y .service .release)) (eqb x (y .service .terminator)) (eqb x (y .service .element)) (eqb x (y .service .component)) (eqb x (y .service .repetition))
+  where
+    by : (z : Bool) → eqb x 32 ≡ z → (r t e c p : Bool) →
+        cond z 0 (cond r 6 (cond t 5 (cond e 4 (cond c 2 (cond p 3 (cond (inside (y .level) x) 0 7)))))) ≡
+        toClass (cond z 1 (cond r 0 (cond t 5 (cond e 4 (cond c 2 (cond p 3 1)))))) (inside (y .level) x)
+    by true h r t e c p = rw (eqb-true x 32 h, inside-space (y .level))
+    by false h true t e c p = refl
+    by false h false true e c p = refl
+    by false h false false true c p = refl
+    by false h false false false true p = refl
+    by false h false false false false true = refl
+    by false h false false false false false = refl
+
+pub table-by : {y : Syntax} {t t₁ t₂ t₃ t₄ t₅ t₆ : List ℕ} → Bytes (y .service) → Base (y .level) t →
+    t₁ ≡ set t (y .service .repetition) 3 → t₂ ≡ set t₁ (y .service .component) 2 → t₃ ≡ set t₂ (y .service .element) 4 →
+    t₄ ≡ set t₃ (y .service .terminator) 5 → t₅ ≡ set t₄ (y .service .release) 6 → t₆ ≡ set t₅ 32 0 → Table y t₆
+table-by {y} {t} β g e₁ e₂ e₃ e₄ e₅ e₆ =
+    let s = y .service in
+    let z : Holds t (λ x. cond (inside (y .level) x) 0 7) = record { size = g .size; at = g .rule } in
+    let a = stored (s .repetition) 3 (β .repetition) z e₁ in
+    let b = stored (s .component) 2 (β .component) a e₂ in
+    let c = stored (s .element) 4 (β .element) b e₃ in
+    let d = stored (s .terminator) 5 (β .terminator) c e₄ in
+    let e = stored (s .release) 6 (β .release) d e₅ in
+    let f = stored 32 0 (omega arith) e e₆ in
+    record { size = f .size; rule = λ x h. f .at x h ∙ ordered y x }
+
+-- ---- what a class says of the octet's kind: the view by which every scan is proved
+
+pub data Sorted (k : ℕ) (i : Bool) (c : ℕ) : Type 0 where
+  is-data : k ≡ 1 → i ≡ true → c ≡ 0 → Sorted k i c
+  is-bad : k ≡ 1 → i ≡ false → c ≡ 7 → Sorted k i c
+  is-release : k ≡ 0 → c ≡ 6 → Sorted k i c
+  is-stop : 2 ≤ k → k ≤ 5 → c ≡ k → Sorted k i c
+
+sort : (k : ℕ) (i : Bool) → k ≤ 5 → Sorted k i (toClass k i)
+sort k i h = one (eqb k 1) refl
+  where
+    zero? : (e : Bool) → eqb k 0 ≡ e → eqb k 1 ≡ false → Sorted k i (cond e 6 k)
+    zero? true e d = is-release (eqb-true k 0 e) refl
+    zero? false e d = let a = eqb-false k 0 e in let b = eqb-false k 1 d in is-stop (omega arith) h refl
+
+    in? : (j : Bool) → i ≡ j → eqb k 1 ≡ true → Sorted k i (cond j 0 7)
+    in? true e d = is-data (eqb-true k 1 d) e refl
+    in? false e d = is-bad (eqb-true k 1 d) e refl
+
+    one : (e : Bool) → eqb k 1 ≡ e → Sorted k i (cond e (cond i 0 7) (cond (eqb k 0) 6 k))
+    one true e = in? i refl e
+    one false e = zero? (eqb k 0) refl e
+
+le-cond : (t : Bool) {a b n : ℕ} → a ≤ n → b ≤ n → cond t a b ≤ n
+le-cond true h g = h
+le-cond false h g = g
+
+pub kind-le : (σ : Service) (b : ℕ) → kindOf σ b ≤ 5
+kind-le σ b =
+    le-cond (eqb b 32) (omega arith) (le-cond (eqb b (σ .release)) (omega arith) (le-cond (eqb b (σ .terminator)) (omega arith)
+    (le-cond (eqb b (σ .element)) (omega arith) (le-cond (eqb b (σ .component)) (omega arith) (le-cond (eqb b (σ .repetition)) (omega arith) (omega arith))))))
+
+pub sorted : {c : ℕ} (y : Syntax) (b : ℕ) → c ≡ classOf y b → Sorted (kindOf (y .service) b) (inside (y .level) b) c
+unfolding classOf
+sorted y b e = rw e (sort (kindOf (y .service) b) (inside (y .level) b) (kind-le (y .service) b))
