@@ -15,3 +15,4 @@ pub mod SegmentLaws
 pub mod TreeLaws
 pub mod ReaderLaws
 pub mod OpeningLaws
+pub mod BridgeLaws

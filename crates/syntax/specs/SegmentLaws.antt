@@ -42,7 +42,7 @@ edge-on y s i {q} {c} e d h =
 
 -- ---- an edge is the end of the first piece, and the others are those from behind it
 
-abbrev after : ℕ → List Piece → List Piece
+abbrev pub after : ℕ → List Piece → List Piece
 after k ps = cond (eqb k 5) [] ps
 
 -- the pieces from a, where the first ends at q

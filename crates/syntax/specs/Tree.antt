@@ -1,12 +1,16 @@
 -- The grammar of segments, without a reader: trees, and how they are printed.
 use Prim.Native.Nat.{ℕ}
 use mathlib.Core.List.{List, [], _∷_, _++_}
-use mathlib.Core.Bool.{Bool, true, false, not, _&&_}
+use mathlib.Core.Option.{Option, none, some}
+use mathlib.Core.Bool.{Bool, true, false, cond, not, _&&_}
 use lib.Dec.{eqb}
+use lib.ListN.{length, getElem?}
 use Rattle.syntax.specs.Octets.{every}
 use Rattle.syntax.specs.Service.{serves}
 use Rattle.syntax.specs.Cutting.{tagOctet}
 use Rattle.syntax.specs.declared.Service.{Service}
+use Rattle.syntax.specs.declared.cutting.Tag.{Tag}
+use Rattle.syntax.specs.declared.cutting.Tag.the-variants.{Is}
 
 -- a data octet: as it stands, or freed by a release before it
 pub data Octet : Type 0 where
@@ -111,3 +115,50 @@ okTag (segment a b c es) = tagOctet a && tagOctet b && tagOctet c
 
 abbrev pub well : Service → List Segment → Bool
 well σ gs = every okTag gs && every (ok σ) (flat gs)
+
+-- ---- what a tree has, asked as the code asks octets: elements and components are counted from 0, the tag is element 0
+
+abbrev pub elementsIn : Segment → List Element
+elementsIn (segment a b c es) = tagElement a b c ∷ es
+
+abbrev pub firstRepeat : Element → Repeat
+firstRepeat (ne r rs) = r
+
+abbrev pub componentsIn : Repeat → List Component
+componentsIn (ne c cs) = c ∷ cs
+
+abbrev pub repeatsIn : Element → Bool
+repeatsIn (ne r []) = false
+repeatsIn (ne r (q ∷ rs)) = true
+
+-- component c of element e: is it there, and which is it
+abbrev pub componentOf : Option Element → ℕ → Option Component
+componentOf none c = none
+componentOf (some x) c = getElem? (componentsIn (firstRepeat x)) c
+
+abbrev pub componentIn : Segment → ℕ → ℕ → Option Component
+componentIn g e c = componentOf (getElem? (elementsIn g) e) c
+
+abbrev pub tagIn : Segment → Tag
+tagIn (segment a b c es) = Is a b c
+
+-- its content; absent is empty
+abbrev pub contentOf : Option Component → List ℕ
+contentOf none = []
+contentOf (some c) = contentIn c
+
+-- how many elements, how many components has element e, does it repeat, does anything repeat
+abbrev pub countElements : Segment → ℕ
+countElements (segment a b c es) = length es
+
+abbrev pub countOf : Option Element → ℕ
+countOf none = 0
+countOf (some x) = length (componentsIn (firstRepeat x))
+
+abbrev pub repeatsOf : Option Element → Bool
+repeatsOf none = false
+repeatsOf (some x) = repeatsIn x
+
+abbrev pub anyRepeatsIn : List Element → Bool
+anyRepeatsIn [] = false
+anyRepeatsIn (x ∷ es) = cond (repeatsIn x) true (anyRepeatsIn es)
