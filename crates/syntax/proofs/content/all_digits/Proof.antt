@@ -13,39 +13,30 @@ Inv-loop x release i₀ i = Digital release (allDigits (content release x)) x i
 abbrev μ-loop : tie.MeasureT-loop
 μ-loop x release i₀ i = length x - i
 
--- src/content.rt:141:5
 loop-holds : tie.Need-loop-holds Inv-loop μ-loop
 loop-holds c = record { are = refl }
 
--- src/content.rt:142:15
 next-octet-requires : tie.Need-next-octet-requires Inv-loop μ-loop
 next-octet-requires c κs = search needs
 
--- src/content.rt:143:25
 enum-known-b : tie.Need-enum-known-b Inv-loop μ-loop
 enum-known-b c = search needs
 
--- src/content.rt:145:21
 returns : tie.Need-returns Inv-loop μ-loop
 returns c = search (digital-below, needs)
 
--- src/content.rt:148:21
 returns-2 : tie.Need-returns-2 Inv-loop μ-loop
 returns-2 c = search (digital-above, needs)
 
--- src/content.rt:141:5
 loop-less : tie.Need-loop-less Inv-loop μ-loop
 loop-less c = search (digital-less, needs)
 
--- src/content.rt:141:5
 loop-again : tie.Need-loop-again Inv-loop μ-loop
 loop-again c = search (digital-on, needs)
 
--- src/content.rt:153:17
 enum-told : tie.Need-enum-told Inv-loop μ-loop
 enum-told c = search needs
 
--- src/content.rt:153:17
 returns-3 : tie.Need-returns-3 Inv-loop μ-loop
 returns-3 c = search (digital-end, needs)
 

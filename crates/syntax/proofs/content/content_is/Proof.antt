@@ -14,47 +14,36 @@ Inv-loop x release t i₀ k₀ i k = Spelling release (same (content release x) 
 abbrev μ-loop : tie.MeasureT-loop
 μ-loop x release t i₀ k₀ i k = length x - i
 
--- src/content.rt:84:5
 loop-holds : tie.Need-loop-holds Inv-loop μ-loop
 loop-holds c = record { in-text = search needs; spells = refl }
 
--- src/content.rt:85:15
 next-octet-requires : tie.Need-next-octet-requires Inv-loop μ-loop
 next-octet-requires c κs = search needs
 
--- src/content.rt:86:25
 enum-known-b : tie.Need-enum-known-b Inv-loop μ-loop
 enum-known-b c = search needs
 
--- src/content.rt:88:21
 returns : tie.Need-returns Inv-loop μ-loop
 returns c = search (spelling-short, needs)
 
--- src/content.rt:90:25
 shared-slice-read-if2 : tie.Need-shared-slice-read-if2 Inv-loop μ-loop
 shared-slice-read-if2 c = search needs
 
--- src/content.rt:91:21
 returns-2 : tie.Need-returns-2 Inv-loop μ-loop
 returns-2 c = search (spelling-other, needs)
 
--- src/content.rt:94:17
 add-k : tie.Need-add-k Inv-loop μ-loop
 add-k c = search needs
 
--- src/content.rt:84:5
 loop-less : tie.Need-loop-less Inv-loop μ-loop
 loop-less c = search (spelling-less, needs)
 
--- src/content.rt:84:5
 loop-again : tie.Need-loop-again Inv-loop μ-loop
 loop-again c = search (spelling-on, needs)
 
--- src/content.rt:97:29
 enum-told : tie.Need-enum-told Inv-loop μ-loop
 enum-told c = search needs
 
--- src/content.rt:97:17
 returns-3 : tie.Need-returns-3 Inv-loop μ-loop
 returns-3 c = search (spelling-end, needs)
 

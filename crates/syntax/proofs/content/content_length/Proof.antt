@@ -14,37 +14,29 @@ Inv-loop x release i₀ n₀ i n = Lengthening release (length (content release 
 abbrev μ-loop : tie.MeasureT-loop
 μ-loop x release i₀ n₀ i n = length x - i
 
--- src/content.rt:65:5
 loop-holds : tie.Need-loop-holds Inv-loop μ-loop
 loop-holds c = record { few = search needs; sums = sym (zero-add _) }
 
--- src/content.rt:66:15
 next-octet-requires : tie.Need-next-octet-requires Inv-loop μ-loop
 next-octet-requires c κs = search needs
 
--- src/content.rt:67:28
 enum-known-j : tie.Need-enum-known-j Inv-loop μ-loop
 enum-known-j c = search needs
 
--- src/content.rt:68:17
 add-n : tie.Need-add-n Inv-loop μ-loop
 add-n c = let g = c .before .before .before in
     let h = lengthening-fits (g .before .loop .inv) (g .next-octet .ensures) (c .before .j .given .1) in
     search needs
 
--- src/content.rt:65:5
 loop-less : tie.Need-loop-less Inv-loop μ-loop
 loop-less c = search (lengthening-less, lengthening-fits, needs)
 
--- src/content.rt:65:5
 loop-again : tie.Need-loop-again Inv-loop μ-loop
 loop-again c = search (lengthening-on, needs)
 
--- src/content.rt:72:17
 enum-told : tie.Need-enum-told Inv-loop μ-loop
 enum-told c = search needs
 
--- src/content.rt:72:17
 returns : tie.Need-returns Inv-loop μ-loop
 returns c = search (lengthening-end, needs)
 

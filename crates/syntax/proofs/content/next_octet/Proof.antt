@@ -3,47 +3,36 @@ use borrow.Author.Needs.{needs}
 use Rattle.syntax.proofs.content.next_octet.Statement.{statement}
 use Rattle.syntax.proofs.content.next_octet.Tie as tie
 
--- src/content.rt:44:9
 returns : tie.Need-returns
 returns c = search (next-none, needs)
 
--- src/content.rt:46:13
 shared-slice-read-b : tie.Need-shared-slice-read-b
 shared-slice-read-b c = search needs
 
--- src/content.rt:48:31
 add-t10 : tie.Need-add-t10
 add-t10 c = search needs
 
--- src/content.rt:48:9
 returns-2 : tie.Need-returns-2
 returns-2 c = search (next-space, needs)
 
--- src/content.rt:51:31
 add-t11 : tie.Need-add-t11
 add-t11 c = search needs
 
--- src/content.rt:51:9
 returns-3 : tie.Need-returns-3
 returns-3 c = search (next-plain, needs)
 
--- src/content.rt:53:13
 add-j : tie.Need-add-j
 add-j c = search needs
 
--- src/content.rt:55:9
 returns-4 : tie.Need-returns-4
 returns-4 c = search (next-cut, needs)
 
--- src/content.rt:57:17
 shared-slice-read-t9 : tie.Need-shared-slice-read-t9
 shared-slice-read-t9 c = search needs
 
--- src/content.rt:57:23
 add-t6 : tie.Need-add-t6
 add-t6 c = search needs
 
--- src/content.rt:40:1
 returns-5 : tie.Need-returns-5
 returns-5 c = search (next-freed, needs)
 

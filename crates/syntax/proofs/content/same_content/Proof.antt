@@ -14,63 +14,48 @@ Inv-loop x release z other i₀ k₀ i k = Matching release other (same (content
 abbrev μ-loop : tie.MeasureT-loop
 μ-loop x release z other i₀ k₀ i k = length x - i
 
--- src/content.rt:109:5
 loop-holds : tie.Need-loop-holds Inv-loop μ-loop
 loop-holds c = record { matches = refl }
 
--- src/content.rt:110:13
 next-octet-requires : tie.Need-next-octet-requires Inv-loop μ-loop
 next-octet-requires c κs = search needs
 
--- src/content.rt:111:13
 next-octet-requires-2 : tie.Need-next-octet-requires-2 Inv-loop μ-loop
 next-octet-requires-2 c κs = search needs
 
--- src/content.rt:113:25
 enum-known-f : tie.Need-enum-known-f Inv-loop μ-loop
 enum-known-f c = search needs
 
--- src/content.rt:114:29
 enum-known-g : tie.Need-enum-known-g Inv-loop μ-loop
 enum-known-g c = search needs
 
--- src/content.rt:116:25
 returns : tie.Need-returns Inv-loop μ-loop
 returns c = search (matching-other, needs)
 
--- src/content.rt:109:5
 loop-less : tie.Need-loop-less Inv-loop μ-loop
 loop-less c = search (matching-less, needs)
 
--- src/content.rt:109:5
 loop-again : tie.Need-loop-again Inv-loop μ-loop
 loop-again c = search (matching-on, needs)
 
--- src/content.rt:122:21
 enum-told : tie.Need-enum-told Inv-loop μ-loop
 enum-told c = search needs
 
--- src/content.rt:122:21
 returns-2 : tie.Need-returns-2 Inv-loop μ-loop
 returns-2 c = search (matching-short, needs)
 
--- src/content.rt:125:27
 enum-told-2 : tie.Need-enum-told-2 Inv-loop μ-loop
 enum-told-2 c = search needs
 
--- src/content.rt:127:21
 enum-told-3 : tie.Need-enum-told-3 Inv-loop μ-loop
 enum-told-3 c = search needs
 
--- src/content.rt:127:21
 returns-3 : tie.Need-returns-3 Inv-loop μ-loop
 returns-3 c = search (matching-long, needs)
 
--- src/content.rt:130:21
 enum-told-4 : tie.Need-enum-told-4 Inv-loop μ-loop
 enum-told-4 c = search needs
 
--- src/content.rt:130:21
 returns-4 : tie.Need-returns-4 Inv-loop μ-loop
 returns-4 c = search (matching-end, needs)
 

@@ -4,19 +4,15 @@ use Rattle.syntax.proofs.cutting.spoilt.Tie as tie
 use Rattle.syntax.proofs.cutting.spoilt.Reads as reads
 use Rattle.syntax.proofs.cutting.spoilt.Lts as lts
 
--- src/cutting.rt:58:19
 enum-known-f : tie.Need-enum-known-f
 enum-known-f c = search needs
 
--- src/cutting.rt:59:27
 enum-told : tie.Need-enum-told
 enum-told c = search needs
 
--- src/cutting.rt:54:1
 returns : tie.Need-returns
 returns c = rw (c .before .f .given .1)
 
--- src/cutting.rt:54:1
 returns-2 : tie.Need-returns-2
 returns-2 c = search needs
 

@@ -5,53 +5,41 @@ use borrow.Author.Needs.{needs}
 use Rattle.syntax.proofs.cutting.tag_at.Statement.{statement}
 use Rattle.syntax.proofs.cutting.tag_at.Tie as tie
 
--- src/cutting.rt:136:9
 returns : tie.Need-returns
 returns c = let a = c .before .before .args in tag-short (a .v) (a .s .now) (a .at) (omega (arith, c .if1 .taken))
 
--- src/cutting.rt:138:8
 sub-if2 : tie.Need-sub-if2
 sub-if2 c = search needs
 
--- src/cutting.rt:139:9
 returns-2 : tie.Need-returns-2
 returns-2 c =
     let a = c .before .before .before .args in
     tag-short (a .v) (a .s .now) (a .at) (omega (arith, c .if2 .taken, c .before .if1 .left))
 
--- src/cutting.rt:141:12
 shared-slice-read-tag-of : tie.Need-shared-slice-read-tag-of
 shared-slice-read-tag-of c = search needs
 
--- src/cutting.rt:141:21
 add-tag-of : tie.Need-add-tag-of
 add-tag-of c = search needs
 
--- src/cutting.rt:141:19
 shared-slice-read-tag-of-2 : tie.Need-shared-slice-read-tag-of-2
 shared-slice-read-tag-of-2 c = search needs
 
--- src/cutting.rt:141:32
 add-tag-of-2 : tie.Need-add-tag-of-2
 add-tag-of-2 c = search needs
 
--- src/cutting.rt:141:30
 shared-slice-read-tag-of-3 : tie.Need-shared-slice-read-tag-of-3
 shared-slice-read-tag-of-3 c = search needs
 
--- src/cutting.rt:141:43
 add-tag-of-3 : tie.Need-add-tag-of-3
 add-tag-of-3 c = search needs
 
--- src/cutting.rt:141:41
 shared-slice-read-tag-of-4 : tie.Need-shared-slice-read-tag-of-4
 shared-slice-read-tag-of-4 c = search needs
 
--- src/cutting.rt:141:5
 tag-of-requires : tie.Need-tag-of-requires
 tag-of-requires c κs = search needs
 
--- src/cutting.rt:132:1
 returns-3 : tie.Need-returns-3
 returns-3 c =
     let k = c .before .before .before .before .before in

@@ -2,19 +2,15 @@ use Rattle.syntax.specs.OpeningLaws.{tag-0, tag-48, tag-58, tag-65}
 use Rattle.syntax.proofs.cutting.tag_octet.Statement.{statement}
 use Rattle.syntax.proofs.cutting.tag_octet.Tie as tie
 
--- src/cutting.rt:99:9
 returns : tie.Need-returns
 returns c = tag-0 (c .if1 .taken)
 
--- src/cutting.rt:102:9
 returns-2 : tie.Need-returns-2
 returns-2 c = tag-48 (c .before .if1 .left) (c .if2 .taken)
 
--- src/cutting.rt:105:9
 returns-3 : tie.Need-returns-3
 returns-3 c = tag-58 (c .before .if2 .left) (c .if3 .taken)
 
--- src/cutting.rt:95:1
 returns-4 : tie.Need-returns-4
 returns-4 c = tag-65 (c .if3 .left)
 

@@ -4,19 +4,15 @@ use borrow.Author.Needs.{needs}
 use Rattle.syntax.proofs.cutting.tag_of.Statement.{statement}
 use Rattle.syntax.proofs.cutting.tag_of.Tie as tie
 
--- src/cutting.rt:113:9
 tag-octet-requires : tie.Need-tag-octet-requires
 tag-octet-requires c κs = search needs
 
--- src/cutting.rt:114:9
 returns : tie.Need-returns
 returns c = rw (refused (c .before .tag-octet .ensures) (c .if1 .taken))
 
--- src/cutting.rt:116:9
 tag-octet-requires-2 : tie.Need-tag-octet-requires-2
 tag-octet-requires-2 c κs = search needs
 
--- src/cutting.rt:117:9
 returns-2 : tie.Need-returns-2
 returns-2 c =
     let p = c .before .before in
@@ -25,11 +21,9 @@ returns-2 c =
       refused (c .before .tag-octet2 .ensures) (c .if2 .taken),
     )
 
--- src/cutting.rt:119:9
 tag-octet-requires-3 : tie.Need-tag-octet-requires-3
 tag-octet-requires-3 c κs = search needs
 
--- src/cutting.rt:120:9
 returns-3 : tie.Need-returns-3
 returns-3 c =
     let q = c .before .before in
@@ -40,7 +34,6 @@ returns-3 c =
       refused (c .before .tag-octet3 .ensures) (c .if3 .taken),
     )
 
--- src/cutting.rt:123:9
 returns-4 : tie.Need-returns-4
 returns-4 c =
     let r = c .before .before in
@@ -53,7 +46,6 @@ returns-4 c =
       eq-eqb _ _ (c .if4 .taken),
     )
 
--- src/cutting.rt:126:9
 returns-5 : tie.Need-returns-5
 returns-5 c =
     let r = c .before .before .before .before in
@@ -67,7 +59,6 @@ returns-5 c =
       eq-eqb _ _ (c .if5 .taken),
     )
 
--- src/cutting.rt:110:1
 returns-6 : tie.Need-returns-6
 returns-6 c =
     let r = c .before .before .before .before in

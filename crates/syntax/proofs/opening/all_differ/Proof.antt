@@ -3,39 +3,30 @@ use borrow.Author.Needs.{needs}
 use Rattle.syntax.proofs.opening.all_differ.Statement.{statement}
 use Rattle.syntax.proofs.opening.all_differ.Tie as tie
 
--- src/opening.rt:99:9
 returns : tie.Need-returns
 returns c = search (eq-eqb)
 
--- src/opening.rt:102:9
 returns-2 : tie.Need-returns-2
 returns-2 c = search (eq-eqb, ne-eqb)
 
--- src/opening.rt:105:9
 returns-3 : tie.Need-returns-3
 returns-3 c = search (eq-eqb, ne-eqb)
 
--- src/opening.rt:108:9
 returns-4 : tie.Need-returns-4
 returns-4 c = search (eq-eqb, ne-eqb)
 
--- src/opening.rt:111:9
 returns-5 : tie.Need-returns-5
 returns-5 c = search (eq-eqb, ne-eqb)
 
--- src/opening.rt:114:9
 returns-6 : tie.Need-returns-6
 returns-6 c = search (eq-eqb, ne-eqb)
 
--- src/opening.rt:117:9
 returns-7 : tie.Need-returns-7
 returns-7 c = search (eq-eqb, ne-eqb)
 
--- src/opening.rt:119:5
 repetition-differs-requires : tie.Need-repetition-differs-requires
 repetition-differs-requires c κs = search needs
 
--- src/opening.rt:95:1
 returns-8 : tie.Need-returns-8
 returns-8 c = search (ne-eqb, needs)
 

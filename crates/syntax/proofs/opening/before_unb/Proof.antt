@@ -3,23 +3,18 @@ use borrow.Author.Needs.{needs}
 use Rattle.syntax.proofs.opening.before_unb.Statement.{statement}
 use Rattle.syntax.proofs.opening.before_unb.Tie as tie
 
--- src/opening.rt:217:9
 returns : tie.Need-returns
 returns c = search (eq-eqb)
 
--- src/opening.rt:223:9
 returns-2 : tie.Need-returns-2
 returns-2 c = search (ne-eqb, lt-ltb)
 
--- src/opening.rt:228:8
 starts-una-requires : tie.Need-starts-una-requires
 starts-una-requires c κs = search needs
 
--- src/opening.rt:229:9
 read-una-requires : tie.Need-read-una-requires
 read-una-requires c κs = search needs
 
--- src/opening.rt:229:9
 returns-3 : tie.Need-returns-3
 returns-3 c =
     rw (
@@ -29,7 +24,6 @@ returns-3 c =
       c .before .if3 .taken,
     ) (c .read-una .ensures)
 
--- src/opening.rt:213:1
 returns-4 : tie.Need-returns-4
 returns-4 c =
     rw (

@@ -4,30 +4,24 @@ use borrow.Author.Needs.{needs}
 use Rattle.syntax.proofs.opening.begin.Statement.{statement}
 use Rattle.syntax.proofs.opening.begin.Tie as tie
 
--- src/opening.rt:413:11
 before-unb-requires : tie.Need-before-unb-requires
 before-unb-requires c κs = search needs
 
--- src/opening.rt:414:23
 enum-known-o : tie.Need-enum-known-o
 enum-known-o c = search needs
 
--- src/opening.rt:414:29
 begin-at-requires : tie.Need-begin-at-requires
 begin-at-requires c κs = search needs
 
--- src/opening.rt:415:25
 enum-known-f : tie.Need-enum-known-f
 enum-known-f c = search needs
 
--- src/opening.rt:410:1
 returns : tie.Need-returns
 returns c =
     let k = c .before .before .before .before in
     c .begin-at .ensures
     ∙ ap (begunBy (k .before .before .args .s .now)) (sym (c .before .before .o .given .1) ∙ k .before-unb .ensures)
 
--- src/opening.rt:410:1
 returns-2 : tie.Need-returns-2
 returns-2 c =
     let k = c .before .before .before in

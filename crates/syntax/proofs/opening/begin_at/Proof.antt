@@ -6,35 +6,27 @@ use borrow.Author.Needs.{needs}
 use Rattle.syntax.proofs.opening.begin_at.Statement.{statement}
 use Rattle.syntax.proofs.opening.begin_at.Tie as tie
 
--- src/opening.rt:386:9
 without-repetition-requires : tie.Need-without-repetition-requires
 without-repetition-requires c κs = search needs
 
--- src/opening.rt:388:9
 unb-refused-requires : tie.Need-unb-refused-requires
 unb-refused-requires c κs = search needs
 
--- src/opening.rt:388:9
 returns : tie.Need-returns
 returns c = rw (le-leb _ _ (c .before .if1 .taken)) (c .unb-refused .ensures)
 
--- src/opening.rt:395:13
 table-requires : tie.Need-table-requires
 table-requires c κs = search needs
 
--- src/opening.rt:396:18
 stop-requires : tie.Need-stop-requires
 stop-requires c κs = search needs
 
--- src/opening.rt:396:9
 is-there-requires : tie.Need-is-there-requires
 is-there-requires c κs = search needs
 
--- src/opening.rt:397:9
 unb-refused-requires-2 : tie.Need-unb-refused-requires-2
 unb-refused-requires-2 c κs = search needs
 
--- src/opening.rt:397:9
 returns-2 : tie.Need-returns-2
 returns-2 c =
     let d = c .before .before in
@@ -44,19 +36,15 @@ returns-2 c =
     let there = there-by (a .s .now) (a .o) e (d .before .stop .ensures) (d .is-there .ensures) in
     rw (lt-leb _ _ (g .if1 .left), refused there (c .before .if2 .taken)) (c .unb-refused2 .ensures)
 
--- src/opening.rt:399:9
 tag-at-requires : tie.Need-tag-at-requires
 tag-at-requires c κs = search needs
 
--- src/opening.rt:400:9
 is-tag-requires : tie.Need-is-tag-requires
 is-tag-requires c κs = search needs
 
--- src/opening.rt:401:9
 unb-refused-requires-3 : tie.Need-unb-refused-requires-3
 unb-refused-requires-3 c κs = search needs
 
--- src/opening.rt:401:9
 returns-3 : tie.Need-returns-3
 returns-3 c =
     let d = c .before .before .before .before .before in
@@ -72,15 +60,12 @@ returns-3 c =
       refused (q .is-tag .ensures ∙ ap isTag tag) (c .before .if3 .taken),
     ) (c .unb-refused3 .ensures)
 
--- src/opening.rt:403:9
 is-unb-requires : tie.Need-is-unb-requires
 is-unb-requires c κs = search needs
 
--- src/opening.rt:404:9
 unb-refused-requires-4 : tie.Need-unb-refused-requires-4
 unb-refused-requires-4 c κs = search needs
 
--- src/opening.rt:404:9
 returns-4 : tie.Need-returns-4
 returns-4 c =
     let d = c .before .before .before .before .before .before .before in
@@ -97,11 +82,9 @@ returns-4 c =
       refused (c .before .before .is-unb .ensures ∙ ap isUnb tag) (c .before .if4 .taken),
     ) (c .unb-refused4 .ensures)
 
--- src/opening.rt:406:5
 declared-requires : tie.Need-declared-requires
 declared-requires c κs = search needs
 
--- src/opening.rt:382:1
 returns-5 : tie.Need-returns-5
 returns-5 c =
     let d = c .before .before .before .before .before .before .before .before in

@@ -5,51 +5,39 @@ use borrow.Author.Needs.{needs}
 use Rattle.syntax.proofs.opening.declared.Statement.{statement}
 use Rattle.syntax.proofs.opening.declared.Tie as tie
 
--- src/opening.rt:333:9
 component-part-requires : tie.Need-component-part-requires
 component-part-requires c κs = search needs
 
--- src/opening.rt:334:9
 level-named-requires : tie.Need-level-named-requires
 level-named-requires c κs = search needs
 
--- src/opening.rt:335:9
 component-part-requires-2 : tie.Need-component-part-requires-2
 component-part-requires-2 c κs = search needs
 
--- src/opening.rt:336:9
 version-named-requires : tie.Need-version-named-requires
 version-named-requires c κs = search needs
 
--- src/opening.rt:338:23
 enum-known-l : tie.Need-enum-known-l
 enum-known-l c = search needs
 
--- src/opening.rt:339:29
 enum-known-n : tie.Need-enum-known-n
 enum-known-n c = search needs
 
--- src/opening.rt:339:41
 settle-requires : tie.Need-settle-requires
 settle-requires c κs = search needs
 
--- src/opening.rt:340:37
 enum-told : tie.Need-enum-told
 enum-told c = search needs
 
--- src/opening.rt:340:37
 unb-refused-requires : tie.Need-unb-refused-requires
 unb-refused-requires c κs = search needs
 
--- src/opening.rt:342:31
 enum-told-2 : tie.Need-enum-told-2
 enum-told-2 c = search needs
 
--- src/opening.rt:342:31
 unb-refused-requires-2 : tie.Need-unb-refused-requires-2
 unb-refused-requires-2 c κs = search needs
 
--- src/opening.rt:327:1
 returns : tie.Need-returns
 returns c =
     let p = c .before .before .before .before .before .before .before in
@@ -61,7 +49,6 @@ returns c =
     (p .before .before .before .component-part .ensures) (p .before .before .level-named .ensures)
     (p .before .component-part2 .ensures) (p .version-named .ensures)
 
--- src/opening.rt:327:1
 returns-2 : tie.Need-returns-2
 returns-2 c =
     let p = c .before .before .before .before .before .before in
@@ -72,7 +59,6 @@ returns-2 c =
     (p .before .before .before .component-part .ensures) (p .before .before .level-named .ensures)
     (p .before .component-part2 .ensures) (p .version-named .ensures)
 
--- src/opening.rt:327:1
 returns-3 : tie.Need-returns-3
 returns-3 c =
     let p = c .before .before .before in

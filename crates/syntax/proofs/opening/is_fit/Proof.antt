@@ -3,19 +3,15 @@ use borrow.Author.Needs.{needs}
 use Rattle.syntax.proofs.opening.is_fit.Statement.{statement}
 use Rattle.syntax.proofs.opening.is_fit.Tie as tie
 
--- src/opening.rt:143:9
 servant-octet-requires : tie.Need-servant-octet-requires
 servant-octet-requires c κs = search needs
 
--- src/opening.rt:144:9
 returns : tie.Need-returns
 returns c = rw (refused (c .before .servant-octet .ensures) (c .if1 .taken))
 
--- src/opening.rt:146:9
 servant-octet-requires-2 : tie.Need-servant-octet-requires-2
 servant-octet-requires-2 c κs = search needs
 
--- src/opening.rt:147:9
 returns-2 : tie.Need-returns-2
 returns-2 c =
     let p = c .before .before in
@@ -24,11 +20,9 @@ returns-2 c =
       refused (c .before .servant-octet2 .ensures) (c .if2 .taken),
     )
 
--- src/opening.rt:149:9
 optional-octet-requires : tie.Need-optional-octet-requires
 optional-octet-requires c κs = search needs
 
--- src/opening.rt:150:9
 returns-3 : tie.Need-returns-3
 returns-3 c =
     let q = c .before .before in
@@ -39,11 +33,9 @@ returns-3 c =
       refused (c .before .optional-octet .ensures) (c .if3 .taken),
     )
 
--- src/opening.rt:152:9
 optional-octet-requires-2 : tie.Need-optional-octet-requires-2
 optional-octet-requires-2 c κs = search needs
 
--- src/opening.rt:153:9
 returns-4 : tie.Need-returns-4
 returns-4 c =
     let r = c .before .before in
@@ -56,11 +48,9 @@ returns-4 c =
       refused (c .before .optional-octet2 .ensures) (c .if4 .taken),
     )
 
--- src/opening.rt:155:9
 servant-octet-requires-3 : tie.Need-servant-octet-requires-3
 servant-octet-requires-3 c κs = search needs
 
--- src/opening.rt:156:9
 returns-5 : tie.Need-returns-5
 returns-5 c =
     let s = c .before .before in
@@ -75,11 +65,9 @@ returns-5 c =
       refused (c .before .servant-octet3 .ensures) (c .if5 .taken),
     )
 
--- src/opening.rt:158:5
 all-differ-requires : tie.Need-all-differ-requires
 all-differ-requires c κs = search needs
 
--- src/opening.rt:140:1
 returns-6 : tie.Need-returns-6
 returns-6 c =
     let t = c .before in

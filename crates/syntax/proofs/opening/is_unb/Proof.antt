@@ -3,27 +3,21 @@ use borrow.Author.Needs.{needs}
 use Rattle.syntax.proofs.opening.is_unb.Statement.{statement}
 use Rattle.syntax.proofs.opening.is_unb.Tie as tie
 
--- src/opening.rt:350:17
 enum-known-g : tie.Need-enum-known-g
 enum-known-g c = search needs
 
--- src/opening.rt:352:17
 returns : tie.Need-returns
 returns c = rw (c .before .before .g .given .1, ne-eqb _ _ (c .if1 .taken))
 
--- src/opening.rt:355:17
 returns-2 : tie.Need-returns-2
 returns-2 c = rw (c .before .before .before .g .given .1, eq-eqb _ _ (c .before .if1 .left), ne-eqb _ _ (c .if2 .taken))
 
--- src/opening.rt:359:21
 enum-told : tie.Need-enum-told
 enum-told c = search needs
 
--- src/opening.rt:346:1
 returns-3 : tie.Need-returns-3
 returns-3 c = rw (c .before .before .before .g .given .1, eq-eqb _ _ (c .before .if1 .left), eq-eqb _ _ (c .if2 .left))
 
--- src/opening.rt:346:1
 returns-4 : tie.Need-returns-4
 returns-4 c = search needs
 

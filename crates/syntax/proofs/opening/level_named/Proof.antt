@@ -2,27 +2,21 @@ use borrow.Author.Needs.{needs}
 use Rattle.syntax.proofs.opening.level_named.Statement.{statement}
 use Rattle.syntax.proofs.opening.level_named.Tie as tie
 
--- src/opening.rt:259:31
 slice-aggregate-content-is : tie.Need-slice-aggregate-content-is
 slice-aggregate-content-is c = search needs
 
--- src/opening.rt:259:8
 content-is-requires : tie.Need-content-is-requires
 content-is-requires c κs = search needs
 
--- src/opening.rt:260:9
 returns : tie.Need-returns
 returns c = rw (← c .before .content-is .ensures, c .if1 .taken)
 
--- src/opening.rt:262:31
 slice-aggregate-content-is-2 : tie.Need-slice-aggregate-content-is-2
 slice-aggregate-content-is-2 c = search needs
 
--- src/opening.rt:262:8
 content-is-requires-2 : tie.Need-content-is-requires-2
 content-is-requires-2 c κs = search needs
 
--- src/opening.rt:263:9
 returns-2 : tie.Need-returns-2
 returns-2 c =
     let p = c .before .before .before in
@@ -33,15 +27,12 @@ returns-2 c =
       c .if2 .taken,
     )
 
--- src/opening.rt:265:31
 slice-aggregate-content-is-3 : tie.Need-slice-aggregate-content-is-3
 slice-aggregate-content-is-3 c = search needs
 
--- src/opening.rt:265:8
 content-is-requires-3 : tie.Need-content-is-requires-3
 content-is-requires-3 c κs = search needs
 
--- src/opening.rt:266:9
 returns-3 : tie.Need-returns-3
 returns-3 c =
     let q = c .before .before .before in
@@ -55,7 +46,6 @@ returns-3 c =
       c .if3 .taken,
     )
 
--- src/opening.rt:256:1
 returns-4 : tie.Need-returns-4
 returns-4 c =
     let q = c .before .before .before in

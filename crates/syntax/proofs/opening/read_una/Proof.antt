@@ -5,25 +5,20 @@ use borrow.Author.Needs.{needs}
 use Rattle.syntax.proofs.opening.read_una.Statement.{statement}
 use Rattle.syntax.proofs.opening.read_una.Tie as tie
 
--- src/opening.rt:193:9
 returns : tie.Need-returns
 returns c = search (lt-ltb)
 
--- src/opening.rt:198:9
 una-service-requires : tie.Need-una-service-requires
 una-service-requires c κs = search needs
 
--- src/opening.rt:199:8
 is-fit-requires : tie.Need-is-fit-requires
 is-fit-requires c κs = search needs
 
--- src/opening.rt:200:9
 returns-2 : tie.Need-returns-2
 returns-2 c =
     let u = c .before .before .una-service .ensures in
     rw (le-ltb _ _ (c .before .before .before .if1 .left), u, ← (c .before .is-fit .ensures ∙ ap fit u), c .if2 .taken)
 
--- src/opening.rt:189:1
 returns-3 : tie.Need-returns-3
 returns-3 c =
     rw (

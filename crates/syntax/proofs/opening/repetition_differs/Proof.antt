@@ -2,23 +2,18 @@ use borrow.Author.Tests.{eq-eqb, ne-eqb}
 use Rattle.syntax.proofs.opening.repetition_differs.Statement.{statement}
 use Rattle.syntax.proofs.opening.repetition_differs.Tie as tie
 
--- src/opening.rt:126:9
 returns : tie.Need-returns
 returns c = search (eq-eqb)
 
--- src/opening.rt:129:9
 returns-2 : tie.Need-returns-2
 returns-2 c = search (eq-eqb, ne-eqb)
 
--- src/opening.rt:132:9
 returns-3 : tie.Need-returns-3
 returns-3 c = search (eq-eqb, ne-eqb)
 
--- src/opening.rt:135:9
 returns-4 : tie.Need-returns-4
 returns-4 c = search (eq-eqb, ne-eqb)
 
--- src/opening.rt:122:1
 returns-5 : tie.Need-returns-5
 returns-5 c = search (ne-eqb)
 

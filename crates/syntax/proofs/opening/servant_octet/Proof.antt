@@ -2,35 +2,27 @@ use Rattle.syntax.specs.OpeningLaws.{servant-0, servant-33, servant-48, 
 use Rattle.syntax.proofs.opening.servant_octet.Statement.{statement}
 use Rattle.syntax.proofs.opening.servant_octet.Tie as tie
 
--- src/opening.rt:62:9
 returns : tie.Need-returns
 returns c = servant-0 (c .if1 .taken)
 
--- src/opening.rt:65:9
 returns-2 : tie.Need-returns-2
 returns-2 c = servant-33 (c .before .if1 .left) (c .if2 .taken)
 
--- src/opening.rt:68:9
 returns-3 : tie.Need-returns-3
 returns-3 c = servant-48 (c .before .if2 .left) (c .if3 .taken)
 
--- src/opening.rt:71:9
 returns-4 : tie.Need-returns-4
 returns-4 c = servant-58 (c .before .if3 .left) (c .if4 .taken)
 
--- src/opening.rt:74:9
 returns-5 : tie.Need-returns-5
 returns-5 c = servant-65 (c .before .if4 .left) (c .if5 .taken)
 
--- src/opening.rt:77:9
 returns-6 : tie.Need-returns-6
 returns-6 c = servant-91 (c .before .if5 .left) (c .if6 .taken)
 
--- src/opening.rt:80:9
 returns-7 : tie.Need-returns-7
 returns-7 c = servant-97 (c .before .if6 .left) (c .if7 .taken)
 
--- src/opening.rt:58:1
 returns-8 : tie.Need-returns-8
 returns-8 c = servant-123 (c .if7 .left)
 

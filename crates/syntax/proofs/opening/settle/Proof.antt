@@ -4,19 +4,15 @@ use borrow.Author.Needs.{needs}
 use Rattle.syntax.proofs.opening.settle.Statement.{statement}
 use Rattle.syntax.proofs.opening.settle.Tie as tie
 
--- src/opening.rt:301:26
 enum-told : tie.Need-enum-told
 enum-told c = search needs
 
--- src/opening.rt:308:16
 enum-told-2 : tie.Need-enum-told-2
 enum-told-2 c = search needs
 
--- src/opening.rt:310:21
 unb-refused-requires : tie.Need-unb-refused-requires
 unb-refused-requires c κs = search needs
 
--- src/opening.rt:310:21
 returns : tie.Need-returns
 returns c =
     rw (
@@ -25,15 +21,12 @@ returns c =
       ne-eqb _ _ (c .before .if2 .taken),
     ) (c .unb-refused .ensures)
 
--- src/opening.rt:313:17
 without-repetition-requires : tie.Need-without-repetition-requires
 without-repetition-requires c κs = search needs
 
--- src/opening.rt:293:1
 returns-2 : tie.Need-returns-2
 returns-2 c = rw (c .enum-told .given .1)
 
--- src/opening.rt:293:1
 returns-3 : tie.Need-returns-3
 returns-3 c =
     rw (

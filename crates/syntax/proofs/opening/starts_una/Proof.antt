@@ -4,15 +4,12 @@ use borrow.Author.Needs.{needs}
 use Rattle.syntax.proofs.opening.starts_una.Statement.{statement}
 use Rattle.syntax.proofs.opening.starts_una.Tie as tie
 
--- src/opening.rt:165:9
 returns : tie.Need-returns
 returns c = una-short (c .before .args .s .now) (c .if1 .taken)
 
--- src/opening.rt:167:8
 shared-slice-read-if2 : tie.Need-shared-slice-read-if2
 shared-slice-read-if2 c = search needs
 
--- src/opening.rt:168:9
 returns-2 : tie.Need-returns-2
 returns-2 c =
     rw (
@@ -20,11 +17,9 @@ returns-2 c =
       ne-eqb _ _ (c .if2 .taken),
     )
 
--- src/opening.rt:170:8
 shared-slice-read-if3 : tie.Need-shared-slice-read-if3
 shared-slice-read-if3 c = search needs
 
--- src/opening.rt:171:9
 returns-3 : tie.Need-returns-3
 returns-3 c =
     let k = c .before .before .before .before in
@@ -34,11 +29,9 @@ returns-3 c =
       ne-eqb _ _ (c .if3 .taken),
     )
 
--- src/opening.rt:173:5
 shared-slice-read-result : tie.Need-shared-slice-read-result
 shared-slice-read-result c = search needs
 
--- src/opening.rt:161:1
 returns-4 : tie.Need-returns-4
 returns-4 c =
     let k = c .before .before .before .before .before in

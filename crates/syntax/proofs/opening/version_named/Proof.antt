@@ -2,27 +2,21 @@ use borrow.Author.Needs.{needs}
 use Rattle.syntax.proofs.opening.version_named.Statement.{statement}
 use Rattle.syntax.proofs.opening.version_named.Tie as tie
 
--- src/opening.rt:274:31
 slice-aggregate-content-is : tie.Need-slice-aggregate-content-is
 slice-aggregate-content-is c = search needs
 
--- src/opening.rt:274:8
 content-is-requires : tie.Need-content-is-requires
 content-is-requires c κs = search needs
 
--- src/opening.rt:275:9
 returns : tie.Need-returns
 returns c = rw (← c .before .content-is .ensures, c .if1 .taken)
 
--- src/opening.rt:277:31
 slice-aggregate-content-is-2 : tie.Need-slice-aggregate-content-is-2
 slice-aggregate-content-is-2 c = search needs
 
--- src/opening.rt:277:8
 content-is-requires-2 : tie.Need-content-is-requires-2
 content-is-requires-2 c κs = search needs
 
--- src/opening.rt:278:9
 returns-2 : tie.Need-returns-2
 returns-2 c =
     let p = c .before .before .before in
@@ -33,7 +27,6 @@ returns-2 c =
       c .if2 .taken,
     )
 
--- src/opening.rt:271:1
 returns-3 : tie.Need-returns-3
 returns-3 c =
     let p = c .before .before .before in

@@ -17,47 +17,36 @@ Inv-loop s p t y c i₀ n₀ i n = Nearing y (atComponent c (piecesAt (y .servic
 abbrev μ-loop : tie.MeasureT-loop
 μ-loop s p t y c i₀ n₀ i n = length s - i
 
--- src/reading.rt:74:5
 loop-holds : tie.Need-loop-holds Inv-loop μ-loop
 loop-holds c = record { left = refl }
 
--- src/reading.rt:75:15
 piece-end-requires : tie.Need-piece-end-requires Inv-loop μ-loop
 piece-end-requires c κs = search needs
 
--- src/reading.rt:76:22
 enum-known-q : tie.Need-enum-known-q Inv-loop μ-loop
 enum-known-q c = search needs
 
--- src/reading.rt:78:21
 returns : tie.Need-returns Inv-loop μ-loop
 returns c = search (nearing-there, needs)
 
--- src/reading.rt:81:21
 returns-2 : tie.Need-returns-2 Inv-loop μ-loop
 returns-2 c = search (nearing-gone, needs)
 
--- src/reading.rt:83:17
 sub-n : tie.Need-sub-n Inv-loop μ-loop
 sub-n c = search needs
 
--- src/reading.rt:84:21
 add-i : tie.Need-add-i Inv-loop μ-loop
 add-i c = let w = edge-steps (c .before .before .before .before .before .before .before .before .args .y .service) (c .before .before .before .before .before .before .before .before .args .s .now) (c .before .before .before .before .before .before .loop .i) (c .before .before .before .before .before .piece-end .ensures) (c .before .before .before .q .given .1) in search needs
 
--- src/reading.rt:74:5
 loop-less : tie.Need-loop-less Inv-loop μ-loop
 loop-less c = let w = edge-steps (c .before .before .before .before .before .before .before .before .args .y .service) (c .before .before .before .before .before .before .before .before .args .s .now) (c .before .before .before .before .before .before .loop .i) (c .before .before .before .before .before .piece-end .ensures) (c .before .before .before .q .given .1) in search needs
 
--- src/reading.rt:74:5
 loop-again : tie.Need-loop-again Inv-loop μ-loop
 loop-again c = search (nearing-on, needs)
 
--- src/reading.rt:87:17
 enum-told : tie.Need-enum-told Inv-loop μ-loop
 enum-told c = search needs
 
--- src/reading.rt:87:17
 returns-3 : tie.Need-returns-3 Inv-loop μ-loop
 returns-3 c = search (nearing-over, needs)
 

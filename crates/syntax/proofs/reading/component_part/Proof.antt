@@ -8,31 +8,24 @@ use Rattle.syntax.proofs.reading.component_part.Lts as lts
 use Rattle.syntax.proofs.content.part.Reads as part-reads
 use Rattle.syntax.proofs.reading.component_span.Reads as component-span-reads
 
--- src/reading.rt:116:11
 component-span-requires : tie.Need-component-span-requires
 component-span-requires c κs = search needs
 
--- src/reading.rt:117:20
 enum-known-x : tie.Need-enum-known-x
 enum-known-x c = search needs
 
--- src/reading.rt:117:29
 part-requires : tie.Need-part-requires
 part-requires c κs = search needs
 
--- src/reading.rt:118:25
 enum-told : tie.Need-enum-told
 enum-told c = search needs
 
--- src/reading.rt:118:25
 part-requires-2 : tie.Need-part-requires-2
 part-requires-2 c κs = search needs
 
--- src/reading.rt:105:1
 returns : tie.Need-returns
 returns c = c .part .ensures ∙ ap (partOf (c .before .before .before .before .before .before .args .s .now)) (sym (c .before .before .x .given .1) ∙ c .before .before .before .before .component-span .ensures)
 
--- src/reading.rt:105:1
 returns-2 : tie.Need-returns-2
 returns-2 c = c .part2 .ensures ∙ ap (partOf (c .before .before .before .before .before .args .s .now)) (sym (c .before .enum-told .given .1) ∙ c .before .before .before .component-span .ensures)
 

@@ -17,43 +17,33 @@ Inv-loop s p t y i₀ n₀ i n = Counting y (components (piecesAt (y .service) s
 abbrev μ-loop : tie.MeasureT-loop
 μ-loop s p t y i₀ n₀ i n = length s - i
 
--- src/reading.rt:128:5
 loop-holds : tie.Need-loop-holds Inv-loop μ-loop
 loop-holds c = record { few = search needs; sums = search needs }
 
--- src/reading.rt:129:15
 piece-end-requires : tie.Need-piece-end-requires Inv-loop μ-loop
 piece-end-requires c κs = search needs
 
--- src/reading.rt:130:22
 enum-known-q : tie.Need-enum-known-q Inv-loop μ-loop
 enum-known-q c = search needs
 
--- src/reading.rt:131:17
 add-n : tie.Need-add-n Inv-loop μ-loop
 add-n c = let w = counting-fits (c .before .before .before .before .loop .inv) (c .before .before .before .piece-end .ensures) (c .before .q .given .1) in search needs
 
--- src/reading.rt:133:21
 returns : tie.Need-returns Inv-loop μ-loop
 returns c = search (counting-end, needs)
 
--- src/reading.rt:135:21
 add-i : tie.Need-add-i Inv-loop μ-loop
 add-i c = let w = edge-steps (c .before .before .before .before .before .before .before .args .y .service) (c .before .before .before .before .before .before .before .args .s .now) (c .before .before .before .before .before .loop .i) (c .before .before .before .before .piece-end .ensures) (c .before .before .q .given .1) in search needs
 
--- src/reading.rt:128:5
 loop-less : tie.Need-loop-less Inv-loop μ-loop
 loop-less c = let w = edge-steps (c .before .before .before .before .before .before .before .args .y .service) (c .before .before .before .before .before .before .before .args .s .now) (c .before .before .before .before .before .loop .i) (c .before .before .before .before .piece-end .ensures) (c .before .before .q .given .1) in search needs
 
--- src/reading.rt:128:5
 loop-again : tie.Need-loop-again Inv-loop μ-loop
 loop-again c = search (counting-on, needs)
 
--- src/reading.rt:138:17
 enum-told : tie.Need-enum-told Inv-loop μ-loop
 enum-told c = search needs
 
--- src/reading.rt:138:17
 returns-2 : tie.Need-returns-2 Inv-loop μ-loop
 returns-2 c = search (counting-over, needs)
 

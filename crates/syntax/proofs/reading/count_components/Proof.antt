@@ -10,27 +10,21 @@ use Rattle.syntax.proofs.reading.count_components.Lts as lts
 use Rattle.syntax.proofs.reading.components_from.Reads as components-from-reads
 use Rattle.syntax.proofs.reading.element_from.Reads as element-from-reads
 
--- src/reading.rt:149:11
 element-from-requires : tie.Need-element-from-requires
 element-from-requires c κs = search needs
 
--- src/reading.rt:150:19
 enum-known-p : tie.Need-enum-known-p
 enum-known-p c = search needs
 
--- src/reading.rt:150:25
 components-from-requires : tie.Need-components-from-requires
 components-from-requires c κs = search needs
 
--- src/reading.rt:151:27
 enum-told : tie.Need-enum-told
 enum-told c = search needs
 
--- src/reading.rt:145:1
 returns : tie.Need-returns
 returns c = let a = c .before .before .before .before .before .before .args in c .components-from .ensures ∙ ap (components) (reached (a .y .service) (a .s .now) _ (atElement (a .e) (piecesAt (a .y .service) (a .s .now) (a .a))) (c .before .before .before .before .element-from .ensures) (c .before .before .p .given .1))
 
--- src/reading.rt:145:1
 returns-2 : tie.Need-returns-2
 returns-2 c = let a = c .before .before .before .before .args in ap (components) (unreached (a .y .service) (a .s .now) _ (atElement (a .e) (piecesAt (a .y .service) (a .s .now) (a .a))) (c .before .before .element-from .ensures) (c .enum-told .given .1))
 

@@ -17,55 +17,42 @@ Inv-loop s a t y i₀ n₀ i n = Numbering y (elements (piecesAt (y .service) s 
 abbrev μ-loop : tie.MeasureT-loop
 μ-loop s a t y i₀ n₀ i n = length s - i
 
--- src/reading.rt:196:5
 loop-holds : tie.Need-loop-holds Inv-loop μ-loop
 loop-holds c = record { few = search needs; sums = search needs }
 
--- src/reading.rt:197:15
 piece-end-requires : tie.Need-piece-end-requires Inv-loop μ-loop
 piece-end-requires c κs = search needs
 
--- src/reading.rt:198:22
 enum-known-q : tie.Need-enum-known-q Inv-loop μ-loop
 enum-known-q c = search needs
 
--- src/reading.rt:200:21
 returns : tie.Need-returns Inv-loop μ-loop
 returns c = search (numbering-end, needs)
 
--- src/reading.rt:203:21
 add-n : tie.Need-add-n Inv-loop μ-loop
 add-n c = let w = numbering-fits (c .before .before .before .before .before .before .loop .inv) (c .before .before .before .before .before .piece-end .ensures) (c .before .before .before .q .given .1) in search needs
 
--- src/reading.rt:204:25
 add-i : tie.Need-add-i Inv-loop μ-loop
 add-i c = let w = edge-steps (c .before .before .before .before .before .before .before .before .args .y .service) (c .before .before .before .before .before .before .before .before .args .s .now) (c .before .before .before .before .before .before .loop .i) (c .before .before .before .before .before .piece-end .ensures) (c .before .before .before .q .given .1) in search needs
 
--- src/reading.rt:196:5
 loop-less : tie.Need-loop-less Inv-loop μ-loop
 loop-less c = let w = edge-steps (c .before .before .before .before .before .before .before .before .args .y .service) (c .before .before .before .before .before .before .before .before .args .s .now) (c .before .before .before .before .before .before .loop .i) (c .before .before .before .before .before .piece-end .ensures) (c .before .before .before .q .given .1) in search needs
 
--- src/reading.rt:196:5
 loop-again : tie.Need-loop-again Inv-loop μ-loop
 loop-again c = search (numbering-next, needs)
 
--- src/reading.rt:207:21
 add-i-2 : tie.Need-add-i-2 Inv-loop μ-loop
 add-i-2 c = let w = edge-steps (c .before .before .before .before .before .before .before .before .args .y .service) (c .before .before .before .before .before .before .before .before .args .s .now) (c .before .before .before .before .before .before .loop .i) (c .before .before .before .before .before .piece-end .ensures) (c .before .before .before .q .given .1) in search needs
 
--- src/reading.rt:196:5
 loop-less-2 : tie.Need-loop-less-2 Inv-loop μ-loop
 loop-less-2 c = let w = edge-steps (c .before .before .before .before .before .before .before .before .args .y .service) (c .before .before .before .before .before .before .before .before .args .s .now) (c .before .before .before .before .before .before .loop .i) (c .before .before .before .before .before .piece-end .ensures) (c .before .before .before .q .given .1) in search needs
 
--- src/reading.rt:196:5
 loop-again-2 : tie.Need-loop-again-2 Inv-loop μ-loop
 loop-again-2 c = search (numbering-on, needs)
 
--- src/reading.rt:210:17
 enum-told : tie.Need-enum-told Inv-loop μ-loop
 enum-told c = search needs
 
--- src/reading.rt:210:17
 returns-2 : tie.Need-returns-2 Inv-loop μ-loop
 returns-2 c = search (numbering-over, needs)
 

@@ -17,59 +17,45 @@ Inv-loop s a t y e i₀ n₀ i n = Passing y (atElement e (piecesAt (y .service)
 abbrev μ-loop : tie.MeasureT-loop
 μ-loop s a t y e i₀ n₀ i n = length s - i
 
--- src/reading.rt:46:5
 loop-holds : tie.Need-loop-holds Inv-loop μ-loop
 loop-holds c = record { left = refl }
 
--- src/reading.rt:47:15
 piece-end-requires : tie.Need-piece-end-requires Inv-loop μ-loop
 piece-end-requires c κs = search needs
 
--- src/reading.rt:48:22
 enum-known-q : tie.Need-enum-known-q Inv-loop μ-loop
 enum-known-q c = search needs
 
--- src/reading.rt:50:21
 returns : tie.Need-returns Inv-loop μ-loop
 returns c = search (passing-end, needs)
 
--- src/reading.rt:53:21
 sub-n : tie.Need-sub-n Inv-loop μ-loop
 sub-n c = search needs
 
--- src/reading.rt:54:25
 add-i : tie.Need-add-i Inv-loop μ-loop
 add-i c = let w = edge-steps (c .before .before .before .before .before .before .before .before .before .args .y .service) (c .before .before .before .before .before .before .before .before .before .args .s .now) (c .before .before .before .before .before .before .before .loop .i) (c .before .before .before .before .before .piece-end .ensures) (c .before .before .before .q .given .1) in search needs
 
--- src/reading.rt:46:5
 loop-less : tie.Need-loop-less Inv-loop μ-loop
 loop-less c = let w = edge-steps (c .before .before .before .before .before .before .before .before .before .args .y .service) (c .before .before .before .before .before .before .before .before .before .args .s .now) (c .before .before .before .before .before .before .before .loop .i) (c .before .before .before .before .before .piece-end .ensures) (c .before .before .before .q .given .1) in search needs
 
--- src/reading.rt:46:5
 loop-again : tie.Need-loop-again Inv-loop μ-loop
 loop-again c = search (passing-next, needs)
 
--- src/reading.rt:57:21
 add-i-2 : tie.Need-add-i-2 Inv-loop μ-loop
 add-i-2 c = let w = edge-steps (c .before .before .before .before .before .before .before .before .before .args .y .service) (c .before .before .before .before .before .before .before .before .before .args .s .now) (c .before .before .before .before .before .before .before .loop .i) (c .before .before .before .before .before .piece-end .ensures) (c .before .before .before .q .given .1) in search needs
 
--- src/reading.rt:46:5
 loop-less-2 : tie.Need-loop-less-2 Inv-loop μ-loop
 loop-less-2 c = let w = edge-steps (c .before .before .before .before .before .before .before .before .before .args .y .service) (c .before .before .before .before .before .before .before .before .before .args .s .now) (c .before .before .before .before .before .before .before .loop .i) (c .before .before .before .before .before .piece-end .ensures) (c .before .before .before .q .given .1) in search needs
 
--- src/reading.rt:46:5
 loop-again-2 : tie.Need-loop-again-2 Inv-loop μ-loop
 loop-again-2 c = search (passing-on, needs)
 
--- src/reading.rt:60:17
 enum-told : tie.Need-enum-told Inv-loop μ-loop
 enum-told c = search needs
 
--- src/reading.rt:60:17
 returns-2 : tie.Need-returns-2 Inv-loop μ-loop
 returns-2 c = search (passing-over, needs)
 
--- src/reading.rt:40:1
 returns-3 : tie.Need-returns-3 Inv-loop μ-loop
 returns-3 c = search (passing-there, needs)
 

@@ -10,27 +10,21 @@ use Rattle.syntax.proofs.reading.element_repeats.Lts as lts
 use Rattle.syntax.proofs.reading.element_from.Reads as element-from-reads
 use Rattle.syntax.proofs.reading.repeats_from.Reads as repeats-from-reads
 
--- src/reading.rt:183:11
 element-from-requires : tie.Need-element-from-requires
 element-from-requires c κs = search needs
 
--- src/reading.rt:184:19
 enum-known-p : tie.Need-enum-known-p
 enum-known-p c = search needs
 
--- src/reading.rt:184:25
 repeats-from-requires : tie.Need-repeats-from-requires
 repeats-from-requires c κs = search needs
 
--- src/reading.rt:185:27
 enum-told : tie.Need-enum-told
 enum-told c = search needs
 
--- src/reading.rt:179:1
 returns : tie.Need-returns
 returns c = let a = c .before .before .before .before .before .before .args in c .repeats-from .ensures ∙ ap (repeats) (reached (a .y .service) (a .s .now) _ (atElement (a .e) (piecesAt (a .y .service) (a .s .now) (a .a))) (c .before .before .before .before .element-from .ensures) (c .before .before .p .given .1))
 
--- src/reading.rt:179:1
 returns-2 : tie.Need-returns-2
 returns-2 c = let a = c .before .before .before .before .args in ap (repeats) (unreached (a .y .service) (a .s .now) _ (atElement (a .e) (piecesAt (a .y .service) (a .s .now) (a .a))) (c .before .before .element-from .ensures) (c .enum-told .given .1))
 

@@ -8,31 +8,24 @@ use Rattle.syntax.proofs.reading.piece_end.Lts as lts
 use Rattle.syntax.proofs.cutting.stop.Reads as stop-reads
 use Rattle.syntax.proofs.repertoire.class.Reads as class-reads
 
--- src/reading.rt:30:11
 stop-requires : tie.Need-stop-requires
 stop-requires c κs = search needs
 
--- src/reading.rt:31:19
 enum-known-q : tie.Need-enum-known-q
 enum-known-q c = search needs
 
--- src/reading.rt:32:33
 shared-slice-read-class : tie.Need-shared-slice-read-class
 shared-slice-read-class c = let a = c .before .before .before .before .before .before .args in edge-in (a .y) (a .s .now) (a .from) (c .before .before .before .before .stop .ensures) (c .before .before .q .given .1)
 
--- src/reading.rt:32:17
 class-requires : tie.Need-class-requires
 class-requires c κs = search needs
 
--- src/reading.rt:35:27
 enum-told : tie.Need-enum-told
 enum-told c = search needs
 
--- src/reading.rt:26:1
 returns : tie.Need-returns
 returns c = let a = c .before .before .before .before .before .before .before .args in edge-on (a .y) (a .s .now) (a .from) (c .before .before .before .before .before .stop .ensures) (c .before .before .before .q .given .1) (c .class .ensures)
 
--- src/reading.rt:26:1
 returns-2 : tie.Need-returns-2
 returns-2 c = rw (← c .before .before .stop .ensures, c .enum-told .given .1)
 

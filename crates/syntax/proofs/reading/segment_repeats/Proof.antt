@@ -17,43 +17,33 @@ Inv-loop s a t y i₀ i = Anywhere y (anyRepeats (piecesAt (y .service) s a)) s 
 abbrev μ-loop : tie.MeasureT-loop
 μ-loop s a t y i₀ i = length s - i
 
--- src/reading.rt:222:5
 loop-holds : tie.Need-loop-holds Inv-loop μ-loop
 loop-holds c = record { left = refl }
 
--- src/reading.rt:223:15
 piece-end-requires : tie.Need-piece-end-requires Inv-loop μ-loop
 piece-end-requires c κs = search needs
 
--- src/reading.rt:224:22
 enum-known-q : tie.Need-enum-known-q Inv-loop μ-loop
 enum-known-q c = search needs
 
--- src/reading.rt:226:21
 returns : tie.Need-returns Inv-loop μ-loop
 returns c = search (anywhere-yes, needs)
 
--- src/reading.rt:229:21
 returns-2 : tie.Need-returns-2 Inv-loop μ-loop
 returns-2 c = search (anywhere-end, needs)
 
--- src/reading.rt:231:21
 add-i : tie.Need-add-i Inv-loop μ-loop
 add-i c = let w = edge-steps (c .before .before .before .before .before .before .before .before .args .y .service) (c .before .before .before .before .before .before .before .before .args .s .now) (c .before .before .before .before .before .before .loop .i) (c .before .before .before .before .before .piece-end .ensures) (c .before .before .before .q .given .1) in search needs
 
--- src/reading.rt:222:5
 loop-less : tie.Need-loop-less Inv-loop μ-loop
 loop-less c = let w = edge-steps (c .before .before .before .before .before .before .before .before .args .y .service) (c .before .before .before .before .before .before .before .before .args .s .now) (c .before .before .before .before .before .before .loop .i) (c .before .before .before .before .before .piece-end .ensures) (c .before .before .before .q .given .1) in search needs
 
--- src/reading.rt:222:5
 loop-again : tie.Need-loop-again Inv-loop μ-loop
 loop-again c = search (anywhere-on, needs)
 
--- src/reading.rt:234:17
 enum-told : tie.Need-enum-told Inv-loop μ-loop
 enum-told c = search needs
 
--- src/reading.rt:234:17
 returns-3 : tie.Need-returns-3 Inv-loop μ-loop
 returns-3 c = search (anywhere-over, needs)
 

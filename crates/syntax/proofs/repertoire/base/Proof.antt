@@ -6,63 +6,48 @@ use Rattle.syntax.proofs.repertoire.base.Reads as reads
 use Rattle.syntax.proofs.repertoire.base.Lts as lts
 use Rattle.syntax.proofs.repertoire.fill.Reads as fill-reads
 
--- src/repertoire.rt:36:18
 enum-told : tie.Need-enum-told
 enum-told c = search needs
 
--- src/repertoire.rt:36:13
 fill-requires : tie.Need-fill-requires
 fill-requires c κs = search needs
 
--- src/repertoire.rt:37:13
 fill-requires-2 : tie.Need-fill-requires-2
 fill-requires-2 c κs = search needs
 
--- src/repertoire.rt:38:13
 fill-requires-3 : tie.Need-fill-requires-3
 fill-requires-3 c κs = search needs
 
--- src/repertoire.rt:39:13
 returns : tie.Need-returns
 returns c = rw (c .before .before .before .before .before .before .enum-told .given .1) (base-a (c .before .before .before .before .fill .ensures) (c .before .before .fill2 .ensures) (c .fill3 .ensures))
 
--- src/repertoire.rt:42:18
 enum-told-2 : tie.Need-enum-told-2
 enum-told-2 c = search needs
 
--- src/repertoire.rt:42:13
 fill-requires-4 : tie.Need-fill-requires-4
 fill-requires-4 c κs = search needs
 
--- src/repertoire.rt:43:13
 fill-requires-5 : tie.Need-fill-requires-5
 fill-requires-5 c κs = search needs
 
--- src/repertoire.rt:44:13
 fill-requires-6 : tie.Need-fill-requires-6
 fill-requires-6 c κs = search needs
 
--- src/repertoire.rt:45:13
 fill-requires-7 : tie.Need-fill-requires-7
 fill-requires-7 c κs = search needs
 
--- src/repertoire.rt:46:13
 returns-2 : tie.Need-returns-2
 returns-2 c = rw (c .before .before .before .before .before .before .before .before .enum-told2 .given .1) (base-b (c .before .before .before .before .before .before .fill4 .ensures) (c .before .before .before .before .fill5 .ensures) (c .before .before .fill6 .ensures) (c .fill7 .ensures))
 
--- src/repertoire.rt:49:18
 enum-told-3 : tie.Need-enum-told-3
 enum-told-3 c = search needs
 
--- src/repertoire.rt:49:13
 fill-requires-8 : tie.Need-fill-requires-8
 fill-requires-8 c κs = search needs
 
--- src/repertoire.rt:50:13
 fill-requires-9 : tie.Need-fill-requires-9
 fill-requires-9 c κs = search needs
 
--- src/repertoire.rt:51:13
 returns-3 : tie.Need-returns-3
 returns-3 c = rw (c .before .before .before .before .enum-told3 .given .1) (base-c (c .before .before .fill8 .ensures) (c .fill9 .ensures))
 

@@ -4,11 +4,9 @@ use Rattle.syntax.proofs.repertoire.class.Tie as tie
 use Rattle.syntax.proofs.repertoire.class.Reads as reads
 use Rattle.syntax.proofs.repertoire.class.Lts as lts
 
--- src/repertoire.rt:824:5
 element-copy-out-result : tie.Need-element-copy-out-result
 element-copy-out-result c = search needs
 
--- src/repertoire.rt:820:1
 returns : tie.Need-returns
 returns c = c .before .pre .rule (c .before .args .b) (search needs)
 

@@ -14,35 +14,27 @@ Inv-loop t₀ a e last i₀ t i = Filling a e last i t₀ t
 abbrev μ-loop : tie.MeasureT-loop
 μ-loop t₀ a e last i₀ t i = last + 1 - i
 
--- src/repertoire.rt:20:9
 wide-requires : tie.Need-wide-requires Inv-loop μ-loop
 wide-requires c κs = search needs
 
--- src/repertoire.rt:21:9
 wide-requires-2 : tie.Need-wide-requires-2 Inv-loop μ-loop
 wide-requires-2 c κs = search needs
 
--- src/repertoire.rt:22:5
 loop-holds : tie.Need-loop-holds Inv-loop μ-loop
 loop-holds c = search (filling-start, needs)
 
--- src/repertoire.rt:23:9
 element-write-t : tie.Need-element-write-t Inv-loop μ-loop
 element-write-t c = search needs
 
--- src/repertoire.rt:24:9
 add-i : tie.Need-add-i Inv-loop μ-loop
 add-i c = search needs
 
--- src/repertoire.rt:22:5
 loop-less : tie.Need-loop-less Inv-loop μ-loop
 loop-less c = search needs
 
--- src/repertoire.rt:22:5
 loop-again : tie.Need-loop-again Inv-loop μ-loop
 loop-again c = search (filling-on, needs)
 
--- src/repertoire.rt:17:1
 returns : tie.Need-returns Inv-loop μ-loop
 returns c = search (filling-end, needs)
 

@@ -7,35 +7,27 @@ use Rattle.syntax.proofs.repertoire.table.Lts as lts
 use Rattle.syntax.proofs.repertoire.base.Reads as base-reads
 use Rattle.syntax.proofs.repertoire.put.Reads as put-reads
 
--- src/repertoire.rt:62:17
 base-requires : tie.Need-base-requires
 base-requires c κs = search needs
 
--- src/repertoire.rt:63:5
 put-requires : tie.Need-put-requires
 put-requires c κs = search needs
 
--- src/repertoire.rt:64:5
 put-requires-2 : tie.Need-put-requires-2
 put-requires-2 c κs = search needs
 
--- src/repertoire.rt:65:5
 put-requires-3 : tie.Need-put-requires-3
 put-requires-3 c κs = search needs
 
--- src/repertoire.rt:66:5
 put-requires-4 : tie.Need-put-requires-4
 put-requires-4 c κs = search needs
 
--- src/repertoire.rt:67:5
 put-requires-5 : tie.Need-put-requires-5
 put-requires-5 c κs = search needs
 
--- src/repertoire.rt:68:5
 put-requires-6 : tie.Need-put-requires-6
 put-requires-6 c κs = search needs
 
--- src/repertoire.rt:57:1
 returns : tie.Need-returns
 returns c = table-by (record { component = search needs; element = search needs; release = search needs; repetition = search needs; terminator = search needs })
     (c .before .before .before .before .before .before .before .before .before .before .before .before .base .ensures) (c .before .before .before .before .before .before .before .before .before .before .put .ensures) (c .before .before .before .before .before .before .before .before .put2 .ensures) (c .before .before .before .before .before .before .put3 .ensures) (c .before .before .before .before .put4 .ensures) (c .before .before .put5 .ensures) (c .put6 .ensures)
