@@ -1,0 +1,81 @@
+-- Checked elements, as one table: number 8.
+use Prim.Native.Nat.{ℕ, zero, suc}
+use mathlib.Core.Bool.{Bool, true, false, cond, not, _&&_, _||_}
+use mathlib.Core.List.{List, [], _∷_}
+use mathlib.Core.Option.{Option, none, some}
+use lib.Dec.{leb}
+use lib.ListN.{length, getElem?}
+use Rattle.syntax.specs.Octets.{octets, same, within}
+use Rattle.syntax.specs.Content.{allDigits}
+use Rattle.syntax.specs.Tree.{Element, Segment, componentOf, contentOf, countOf, repeatsOf, anyRepeatsIn}
+use Rattle.syntax.specs.declared.Version.{Version}
+use Rattle.syntax.specs.declared.Version.the-variants.{Three, Four}
+use Rattle.grammar.specs.Segments.{Name, Unb, Unh, Unt, Unz, Ush, Usa, Usc, Usr, Ust, Usb, Usx, Usy, Kind, Named, Reserved, Free, kindOf, tagText, elementsOf, elementAt}
+use Rattle.grammar.specs.Loads.{controlRight}
+
+-- a component's length, least and most; whether it is digits
+pub data Range : Type 0 where
+  text digits : ℕ → ℕ → Range
+
+-- an element: its first components; whether further ones may follow
+pub data Checked : Type 0 where
+  closed composite : List Range → Checked
+
+-- no length is printed: 0074's and 0036's neighbours, 0001 and 0002. An interchange has no more octets
+abbrev pub anyLength : ℕ
+anyLength = 65535
+
+-- "date : time, digits 6 : 4 (version 3) or 8 : 4 (version 4)"
+abbrev pub dateDigits : Version → ℕ
+dateDigits Three = 6
+dateDigits Four = 8
+
+-- | segment | elements |, from the first position on. "Of these elements only S002, S003, 0065's composite and those shown with `:` may hold further components."
+abbrev pub row : Version → Name → List Checked
+row v Unb =
+    composite (text 1 anyLength ∷ text 1 anyLength ∷ []) ∷ composite (text 1 35 ∷ []) ∷ composite (text 1 35 ∷ [])
+    ∷ composite (digits (dateDigits v) (dateDigits v) ∷ digits 4 4 ∷ []) ∷ closed (text 1 14 ∷ []) ∷ []
+row v Unh = closed (text 1 14 ∷ []) ∷ composite (text 1 6 ∷ []) ∷ []
+row v Unt = closed (digits 1 6 ∷ []) ∷ closed (text 1 anyLength ∷ []) ∷ []
+row v Unz = closed (digits 1 6 ∷ []) ∷ closed (text 1 anyLength ∷ []) ∷ []
+row v Ush = closed (text 1 3 ∷ []) ∷ closed (text 1 14 ∷ []) ∷ closed (text 1 3 ∷ []) ∷ closed (text 0 3 ∷ []) ∷ closed (text 0 3 ∷ []) ∷ []
+row v Usa = []
+row v Usc = []
+row v Usr = composite (text 1 3 ∷ text 0 512 ∷ []) ∷ []
+row v Ust = closed (text 1 14 ∷ []) ∷ closed (digits 1 6 ∷ []) ∷ []
+row v Usb = closed (text 1 3 ∷ []) ∷ []
+row v Usx = closed (text 1 14 ∷ []) ∷ []
+row v Usy = closed (text 1 14 ∷ []) ∷ composite (text 1 3 ∷ text 0 512 ∷ []) ∷ []
+
+-- "lengths of content"; absent is empty
+abbrev pub inRange : Range → List ℕ → Bool
+inRange (text a e) s = within a e (length s)
+inRange (digits a e) s = allDigits s && within a e (length s)
+
+-- components from c on
+abbrev pub inRanges : List Range → Option Element → ℕ → Bool
+inRanges [] x c = true
+inRanges (r ∷ rs) x c = inRange r (contentOf (componentOf x c)) && inRanges rs x (suc c)
+
+-- "may nothing repeat"
+abbrev pub formedAs : Checked → Option Element → Bool
+formedAs (closed rs) x = not (repeatsOf x) && inRanges rs x 0 && leb (countOf x) (length rs)
+formedAs (composite rs) x = not (repeatsOf x) && inRanges rs x 0
+
+-- elements from position p on
+abbrev pub formedRow : List Checked → List Element → ℕ → Bool
+formedRow [] es p = true
+formedRow (k ∷ ks) es p = formedAs k (elementAt es p) && formedRow ks es (suc p)
+
+-- "a repeated element in QTY or CNT is malformed"
+abbrev pub isCounted : Segment → Bool
+isCounted g = same (tagText g) (octets "QTY") || same (tagText g) (octets "CNT")
+
+abbrev pub formedKind : Version → Kind → Segment → Bool
+formedKind v (Named n) g = formedRow (row v n) (elementsOf g) 1
+formedKind v Reserved g = true
+formedKind v Free g = cond (isCounted g) (not (anyRepeatsIn (elementsOf g))) true && controlRight g
+
+-- 8: "checked element missing or malformed"
+abbrev pub formed : Version → Segment → Bool
+formed v g = formedKind v (kindOf g) g

@@ -1,0 +1,10 @@
+pub mod Lists
+pub mod Segments
+pub mod Interchange
+pub mod Loads
+pub mod Elements
+pub mod Rules
+pub mod Valid
+pub mod Placing
+pub mod Verdict
+pub mod Example

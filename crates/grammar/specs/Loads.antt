@@ -1,0 +1,117 @@
+-- Loads and control totals: "The amount is in grams."
+use Prim.Native.Nat.{ℕ, zero, suc, _+_, _*_, _-_}
+use mathlib.Core.Bool.{Bool, true, false, cond, _&&_, _||_}
+use mathlib.Core.List.{List, [], _∷_}
+use mathlib.Core.Option.{Option, none, some}
+use lib.Dec.{eqb}
+use lib.ListN.{length}
+use Rattle.syntax.specs.Octets.{octets, same, within}
+use Rattle.syntax.specs.Content.{allDigits, valueFrom}
+use Rattle.syntax.specs.Tree.{Element, Segment, segment, countOf}
+use Rattle.grammar.specs.Lists.{Snoc, nil, _▷_}
+use Rattle.grammar.specs.Segments.{tagText, elementsOf, elementAt, text}
+
+-- ---- amounts: digits, optionally a mark and digits; "comma and full stop both serve", "No sign"
+
+abbrev pub mark : ℕ → Bool
+mark b = eqb b 44 || eqb b 46
+
+abbrev pub before : List ℕ → List ℕ
+before [] = []
+before (b ∷ s) = let r : List ℕ = before s in cond (mark b) [] (b ∷ r)
+
+abbrev pub behind : List ℕ → Option (List ℕ)
+behind [] = none
+behind (b ∷ s) = cond (mark b) (some s) (behind s)
+
+-- 1 to n digits
+abbrev pub digits : ℕ → List ℕ → Bool
+digits n s = allDigits s && within 1 n (length s)
+
+abbrev pub tens : ℕ → ℕ
+tens zero = 1
+tens (suc n) = 10 * tens n
+
+-- how many digits may stand before and behind the mark; the last behind it is grams
+pub data Shape : Type 0 where
+  shape : ℕ → ℕ → Shape
+
+abbrev pub fractionRight : ℕ → Option (List ℕ) → Bool
+fractionRight n none = true
+fractionRight n (some f) = digits n f
+
+abbrev pub amountRight : Shape → List ℕ → Bool
+amountRight (shape w d) s = digits w (before s) && fractionRight d (behind s)
+
+abbrev pub fraction : ℕ → Option (List ℕ) → ℕ
+fraction d none = 0
+fraction d (some f) = valueFrom 0 f * tens (d - length f)
+
+abbrev pub grams : Shape → List ℕ → ℕ
+grams (shape w d) s = valueFrom 0 (before s) * tens d + fraction d (behind s)
+
+-- the shape that a unit gives
+abbrev pub unit : List ℕ → Shape → Shape → Option Shape
+unit u kgm tne = cond (same u (octets "KGM")) (some kgm) (cond (same u (octets "TNE")) (some tne) none)
+
+-- "KGM: 1 to 9 digits, optionally a mark and 1 to 3 digits. TNE: 1 to 6 digits, optionally a mark and 1 to 6 digits."
+abbrev pub loadUnit : List ℕ → Option Shape
+loadUnit u = unit u (shape 9 3) (shape 6 6)
+
+-- CNT: "unit KGM (1 to 12 digits, optionally a mark and 1 to 3) or TNE (1 to 9, optionally a mark and 1 to 6)"
+abbrev pub controlUnit : List ℕ → Option Shape
+controlUnit u = unit u (shape 12 3) (shape 9 6)
+
+-- ---- "QTY whose one element has three components, the third KGM or TNE, is a load."
+
+abbrev pub threePart : List Element → Bool
+threePart es = eqb (length es) 1 && eqb (countOf (elementAt es 1)) 3
+
+abbrev pub loadShape : Segment → Option Shape
+loadShape g = cond (same (tagText g) (octets "QTY") && threePart (elementsOf g)) (loadUnit (text (elementsOf g) 1 2)) none
+
+abbrev pub loadBy : Option Shape → List ℕ → Option ℕ
+loadBy none s = none
+loadBy (some u) s = some (grams u s)
+
+-- the grams of a segment that is a load
+abbrev pub loadIn : Segment → Option ℕ
+loadIn g = loadBy (loadShape g) (text (elementsOf g) 1 1)
+
+abbrev pub rightBy : Option Shape → List ℕ → Bool
+rightBy none s = true
+rightBy (some u) s = amountRight u s
+
+-- a load is written right
+abbrev pub loadRight : Segment → Bool
+loadRight g = rightBy (loadShape g) (text (elementsOf g) 1 1)
+
+-- ---- "CNT with qualifier 1 has one element of exactly three components .., else it is malformed (8); it equals the message's load total."
+
+abbrev pub isControl : Segment → Bool
+isControl g = same (tagText g) (octets "CNT") && same (text (elementsOf g) 1 0) (octets "1")
+
+abbrev pub controlBy : Option Shape → List ℕ → Bool
+controlBy none s = false
+controlBy (some u) s = amountRight u s
+
+abbrev pub controlRight : Segment → Bool
+controlRight g =
+    cond (isControl g) (threePart (elementsOf g) && controlBy (controlUnit (text (elementsOf g) 1 2)) (text (elementsOf g) 1 1)) true
+
+abbrev pub controlIn : Segment → Option ℕ
+controlIn g = cond (isControl g) (loadBy (controlUnit (text (elementsOf g) 1 2)) (text (elementsOf g) 1 1)) none
+
+-- ---- of a body, in order
+
+abbrev pub put : Snoc ℕ → Option ℕ → Snoc ℕ
+put s none = s
+put s (some n) = s ▷ n
+
+abbrev pub loads : Snoc Segment → Snoc ℕ
+loads nil = nil
+loads (b ▷ g) = put (loads b) (loadIn g)
+
+abbrev pub controls : Snoc Segment → Snoc ℕ
+controls nil = nil
+controls (b ▷ g) = put (controls b) (controlIn g)

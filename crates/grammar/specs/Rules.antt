@@ -1,0 +1,189 @@
+-- The rules on a tree, grouped by the number that tells their breach. Each is a formula over a tree or a part of one.
+-- A rule on single segments (3, 8, 12) is tested on each segment shown.
+use Prim.Native.Nat.{ℕ, zero, suc, _+_}
+use mathlib.Core.Bool.{Bool, true, false, cond, not, _&&_, _||_}
+use mathlib.Core.List.{List, [], _∷_}
+use mathlib.Core.Option.{Option, none, some}
+use lib.Dec.{eqb}
+use Rattle.syntax.specs.Octets.{octets, same}
+use Rattle.syntax.specs.Cutting.{firstOutside}
+use Rattle.syntax.specs.Opening.{isThere}
+use Rattle.syntax.specs.Tree.{Segment, printS}
+use Rattle.syntax.specs.declared.Syntax.{Syntax}
+use Rattle.grammar.specs.Lists.{Snoc, nil, _▷_, each, joined, size, any, among, sum, Rule, always, test, _and_, every, few, distinct}
+use Rattle.grammar.specs.Segments.{Kind, Named, Reserved, Free, kindOf, text, number, reference, second}
+use Rattle.grammar.specs.Interchange.{Leaf, Certificate, certificate, Header, header, Trailer, trailer, Link, link, Body, plain, ack, Open, msg, Message, message, Reading, start, idle, busy, done, showHeader, showTrailer, showMessage, shown}
+use Rattle.grammar.specs.Elements.{formed}
+use Rattle.grammar.specs.Loads.{loads, controls, loadRight}
+
+-- ---- 3: "octet outside the repertoire"
+
+abbrev pub insideS : Syntax → Segment → Rule
+insideS y g = test (not (isThere (firstOutside y (printS (y .service) g) 0)))
+
+abbrev pub inside : Syntax → Reading → Rule
+inside y x = every (insideS y) (shown x)
+
+-- ---- 7: "segment out of order"
+
+-- "A message of type AUTACK": 0065 has exactly that content
+abbrev pub auto : Leaf → Bool
+auto h = same (second h) (octets "AUTACK")
+
+-- "0 to 3 USA", "0 to 2 times (USC, ..)"
+abbrev pub okCertificate : Certificate → Rule
+okCertificate (certificate c us r) = few 3 us
+
+abbrev pub okHeader : Header → Rule
+okHeader (header c us cs) = few 3 us and few 2 cs and every okCertificate cs
+
+-- "one or more USY" under each USX; the last may be just begun
+abbrev pub filled : Link → Rule
+filled (link c ys) = test (any ys)
+
+abbrev pub firm : Snoc Link → Rule
+firm nil = always
+firm (ls ▷ l) = every filled ls
+
+-- "none tagged UNA UNB .."
+abbrev pub isFree : Kind → Bool
+isFree (Named n) = false
+isFree Reserved = false
+isFree Free = true
+
+abbrev pub okItem : Segment → Rule
+okItem g = test (isFree (kindOf g))
+
+-- "A message of type AUTACK has at least one header; its body is USB, then one or more times (USX, one or more USY)."
+abbrev pub okBody : Bool → Snoc Header → Body → Rule
+okBody a hs (plain nil) = always
+okBody a hs (plain (b ▷ i)) = test (not a) and every okItem b and okItem i
+okBody a hs (ack c ls) = test a and test (any hs) and firm ls
+
+-- a body that a trailer or UNT may follow
+abbrev pub whole : Bool → Body → Rule
+whole a (plain b) = test (not a)
+whole a (ack c ls) = test (any ls) and every filled ls
+
+abbrev pub okTrailers : Bool → Body → Snoc Trailer → Rule
+okTrailers a b nil = always
+okTrailers a b (ts ▷ t) = whole a b
+
+-- "0 to 9 header groups"
+abbrev pub okOpen : Open → Rule
+okOpen (msg h hs b ts) = few 9 hs and every okHeader hs and okBody (auto h) hs b and okTrailers (auto h) b ts
+
+abbrev pub okMessage : Message → Rule
+okMessage (message (msg h hs b ts) t) = okOpen (msg h hs b ts) and whole (auto h) b
+
+-- "one or more messages"
+abbrev pub order : Reading → Rule
+order start = always
+order (idle u ms) = every okMessage ms
+order (busy u ms o) = every okMessage ms and okOpen o
+order (done u ms z) = every okMessage ms and test (any ms)
+
+-- ---- 8: "checked element missing or malformed"
+
+abbrev pub formedS : Syntax → Segment → Rule
+formedS y g = test (formed (y .version) g)
+
+abbrev pub wellFormed : Syntax → Reading → Rule
+wellFormed y x = every (formedS y) (shown x)
+
+-- ---- 9: "reference differs, repeats or is unpaired"
+
+abbrev pub refH : Header → List ℕ
+refH (header c us cs) = second c
+
+abbrev pub refT : Trailer → List ℕ
+refT (trailer c r) = reference c
+
+abbrev pub refO : Open → List ℕ
+refO (msg h hs b ts) = reference h
+
+abbrev pub refM : Message → List ℕ
+refM (message o t) = refO o
+
+-- what the USYs name
+abbrev pub refsL : Link → Snoc (List ℕ)
+refsL (link c ys) = each reference ys
+
+abbrev pub linked : Body → Snoc (List ℕ)
+linked (plain b) = nil
+linked (ack c ls) = joined refsL ls
+
+abbrev pub one : Snoc (List ℕ) → List ℕ → Rule
+one s r = test (among s r)
+
+-- "0534 of USH once in a message", "Each USY names a USH of its message", "Each UST names a header not yet named"
+abbrev pub refsOpen : Open → Rule
+refsOpen (msg h hs b ts) =
+    distinct (each refH hs) and every (one (each refH hs)) (linked b)
+    and distinct (each refT ts) and every (one (each refH hs)) (each refT ts)
+
+-- "At UNT: 9 for 0062 or a header without trailer"
+abbrev pub refsMessage : Message → Rule
+refsMessage (message (msg h hs b ts) t) =
+    refsOpen (msg h hs b ts) and test (same (second t) (reference h)) and every (one (each refT ts)) (each refH hs)
+
+-- "0062 is used once in an interchange"; UNZ's 0020 is UNB's
+abbrev pub refs : Reading → Rule
+refs start = always
+refs (idle u ms) = distinct (each refM ms) and every refsMessage ms
+refs (busy u ms o) = distinct (each refM ms ▷ refO o) and every refsMessage ms and refsOpen o
+refs (done u ms z) = distinct (each refM ms) and every refsMessage ms and test (same (second z) (text u 5 0))
+
+-- ---- 10: "count or control total differs"
+
+-- "it equals the message's load total"
+abbrev pub total : Body → Rule
+total (plain b) = every (λ (n : ℕ). test (eqb n (sum (loads b)))) (controls b)
+total (ack c ls) = always
+
+-- the segments of the header of this reference
+abbrev pub sizeAt : List ℕ → Snoc Header → ℕ
+sizeAt r nil = 0
+sizeAt r (hs ▷ h) = cond (same (refH h) r) (size (showHeader h)) (sizeAt r hs)
+
+-- "0588 counts the segments of its header and trailer pair together."
+abbrev pub counted : Snoc Header → Trailer → Rule
+counted hs (trailer c r) = test (eqb (number c 2) (sizeAt (reference c) hs + size (showTrailer (trailer c r))))
+
+-- "0074 counts UNH to UNT, both included."
+abbrev pub countsMessage : Message → Rule
+countsMessage (message (msg h hs b ts) t) =
+    test (eqb (number t 1) (size (showMessage (message (msg h hs b ts) t)))) and every (counted hs) ts and total b
+
+-- "0036 counts the messages."
+abbrev pub counts : Reading → Rule
+counts start = always
+counts (idle u ms) = every countsMessage ms
+counts (busy u ms o) = every countsMessage ms
+counts (done u ms z) = every countsMessage ms and test (eqb (number z 1) (size ms))
+
+-- ---- 11: "0541 is 1 or 2; in AUTACK it is F01 and nothing else."
+
+abbrev pub scopeRight : Bool → Header → Rule
+scopeRight true (header c us cs) = test (same (text c 3 0) (octets "F01"))
+scopeRight false (header c us cs) = test (same (text c 3 0) (octets "1") || same (text c 3 0) (octets "2"))
+
+abbrev pub scopesOpen : Open → Rule
+scopesOpen (msg h hs b ts) = every (scopeRight (auto h)) hs
+
+abbrev pub scopesMessage : Message → Rule
+scopesMessage (message o t) = scopesOpen o
+
+abbrev pub scopes : Reading → Rule
+scopes start = always
+scopes (idle u ms) = every scopesMessage ms
+scopes (busy u ms o) = every scopesMessage ms and scopesOpen o
+scopes (done u ms z) = every scopesMessage ms
+
+-- ---- 12: "load amount"
+
+abbrev pub amountS : Segment → Rule
+amountS g = test (loadRight g)
+
+abbrev pub amounts : Reading → Rule
+amounts x = every amountS (shown x)

@@ -1,0 +1,87 @@
+-- Segments by name, and what is read off their elements. A leaf of a tree is a segment's elements: its place says the tag.
+use Prim.Native.Nat.{ℕ, zero, suc, _-_}
+use mathlib.Core.Bool.{Bool, true, false, cond}
+use mathlib.Core.List.{List, [], _∷_}
+use mathlib.Core.Option.{Option, none, some}
+use lib.ListN.{length, getElem?}
+use Rattle.syntax.specs.Octets.{octets, same}
+use Rattle.syntax.specs.Content.{valueFrom}
+use Rattle.syntax.specs.Tree.{Element, Segment, segment, componentOf, contentOf}
+
+-- the segments that have a place of their own
+pub data Name : Type 0 where
+  Unb Unh Unt Unz Ush Usa Usc Usr Ust Usb Usx Usy : Name
+
+-- a segment of a name; one that a body may not have; any other
+pub data Kind : Type 0 where
+  Named : Name → Kind
+  Reserved Free : Kind
+
+pub data Entry : Type 0 where
+  entry : List ℕ → Kind → Entry
+
+-- "A body has 0 or more segments, none tagged UNA UNB UNG UNE UNH UNT UNZ UNO UNP USH USA USC USR UST USB USX USY USD USU."
+abbrev pub tags : List Entry
+tags =
+    entry (octets "UNA") Reserved ∷ entry (octets "UNB") (Named Unb) ∷ entry (octets "UNG") Reserved ∷ entry (octets "UNE") Reserved
+    ∷ entry (octets "UNH") (Named Unh) ∷ entry (octets "UNT") (Named Unt) ∷ entry (octets "UNZ") (Named Unz)
+    ∷ entry (octets "UNO") Reserved ∷ entry (octets "UNP") Reserved
+    ∷ entry (octets "USH") (Named Ush) ∷ entry (octets "USA") (Named Usa) ∷ entry (octets "USC") (Named Usc) ∷ entry (octets "USR") (Named Usr)
+    ∷ entry (octets "UST") (Named Ust) ∷ entry (octets "USB") (Named Usb) ∷ entry (octets "USX") (Named Usx) ∷ entry (octets "USY") (Named Usy)
+    ∷ entry (octets "USD") Reserved ∷ entry (octets "USU") Reserved ∷ []
+
+abbrev pub kindIn : List Entry → List ℕ → Kind
+kindIn [] t = Free
+kindIn (entry u k ∷ r) t = cond (same t u) k (kindIn r t)
+
+abbrev pub tagText : Segment → List ℕ
+tagText (segment a b c es) = a ∷ b ∷ c ∷ []
+
+abbrev pub elementsOf : Segment → List Element
+elementsOf (segment a b c es) = es
+
+abbrev pub kindOf : Segment → Kind
+kindOf g = kindIn tags (tagText g)
+
+-- the tag of a name, and a segment so tagged
+abbrev pub textOf : Name → List ℕ
+textOf Unb = octets "UNB"
+textOf Unh = octets "UNH"
+textOf Unt = octets "UNT"
+textOf Unz = octets "UNZ"
+textOf Ush = octets "USH"
+textOf Usa = octets "USA"
+textOf Usc = octets "USC"
+textOf Usr = octets "USR"
+textOf Ust = octets "UST"
+textOf Usb = octets "USB"
+textOf Usx = octets "USX"
+textOf Usy = octets "USY"
+
+abbrev pub withTag : List ℕ → List Element → Segment
+withTag [] es = segment 0 0 0 es
+withTag (a ∷ []) es = segment a 0 0 es
+withTag (a ∷ b ∷ []) es = segment a b 0 es
+withTag (a ∷ b ∷ c ∷ r) es = segment a b c es
+
+abbrev pub seg : Name → List Element → Segment
+seg n es = withTag (textOf n) es
+
+-- ---- what is read off: the content of component c (from 0) of the element at position p (from 1); absent is empty
+
+abbrev pub elementAt : List Element → ℕ → Option Element
+elementAt es p = getElem? es (p - 1)
+
+abbrev pub text : List Element → ℕ → ℕ → List ℕ
+text es p c = contentOf (componentOf (elementAt es p) c)
+
+-- the number that an element's digits give
+abbrev pub number : List Element → ℕ → ℕ
+number es p = valueFrom 0 (text es p 0)
+
+-- a message's reference and type, a header's and a trailer's reference: by position
+abbrev pub reference : List Element → List ℕ
+reference es = text es 1 0
+
+abbrev pub second : List Element → List ℕ
+second es = text es 2 0
