@@ -8,3 +8,4 @@ pub mod Valid
 pub mod Placing
 pub mod Verdict
 pub mod Example
+pub mod Running
