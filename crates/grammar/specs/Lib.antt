@@ -9,3 +9,4 @@ pub mod Placing
 pub mod Verdict
 pub mod Example
 pub mod Running
+pub mod Counted
