@@ -17,11 +17,12 @@ pub record Counted : Type 0 where
 
 abbrev pub countedM : Message → Counted
 countedM (message (msg h hs b ts) t) = record {
-    ref = reference h;
-    type = second h;
-    segments = size (showMessage (message (msg h hs b ts) t));
-    loads = loadsM (message (msg h hs b ts) t);
-    grams = sum (loadsM (message (msg h hs b ts) t)) }
+  ref = reference h;
+  type = second h;
+  segments = size (showMessage (message (msg h hs b ts) t));
+  loads = loadsM (message (msg h hs b ts) t);
+  grams = sum (loadsM (message (msg h hs b ts) t));
+}
 
 -- the messages in order
 abbrev pub messagesIn : Interchange → Snoc Message

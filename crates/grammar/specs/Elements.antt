@@ -2,15 +2,13 @@
 use Prim.Native.Nat.{ℕ, zero, suc}
 use mathlib.Core.Bool.{Bool, true, false, cond, not, _&&_, _||_}
 use mathlib.Core.List.{List, [], _∷_}
-use mathlib.Core.Option.{Option, none, some}
 use lib.Dec.{leb}
-use lib.ListN.{length, getElem?}
+use lib.ListN.{length}
 use Rattle.syntax.specs.Octets.{octets, same, within}
 use Rattle.syntax.specs.Content.{allDigits}
-use Rattle.syntax.specs.Tree.{Element, Segment, componentOf, contentOf, countOf, repeatsOf, anyRepeatsIn}
 use Rattle.syntax.specs.declared.Version.{Version}
 use Rattle.syntax.specs.declared.Version.the-variants.{Three, Four}
-use Rattle.grammar.specs.Segments.{Name, Unb, Unh, Unt, Unz, Ush, Usa, Usc, Usr, Ust, Usb, Usx, Usy, Kind, Named, Reserved, Free, kindOf, tagText, elementsOf, elementAt}
+use Rattle.grammar.specs.Segments.{Name, Unb, Unh, Unt, Unz, Ush, Usa, Usc, Usr, Ust, Usb, Usx, Usy, Kind, Named, Reserved, Free, kindIn, tags, Asked}
 use Rattle.grammar.specs.Loads.{controlRight}
 
 -- a component's length, least and most; whether it is digits
@@ -52,30 +50,30 @@ abbrev pub inRange : Range → List ℕ → Bool
 inRange (text a e) s = within a e (length s)
 inRange (digits a e) s = allDigits s && within a e (length s)
 
--- components from c on
-abbrev pub inRanges : List Range → Option Element → ℕ → Bool
-inRanges [] x c = true
-inRanges (r ∷ rs) x c = inRange r (contentOf (componentOf x c)) && inRanges rs x (suc c)
+-- the components from c on of the element at position p
+abbrev pub inRanges : List Range → Asked → ℕ → ℕ → Bool
+inRanges [] a p c = true
+inRanges (r ∷ rs) a p c = inRange r (a .text p c) && inRanges rs a p (suc c)
 
 -- "may nothing repeat"
-abbrev pub formedAs : Checked → Option Element → Bool
-formedAs (closed rs) x = not (repeatsOf x) && inRanges rs x 0 && leb (countOf x) (length rs)
-formedAs (composite rs) x = not (repeatsOf x) && inRanges rs x 0
+abbrev pub formedAs : Checked → Asked → ℕ → Bool
+formedAs (closed rs) a p = not (a .repeated p) && inRanges rs a p 0 && leb (a .parts p) (length rs)
+formedAs (composite rs) a p = not (a .repeated p) && inRanges rs a p 0
 
--- elements from position p on
-abbrev pub formedRow : List Checked → List Element → ℕ → Bool
-formedRow [] es p = true
-formedRow (k ∷ ks) es p = formedAs k (elementAt es p) && formedRow ks es (suc p)
+-- the elements from position p on
+abbrev pub formedRow : List Checked → Asked → ℕ → Bool
+formedRow [] a p = true
+formedRow (k ∷ ks) a p = formedAs k a p && formedRow ks a (suc p)
 
 -- "a repeated element in QTY or CNT is malformed"
-abbrev pub isCounted : Segment → Bool
-isCounted g = same (tagText g) (octets "QTY") || same (tagText g) (octets "CNT")
+abbrev pub isCounted : Asked → Bool
+isCounted a = same (a .tag) (octets "QTY") || same (a .tag) (octets "CNT")
 
-abbrev pub formedKind : Version → Kind → Segment → Bool
-formedKind v (Named n) g = formedRow (row v n) (elementsOf g) 1
-formedKind v Reserved g = true
-formedKind v Free g = cond (isCounted g) (not (anyRepeatsIn (elementsOf g))) true && controlRight g
+abbrev pub formedKind : Version → Kind → Asked → Bool
+formedKind v (Named n) a = formedRow (row v n) a 1
+formedKind v Reserved a = true
+formedKind v Free a = cond (isCounted a) (not (a .anyRepeated)) true && controlRight a
 
 -- 8: "checked element missing or malformed"
-abbrev pub formed : Version → Segment → Bool
-formed v g = formedKind v (kindOf g) g
+abbrev pub formed : Version → Asked → Bool
+formed v a = formedKind v (kindIn tags (a .tag)) a

@@ -9,7 +9,6 @@ use Rattle.syntax.specs.Octets.{same}
 infixl 50 _▷_
 infixl 50 _+++_
 infixr 30 _and_
-
 pub data Snoc (A : Type 0) : Type 0 where
   nil : Snoc A
   _▷_ : Snoc A → A → Snoc A

@@ -7,9 +7,9 @@ use lib.Dec.{eqb}
 use lib.ListN.{length}
 use Rattle.syntax.specs.Octets.{octets, same, within}
 use Rattle.syntax.specs.Content.{allDigits, valueFrom}
-use Rattle.syntax.specs.Tree.{Element, Segment, segment, countOf}
+use Rattle.syntax.specs.Tree.{Segment}
 use Rattle.grammar.specs.Lists.{Snoc, nil, _▷_}
-use Rattle.grammar.specs.Segments.{tagText, elementsOf, elementAt, text}
+use Rattle.grammar.specs.Segments.{Asked, asked}
 
 -- ---- amounts: digits, optionally a mark and digits; "comma and full stop both serve", "No sign"
 
@@ -64,43 +64,42 @@ controlUnit u = unit u (shape 12 3) (shape 9 6)
 
 -- ---- "QTY whose one element has three components, the third KGM or TNE, is a load."
 
-abbrev pub threePart : List Element → Bool
-threePart es = eqb (length es) 1 && eqb (countOf (elementAt es 1)) 3
+abbrev pub threePart : Asked → Bool
+threePart a = eqb (a .size) 1 && eqb (a .parts 1) 3
 
-abbrev pub loadShape : Segment → Option Shape
-loadShape g = cond (same (tagText g) (octets "QTY") && threePart (elementsOf g)) (loadUnit (text (elementsOf g) 1 2)) none
+abbrev pub loadShape : Asked → Option Shape
+loadShape a = cond (same (a .tag) (octets "QTY") && threePart a) (loadUnit (a .text 1 2)) none
 
 abbrev pub loadBy : Option Shape → List ℕ → Option ℕ
 loadBy none s = none
 loadBy (some u) s = some (grams u s)
 
 -- the grams of a segment that is a load
-abbrev pub loadIn : Segment → Option ℕ
-loadIn g = loadBy (loadShape g) (text (elementsOf g) 1 1)
+abbrev pub loadIn : Asked → Option ℕ
+loadIn a = loadBy (loadShape a) (a .text 1 1)
 
 abbrev pub rightBy : Option Shape → List ℕ → Bool
 rightBy none s = true
 rightBy (some u) s = amountRight u s
 
 -- a load is written right
-abbrev pub loadRight : Segment → Bool
-loadRight g = rightBy (loadShape g) (text (elementsOf g) 1 1)
+abbrev pub loadRight : Asked → Bool
+loadRight a = rightBy (loadShape a) (a .text 1 1)
 
 -- ---- "CNT with qualifier 1 has one element of exactly three components .., else it is malformed (8); it equals the message's load total."
 
-abbrev pub isControl : Segment → Bool
-isControl g = same (tagText g) (octets "CNT") && same (text (elementsOf g) 1 0) (octets "1")
+abbrev pub isControl : Asked → Bool
+isControl a = same (a .tag) (octets "CNT") && same (a .text 1 0) (octets "1")
 
 abbrev pub controlBy : Option Shape → List ℕ → Bool
 controlBy none s = false
 controlBy (some u) s = amountRight u s
 
-abbrev pub controlRight : Segment → Bool
-controlRight g =
-    cond (isControl g) (threePart (elementsOf g) && controlBy (controlUnit (text (elementsOf g) 1 2)) (text (elementsOf g) 1 1)) true
+abbrev pub controlRight : Asked → Bool
+controlRight a = cond (isControl a) (threePart a && controlBy (controlUnit (a .text 1 2)) (a .text 1 1)) true
 
-abbrev pub controlIn : Segment → Option ℕ
-controlIn g = cond (isControl g) (loadBy (controlUnit (text (elementsOf g) 1 2)) (text (elementsOf g) 1 1)) none
+abbrev pub controlIn : Asked → Option ℕ
+controlIn a = cond (isControl a) (loadBy (controlUnit (a .text 1 2)) (a .text 1 1)) none
 
 -- ---- of a body, in order
 
@@ -110,8 +109,8 @@ put s (some n) = s ▷ n
 
 abbrev pub loads : Snoc Segment → Snoc ℕ
 loads nil = nil
-loads (b ▷ g) = put (loads b) (loadIn g)
+loads (b ▷ g) = put (loads b) (loadIn (asked g))
 
 abbrev pub controls : Snoc Segment → Snoc ℕ
 controls nil = nil
-controls (b ▷ g) = put (controls b) (controlIn g)
+controls (b ▷ g) = put (controls b) (controlIn (asked g))

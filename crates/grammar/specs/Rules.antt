@@ -11,7 +11,7 @@ use Rattle.syntax.specs.Opening.{isThere}
 use Rattle.syntax.specs.Tree.{Segment, printS}
 use Rattle.syntax.specs.declared.Syntax.{Syntax}
 use Rattle.grammar.specs.Lists.{Snoc, nil, _▷_, each, joined, size, any, among, sum, Rule, always, test, _and_, every, few, distinct}
-use Rattle.grammar.specs.Segments.{Kind, Named, Reserved, Free, kindOf, text, number, reference, second}
+use Rattle.grammar.specs.Segments.{Kind, Named, Reserved, Free, kindOf, asked, text, number, reference, second}
 use Rattle.grammar.specs.Interchange.{Leaf, Certificate, certificate, Header, header, Trailer, trailer, Link, link, Body, plain, ack, Open, msg, Message, message, Reading, start, idle, busy, done, showHeader, showTrailer, showMessage, shown}
 use Rattle.grammar.specs.Elements.{formed}
 use Rattle.grammar.specs.Loads.{loads, controls, loadRight}
@@ -86,7 +86,7 @@ order (done u ms z) = every okMessage ms and test (any ms)
 -- ---- 8: "checked element missing or malformed"
 
 abbrev pub formedS : Syntax → Segment → Rule
-formedS y g = test (formed (y .version) g)
+formedS y g = test (formed (y .version) (asked g))
 
 abbrev pub wellFormed : Syntax → Reading → Rule
 wellFormed y x = every (formedS y) (shown x)
@@ -183,7 +183,7 @@ scopes (done u ms z) = every scopesMessage ms
 -- ---- 12: "load amount"
 
 abbrev pub amountS : Segment → Rule
-amountS g = test (loadRight g)
+amountS g = test (loadRight (asked g))
 
 abbrev pub amounts : Reading → Rule
 amounts x = every amountS (shown x)

@@ -1,12 +1,12 @@
 -- Segments by name, and what is read off their elements. A leaf of a tree is a segment's elements: its place says the tag.
-use Prim.Native.Nat.{ℕ, zero, suc, _-_}
+use Prim.Native.Nat.{ℕ, zero, suc}
 use mathlib.Core.Bool.{Bool, true, false, cond}
 use mathlib.Core.List.{List, [], _∷_}
 use mathlib.Core.Option.{Option, none, some}
 use lib.ListN.{length, getElem?}
 use Rattle.syntax.specs.Octets.{octets, same}
 use Rattle.syntax.specs.Content.{valueFrom}
-use Rattle.syntax.specs.Tree.{Element, Segment, segment, componentOf, contentOf}
+use Rattle.syntax.specs.Tree.{Element, Segment, segment, componentOf, contentOf, countOf, repeatsOf, anyRepeatsIn}
 
 -- the segments that have a place of their own
 pub data Name : Type 0 where
@@ -70,7 +70,8 @@ seg n es = withTag (textOf n) es
 -- ---- what is read off: the content of component c (from 0) of the element at position p (from 1); absent is empty
 
 abbrev pub elementAt : List Element → ℕ → Option Element
-elementAt es p = getElem? es (p - 1)
+elementAt es zero = none
+elementAt es (suc p) = getElem? es p
 
 abbrev pub text : List Element → ℕ → ℕ → List ℕ
 text es p c = contentOf (componentOf (elementAt es p) c)
@@ -85,3 +86,24 @@ reference es = text es 1 0
 
 abbrev pub second : List Element → List ℕ
 second es = text es 2 0
+
+-- ---- all that the rules on single segments ask of a segment: its tag, how many elements it has, and of the element at a position the content of a
+-- component, how many components there are, and whether it repeats; and whether anything repeats
+
+pub record Asked : Type 0 where
+  pub tag : List ℕ
+  pub size : ℕ
+  pub text : ℕ → ℕ → List ℕ
+  pub parts : ℕ → ℕ
+  pub repeated : ℕ → Bool
+  pub anyRepeated : Bool
+
+abbrev pub asked : Segment → Asked
+asked g = record {
+  tag = tagText g;
+  size = length (elementsOf g);
+  text = text (elementsOf g);
+  parts = λ p. countOf (elementAt (elementsOf g) p);
+  repeated = λ p. repeatsOf (elementAt (elementsOf g) p);
+  anyRepeated = anyRepeatsIn (elementsOf g);
+}
