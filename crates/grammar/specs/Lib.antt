@@ -10,3 +10,11 @@ pub mod Verdict
 pub mod Example
 pub mod Running
 pub mod Counted
+pub mod SnocLaws
+pub mod PlacingLaws
+pub mod RunningLaws
+pub mod RuleLaws
+pub mod WalkLaws
+pub mod ExampleTree
+pub mod StartLaws
+pub mod VerdictLaws
