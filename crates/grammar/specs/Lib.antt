@@ -1,3 +1,4 @@
+-- the definitions, in reading order
 pub mod Lists
 pub mod Segments
 pub mod Interchange
@@ -7,14 +8,16 @@ pub mod Rules
 pub mod Valid
 pub mod Placing
 pub mod Verdict
-pub mod Example
-pub mod Running
 pub mod Counted
+pub mod Example
+pub mod ExampleTree
+-- a run over segments, as the proofs see it
+pub mod Running
+-- what is proved
 pub mod SnocLaws
+pub mod RuleLaws
 pub mod PlacingLaws
 pub mod RunningLaws
-pub mod RuleLaws
 pub mod WalkLaws
-pub mod ExampleTree
 pub mod StartLaws
 pub mod VerdictLaws

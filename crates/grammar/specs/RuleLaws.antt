@@ -1,6 +1,7 @@
 -- A rule's test tells what the rule says.
 use mathlib.Core.Bool.{Bool, true, false, _&&_, false≢true}
 use mathlib.Core.Path.{_≡_, refl}
+use Rattle.syntax.specs.RepertoireLaws.{and-l, and-r}
 use lib.Dec.{T}
 use Rattle.grammar.specs.Lists.{Rule, always, test, _and_, holds, check}
 
@@ -8,19 +9,11 @@ so : (b : Bool) → b ≡ true → T b
 so true e = tt
 so false e = absurd (false≢true e)
 
-and-left : (a b : Bool) → (a && b) ≡ true → a ≡ true
-and-left true b e = refl
-and-left false b e = e
-
-and-right : (a b : Bool) → (a && b) ≡ true → b ≡ true
-and-right true b e = e
-and-right false b e = absurd (false≢true e)
-
 -- a rule whose test is passed holds
 pub check-holds : (r : Rule) → check r ≡ true → holds r
 check-holds always e = tt
 check-holds (test b) e = so b e
-check-holds (a and b) e = (check-holds a (and-left (check a) (check b) e), check-holds b (and-right (check a) (check b) e))
+check-holds (a and b) e = (check-holds a (and-l (check a) (check b) e), check-holds b (and-r (check a) (check b) e))
 
 os : (b : Bool) → T b → b ≡ true
 os true e = refl

@@ -16,7 +16,7 @@ use Rattle.syntax.specs.Content.{content}
 use Rattle.syntax.specs.Opening.{startsUna, unaService, readUna, openingOf, levelNamed, versionNamed, bothNamed, declaredAt, refusedUnb, isTag, isUnb, isThere, begunAt, begunBy, begunOf}
 use Rattle.syntax.specs.Tree as syntax
 use Rattle.syntax.specs.Tree.{Segment, printS, well, repeatsOf}
-use Rattle.syntax.specs.TreeLaws.{and-left, and-right, and-both, print-cons}
+use Rattle.syntax.specs.TreeLaws.{off, and-left, and-right, and-both, print-cons}
 use Rattle.syntax.specs.BridgeLaws.{Agrees, bridge}
 use Rattle.syntax.specs.ReaderLaws.{well-uncons}
 use Rattle.syntax.specs.declared.Refusal.{Refusal}
@@ -149,10 +149,6 @@ names-same σ f s a u r w d e c =
     ∙ b .component-content 1 c
 
 -- ---- tests
-
-off : (a : Bool) → T (not a) → a ≡ false
-off true h = absurd h
-off false h = refl
 
 on : (a : Bool) → T a → a ≡ true
 on true h = refl

@@ -12,6 +12,7 @@ use lib.ListN.{length, getD, take, drop, length-drop, drop-of-length-le}
 use lib.Seq.{drop-cons, slice, take-all, take-length, take-nil, length-take-le}
 use Rattle.syntax.specs.Octets.{same, within}
 use Rattle.syntax.specs.Content.{releases, contentFrom, content, released, nextOf, allDigits, valueFrom, numberIn}
+use Rattle.syntax.specs.CuttingLaws.{drop-tail, slice-take}
 use Rattle.syntax.specs.declared.content.Next.{Next}
 use Rattle.syntax.specs.declared.content.Next.the-variants.{Octet, Over}
 use Rattle.syntax.specs.declared.content.Number.{Number}
@@ -19,12 +20,7 @@ use Rattle.syntax.specs.declared.content.Number.the-variants.{Is, Not}
 
 -- a part is the octets that the code takes from `a` on
 pub part-inside : (a e : ℕ) (s : List ℕ) → a ≤ e → take (e - a) (drop a s) ≡ slice a e s
-part-inside zero e s h = let p : e - zero ≡ e = omega arith in rw p
-part-inside (suc a) zero s h = absurd (not-suc-le-zero h)
-part-inside (suc a) (suc e) [] h = take-nil (suc e - suc a)
-part-inside (suc a) (suc e) (b ∷ s) h =
-    let p : suc e - suc a ≡ e - a = omega arith in
-    rw p (part-inside a e s (le-of-suc-le-suc h))
+part-inside a e s h = sym (slice-take a e s)
 
 -- a part that starts after its own end, or ends after the list
 module _ (a e : ℕ) (s : List ℕ) where
@@ -77,14 +73,8 @@ pub record Stepped (ρ : ℕ) (x : List ℕ) (i b j : ℕ) : Type 0 where
 stepped-less : {ρ : ℕ} {x : List ℕ} {i b j : ℕ} → Stepped ρ x i b j → length x - j < length x - i
 stepped-less w = omega arith
 
-drop-tail : (i : ℕ) (s : List ℕ) {b : ℕ} {l : List ℕ} → drop i s ≡ b ∷ l → drop (i + 1) s ≡ l
-drop-tail i s e = rw add-one (tail i s e)
-  where
-    tail : (i : ℕ) (s : List ℕ) {b : ℕ} {l : List ℕ} → drop i s ≡ b ∷ l → drop (suc i) s ≡ l
-    tail zero [] e = cc
-    tail zero (x ∷ s) e = cc
-    tail (suc i) [] e = cc
-    tail (suc i) (x ∷ s) e = tail i s e
+next-tail : (i : ℕ) (s : List ℕ) {b : ℕ} {l : List ℕ} → drop i s ≡ b ∷ l → drop (i + 1) s ≡ l
+next-tail i s e = rw add-one (drop-tail i s e)
 
 drop-short : (i : ℕ) (s : List ℕ) {b : ℕ} {l : List ℕ} → drop i s ≡ b ∷ l → i < length s
 drop-short i s e = omega (arith, length-drop i s, ap length e)
@@ -102,7 +92,7 @@ module _ (ρ : ℕ) (x : List ℕ) (b j : ℕ) where
       let p : a ≡ b = cc in
       let q : i + 1 ≡ j = cc in
       let h = drop-short i x d in
-      (rw (p, ← q, drop-tail i x d), omega arith, omega arith)
+      (rw (p, ← q, next-tail i x d), omega arith, omega arith)
 
   freed : (i : ℕ) (l : List ℕ) → drop i x ≡ l → released l i ≡ Octet b j → (contentFrom ρ true l ≡ b ∷ content ρ (drop j x)) × (i < j) × (j ≤ length x)
   freed i [] d e = absurd (not-over e)
@@ -115,7 +105,7 @@ module _ (ρ : ℕ) (x : List ℕ) (b j : ℕ) where
       pick : (t : Bool) → cond t (released l (i + 1)) (Octet a (i + 1)) ≡ Octet b j →
           (cond t (contentFrom ρ true l) (a ∷ content ρ l) ≡ b ∷ content ρ (drop j x)) × (i < j) × (j ≤ length x)
       pick true e =
-          let w = freed (i + 1) l (drop-tail i x d) e in
+          let w = freed (i + 1) l (next-tail i x d) e in
           (w .0, omega arith, w .2)
       pick false e = kept i a l d e
 

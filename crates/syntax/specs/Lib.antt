@@ -1,3 +1,4 @@
+-- the definitions, in reading order
 pub mod Octets
 pub mod Service
 pub mod Repertoire
@@ -5,14 +6,16 @@ pub mod Cutting
 pub mod Content
 pub mod Segment
 pub mod Opening
-pub mod Example
 pub mod Tree
+pub mod Example
+-- the reader that the proofs go through
 pub mod Reader
+-- what is proved
 pub mod RepertoireLaws
 pub mod CuttingLaws
 pub mod ContentLaws
 pub mod SegmentLaws
+pub mod OpeningLaws
 pub mod TreeLaws
 pub mod ReaderLaws
-pub mod OpeningLaws
 pub mod BridgeLaws

@@ -84,11 +84,11 @@ filling-end {a} {e} {last} {i} {t} {u} g h =
 
 -- ---- a rule at each octet, by one test that antt computes
 
-and-l : (a b : Bool) → (a && b) ≡ true → a ≡ true
+pub and-l : (a b : Bool) → (a && b) ≡ true → a ≡ true
 and-l true b e = refl
 and-l false b e = e
 
-and-r : (a b : Bool) → (a && b) ≡ true → b ≡ true
+pub and-r : (a b : Bool) → (a && b) ≡ true → b ≡ true
 and-r true b e = e
 and-r false b e = cc
 

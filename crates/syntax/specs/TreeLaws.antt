@@ -34,7 +34,8 @@ pub and-both : (a b : Bool) → T a → T b → T (a && b)
 and-both true b h k = k
 and-both false b h k = absurd h
 
-off : (a : Bool) → T (not a) → a ≡ false
+-- a test that is not passed
+pub off : (a : Bool) → T (not a) → a ≡ false
 off true h = absurd h
 off false h = refl
 
