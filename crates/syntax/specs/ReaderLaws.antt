@@ -415,7 +415,7 @@ either false true h = inr refl
 either false false h = absurd h
 
 -- these octets are the printing of a well-formed segment with this tag
-abbrev Printed : Service → ℕ → ℕ → ℕ → List ℕ → Type 0
+abbrev pub Printed : Service → ℕ → ℕ → ℕ → List ℕ → Type 0
 Printed σ a b c s = (es : List Element) × T (well σ (segment a b c es ∷ [])) × (printS σ (segment a b c es) ≡ s)
 
 module _ (σ : Service) (fits : T (fit σ)) where
@@ -465,7 +465,7 @@ module _ (σ : Service) (fits : T (fit σ)) where
           by (x ∷ r) h l = let p : i ≡ e = place i e (rw k at h) in absurd (omega (arith, l, p))
 
   -- the octets up to the first unreleased terminator, where the tag is good, are a printed segment
-  first-there : (s : List ℕ) (e a b c : ℕ) → endAt σ s 0 ≡ At e → tagOf σ s ≡ Is a b c → Printed σ a b c (take (suc e) s)
+  pub first-there : (s : List ℕ) (e a b c : ℕ) → endAt σ s 0 ≡ At e → tagOf σ s ≡ Is a b c → Printed σ a b c (take (suc e) s)
   first-there s e a b c h t = split (tag-split σ s a b c t)
     where
       upto : (d : ℕ) (r : List ℕ) → T (tagOctet a && tagOctet b && tagOctet c) → T (eqb d (σ .element) || eqb d (σ .terminator))

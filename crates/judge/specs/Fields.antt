@@ -1,0 +1,72 @@
+-- What one pass over the pieces of a segment notes of it. Eight marks for an element: how many components its first repeat has, 1 if it
+-- repeats, and start and end of each of its first three components.
+use Prim.Native.Nat.{ℕ, suc, _+_, _*_, _-_, _≤_, _<_}
+use mathlib.Core.Path.{_≡_}
+use mathlib.Core.List.{List, []}
+use mathlib.Core.Bool.{Bool, false, cond, _||_}
+use lib.Dec.{eqb, leb, ltb}
+use lib.ListN.{length, getD, set}
+use Rattle.syntax.specs.Segment.{Piece, piecesAt, atElement, atComponent, components, repeats, elements, anyRepeats}
+use Rattle.syntax.specs.declared.Service.{Service}
+use Rattle.syntax.specs.declared.reading.Span.the-variants.{Part}
+
+-- what is left of a segment: nothing, or what is read from i
+abbrev pub rest : Service → List ℕ → Bool → ℕ → List Piece
+rest σ s ends i = cond ends [] (piecesAt σ s i)
+
+-- from i to behind its element
+pub record Passed (σ : Service) (s : List ℕ) (i : ℕ) (at : ℕ) (ends : Bool) (repeated : Bool) : Type 0 where
+  pub next : atElement 1 (piecesAt σ s i) ≡ rest σ s ends at
+  pub count : elements (piecesAt σ s i) ≡ cond ends 0 (suc (elements (rest σ s ends at)))
+  pub any : anyRepeats (piecesAt σ s i) ≡ (repeated || anyRepeats (rest σ s ends at))
+  pub on : ends ≡ false → (i < at) × (at ≤ length s)
+
+-- the marks of component n
+abbrev pub placed : List ℕ → ℕ → ℕ → ℕ → ℕ → List ℕ
+placed m b n x z = cond (ltb n 3) (set (set m (b + 2 + 2 * n) x) (b + 2 + 2 * n + 1) z) m
+
+-- the marks from b on tell of the element that starts with these pieces
+pub record Noted (ps : List Piece) (m : List ℕ) (b : ℕ) : Type 0 where
+  pub parts : getD m b 0 ≡ components ps
+  pub repeated : eqb (getD m (b + 1) 0) 1 ≡ repeats ps
+  pub spans : (c : ℕ) → c ≤ 2 → c < components ps → Part (getD m (b + 2 + 2 * c) 0) (getD m (b + 2 + 2 * c + 1) 0) ≡ atComponent c ps
+
+abbrev pub Kept : ℕ → List ℕ → List ℕ → Type 0
+Kept b m₀ m = (x : ℕ) → x < b → getD m x 0 ≡ getD m₀ x 0
+
+-- the element at i noted in the marks from b on; those below are as they were
+pub record Taken (σ : Service) (s : List ℕ) (i : ℕ) (at : ℕ) (ends : Bool) (repeated : Bool) (m₀ m : List ℕ) (b : ℕ) : Type 0 where
+  pub pass : Passed σ s i at ends repeated
+  pub long : length m ≡ 40
+  pub noted : Noted (piecesAt σ s i) m b
+  pub kept : Kept b m₀ m
+
+-- the same for the element with n before it, noted if it is one of the first five
+pub record TakenOne (σ : Service) (s : List ℕ) (i : ℕ) (at : ℕ) (ends : Bool) (repeated : Bool) (m₀ m : List ℕ) (n : ℕ) : Type 0 where
+  pub pass : Passed σ s i at ends repeated
+  pub long : length m ≡ 40
+  pub noted : n < 5 → Noted (piecesAt σ s i) m (8 * n)
+  pub kept : Kept (8 * n) m₀ m
+
+-- no element from n on below p; the marks below are as they were
+pub record Cleared (m₀ m : List ℕ) (n p : ℕ) : Type 0 where
+  pub room : length m ≡ 40
+  pub kept : Kept (8 * n) m₀ m
+  pub none : (k : ℕ) → n ≤ k → k < p → (getD m (8 * k) 0 ≡ 0) × (getD m (8 * k + 1) 0 ≡ 0)
+
+-- the marks tell of the first five elements after the tag
+pub record Marked (σ : Service) (s : List ℕ) (a : ℕ) (m : List ℕ) : Type 0 where
+  pub room : length m ≡ 40
+  pub each : (p : ℕ) → p < 5 → Noted (atElement (suc p) (piecesAt σ s a)) m (8 * p)
+
+pub record Fields (σ : Service) (s : List ℕ) (a : ℕ) (size : ℕ) (repeated : Bool) (m : List ℕ) : Type 0 where
+  pub sizes : size ≡ elements (piecesAt σ s a)
+  pub any : repeated ≡ anyRepeats (piecesAt σ s a)
+  pub marks : Marked σ s a m
+
+-- where component c of element p starts and ends by the marks; 0 and 0 if it is not there
+abbrev pub startIn : List ℕ → ℕ → ℕ → ℕ
+startIn m p c = cond (leb (getD m (8 * (p - 1)) 0) c) 0 (getD m (8 * (p - 1) + 2 + 2 * c) 0)
+
+abbrev pub endIn : List ℕ → ℕ → ℕ → ℕ
+endIn m p c = cond (leb (getD m (8 * (p - 1)) 0) c) 0 (getD m (8 * (p - 1) + 2 + 2 * c + 1) 0)
