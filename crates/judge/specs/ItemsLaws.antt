@@ -37,11 +37,11 @@ use Rattle.judge.specs.declared.steps.Moved.the-variants.{To, Bad}
 true-false : true ≡ false → ⊥
 true-false h = let w : _≡_ {A = ℕ} 0 1 = cc in omega arith
 
-not-true : (b : Bool) → not b ≡ true → b ≡ false
+pub not-true : (b : Bool) → not b ≡ true → b ≡ false
 not-true true h = cc
 not-true false h = refl
 
-not-false : (b : Bool) → not b ≡ false → b ≡ true
+pub not-false : (b : Bool) → not b ≡ false → b ≡ true
 not-false true h = refl
 not-false false h = cc
 

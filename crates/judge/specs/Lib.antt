@@ -20,3 +20,6 @@ pub mod FormedLaws
 pub mod RefsLaws
 pub mod ItemsLaws
 pub mod StepsLaws
+pub mod WalkingLaws
+pub mod BusyLaws
+pub mod RunLaws

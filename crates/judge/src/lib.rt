@@ -7,6 +7,7 @@ pub mod items;
 pub mod kept;
 pub mod order;
 pub mod refs;
+pub mod run;
 pub mod steps;
 pub mod walk;
 
