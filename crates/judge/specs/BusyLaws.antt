@@ -16,27 +16,27 @@ use Rattle.grammar.specs.Lists.{Snoc, any, among}
 use Rattle.grammar.specs.Segments.{Asked}
 use Rattle.grammar.specs.Elements.{formed, inRange, digits}
 use Rattle.grammar.specs.Loads.{loadIn, loadRight, controlRight}
-use Rattle.judge.specs.Kinds.{kindOf}
-use Rattle.judge.specs.Octets.{askedAt}
-use Rattle.judge.specs.Formed.{controlOf, formedBy}
-use Rattle.judge.specs.FormedLaws.{formed-by}
-use Rattle.judge.specs.Heads.{headSizes}
-use Rattle.judge.specs.HeadsLaws.{small-more}
-use Rattle.judge.specs.Refs.{refsIn}
-use Rattle.judge.specs.Summary.{Summary, StateS, busyS, orderS, refsK, countsK, scopeK, scopeIn, isFound, freeAt, bump, atStart, atIdle, atBusy, mayCome, usrMay, usaGroup, uscGroup, grown, grownBy, ushNext, usrNext, ustNext, itemNext, loaded, busyNext, AnswerS, readS, refusedS}
-use Rattle.judge.specs.Steps.{AnswerM, toM, badM, ustM, stepM, summaryIn, Roomy, MovedIs}
-use Rattle.judge.specs.StepsLaws.{ust-digits, moved-to, roomy-small, roomy-grown}
-use Rattle.judge.specs.ItemsLaws.{cnt-tag, not-true, not-false}
+use Rattle.elements.specs.Kinds.{kindOf}
+use Rattle.elements.specs.Octets.{askedAt}
+use Rattle.elements.specs.Formed.{controlOf, formedBy}
+use Rattle.elements.specs.FormedLaws.{formed-by}
+use Rattle.message.specs.Heads.{headSizes}
+use Rattle.message.specs.HeadsLaws.{small-more}
+use Rattle.references.specs.Refs.{refsIn}
+use Rattle.message.specs.Summary.{Summary, StateS, busyS, orderS, refsK, countsK, scopeK, scopeIn, isFound, freeAt, bump, atStart, atIdle, atBusy, mayCome, usrMay, usaGroup, uscGroup, grown, grownBy, ushNext, usrNext, ustNext, itemNext, loaded, busyNext, AnswerS, readS, refusedS}
+use Rattle.message.specs.Steps.{AnswerM, toM, badM, ustM, stepM, summaryIn, Roomy, MovedIs}
+use Rattle.message.specs.StepsLaws.{ust-digits, moved-to, roomy-small, roomy-grown}
+use Rattle.message.specs.ItemsLaws.{cnt-tag, not-true, not-false}
 use Rattle.judge.specs.WalkingLaws.{free-load, at-7, at-8, stop}
 use Rattle.judge.specs.Held.{phased, stateIn, openSize, Held, Ready, decidedFrom, StepIs}
-use Rattle.judge.specs.declared.Kind.{Kind}
-use Rattle.judge.specs.declared.Kind.the-variants.{Unb, Unh, Unt, Unz, Ush, Usa, Usc, Usr, Ust, Usb, Usx, Usy, Reserved, Qty, Cnt, Other}
-use Rattle.judge.specs.declared.Group.{Group}
-use Rattle.judge.specs.declared.Group.the-variants.{Opened, Header, Certificate, Body, Ack, Trailer}
-use Rattle.judge.specs.declared.Message.{Message}
-use Rattle.judge.specs.declared.fields.Shape.{Shape}
-use Rattle.judge.specs.declared.steps.Moved.{Moved}
-use Rattle.judge.specs.declared.steps.Moved.the-variants.{To, Bad}
+use Rattle.elements.specs.declared.Kind.{Kind}
+use Rattle.elements.specs.declared.Kind.the-variants.{Unb, Unh, Unt, Unz, Ush, Usa, Usc, Usr, Ust, Usb, Usx, Usy, Reserved, Qty, Cnt, Other}
+use Rattle.message.specs.declared.Group.{Group}
+use Rattle.message.specs.declared.Group.the-variants.{Opened, Header, Certificate, Body, Ack, Trailer}
+use Rattle.message.specs.declared.Message.{Message}
+use Rattle.elements.specs.declared.fields.Shape.{Shape}
+use Rattle.message.specs.declared.steps.Moved.{Moved}
+use Rattle.message.specs.declared.steps.Moved.the-variants.{To, Bad}
 use Rattle.judge.specs.declared.walk.Phase.{Phase}
 use Rattle.judge.specs.declared.walk.Phase.the-variants.{Start, Idle, Busy, Done}
 use Rattle.judge.specs.declared.walk.State.{State}

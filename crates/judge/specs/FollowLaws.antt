@@ -20,12 +20,12 @@ use Rattle.grammar.specs.Placing.{growNamed, grow, place, inOpen, inBody, itemB
 use Rattle.grammar.specs.PlacingLaws.{same-eq}
 use Rattle.grammar.specs.Verdict.{tested, on, foundAt, tests, refused, decided}
 use Rattle.grammar.specs.Running.{Good}
-use Rattle.judge.specs.Kinds.{ofName, ofKind, kindOf}
-use Rattle.judge.specs.declared.Kind.{Kind}
-use Rattle.judge.specs.declared.Kind.the-variants.{Unb, Unh, Unt, Unz, Ush, Usa, Usc, Usr, Ust, Usb, Usx, Usy, Reserved, Qty, Cnt, Other}
-use Rattle.judge.specs.declared.Sums.{Sums}
-use Rattle.judge.specs.Summary.{groupOf, sumsOf, summaryOf, flagsOf, StateS, busyS, stateOf, atHeads, atItems, closes, orderK, isFound, freeAt, refsK, countsK, scopeIn, scopeK, ustNext, itemNext, loaded, controlled, nextK, orderS, refsS, countsS, scopeS, nextS, AnswerS, refusedS, testsS, decidedS, told}
-use Rattle.judge.specs.FlagLaws.{alike, size-each, any-each, any-size, load-sums, control-sums, totals, evens, all-named, Spot, no, yes, spot}
+use Rattle.elements.specs.Kinds.{ofName, ofKind, kindOf}
+use Rattle.elements.specs.declared.Kind.{Kind}
+use Rattle.elements.specs.declared.Kind.the-variants.{Unb, Unh, Unt, Unz, Ush, Usa, Usc, Usr, Ust, Usb, Usx, Usy, Reserved, Qty, Cnt, Other}
+use Rattle.message.specs.declared.Sums.{Sums}
+use Rattle.message.specs.Summary.{groupOf, sumsOf, summaryOf, flagsOf, StateS, busyS, stateOf, atHeads, atItems, closes, orderK, isFound, freeAt, refsK, countsK, scopeIn, scopeK, ustNext, itemNext, loaded, controlled, nextK, orderS, refsS, countsS, scopeS, nextS, AnswerS, refusedS, testsS, decidedS, told}
+use Rattle.message.specs.FlagLaws.{alike, size-each, any-each, any-size, load-sums, control-sums, totals, evens, all-named, Spot, no, yes, spot}
 
 -- ---- what is to be shown of a segment of the kind k whose view is a: where it has no place, 7 is broken; where it has one, each test answers as its
 -- rule does, given the rules before it, and the step gives what is kept of the result

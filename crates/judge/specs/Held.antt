@@ -20,14 +20,14 @@ use Rattle.grammar.specs.Lists.{Snoc}
 use Rattle.grammar.specs.Elements.{formed}
 use Rattle.grammar.specs.Loads.{loadRight}
 use Rattle.grammar.specs.Verdict.{Test, tested, Answer, concluded, numbers}
-use Rattle.judge.specs.Kinds.{kindOf}
-use Rattle.judge.specs.Summary.{Summary, StateS, startS, idleS, busyS, doneS, orderS, refsS, countsS, scopeS, nextS, AnswerS, readS, refusedS, decidedS}
-use Rattle.judge.specs.Steps.{summaryIn, Roomy}
-use Rattle.judge.specs.Refs.{refsIn, Chained}
-use Rattle.judge.specs.Fields.{Fields}
-use Rattle.judge.specs.Formed.{looked}
-use Rattle.judge.specs.declared.fields.Shape.{Shape}
-use Rattle.judge.specs.declared.Message.{Message}
+use Rattle.elements.specs.Kinds.{kindOf}
+use Rattle.message.specs.Summary.{Summary, StateS, startS, idleS, busyS, doneS, orderS, refsS, countsS, scopeS, nextS, AnswerS, readS, refusedS, decidedS}
+use Rattle.message.specs.Steps.{summaryIn, Roomy}
+use Rattle.references.specs.Refs.{refsIn, Chained}
+use Rattle.elements.specs.Fields.{Fields}
+use Rattle.elements.specs.Formed.{looked}
+use Rattle.elements.specs.declared.fields.Shape.{Shape}
+use Rattle.message.specs.declared.Message.{Message}
 use Rattle.judge.specs.declared.walk.Phase.{Phase}
 use Rattle.judge.specs.declared.walk.Phase.the-variants.{Start, Idle, Busy, Done}
 use Rattle.judge.specs.declared.walk.State.{State}
@@ -35,7 +35,7 @@ use Rattle.judge.specs.declared.walk.Step.{Step}
 use Rattle.judge.specs.declared.walk.Step.the-variants.{On, Stop}
 use Rattle.judge.specs.declared.walk.Verdict.{Verdict}
 use Rattle.judge.specs.declared.walk.Verdict.the-variants.{Accepted, Refused}
-use Rattle.judge.specs.declared.Kind.{Kind}
+use Rattle.elements.specs.declared.Kind.{Kind}
 use Rattle.judge.specs.declared.walk.Looked.{Looked}
 use Rattle.judge.specs.declared.walk.Looked.the-variants.{Seen, Bad}
 

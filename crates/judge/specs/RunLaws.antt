@@ -39,16 +39,16 @@ use Rattle.grammar.specs.WalkLaws.{step-passed}
 use Rattle.grammar.specs.StartLaws.{start-read}
 use Rattle.grammar.specs.Verdict.{Answer, read, refused, tests, decided, then, atEnd, unless-done, walk, concluded, numbers, verdictOf, verdictBy, unaAt}
 use Rattle.grammar.specs.Valid.{Una}
-use Rattle.judge.specs.Kinds.{kindOf}
-use Rattle.judge.specs.Octets.{askedAt}
-use Rattle.judge.specs.Refs.{refsIn, Chained}
-use Rattle.judge.specs.RefsLaws.{chained-none}
-use Rattle.judge.specs.Steps.{summaryIn}
-use Rattle.judge.specs.Summary.{Summary, StateS, startS, idleS, busyS, doneS, stateOf, AnswerS, told, fresh}
+use Rattle.elements.specs.Kinds.{kindOf}
+use Rattle.elements.specs.Octets.{askedAt}
+use Rattle.references.specs.Refs.{refsIn, Chained}
+use Rattle.references.specs.RefsLaws.{chained-none}
+use Rattle.message.specs.Steps.{summaryIn}
+use Rattle.message.specs.Summary.{Summary, StateS, startS, idleS, busyS, doneS, stateOf, AnswerS, told, fresh}
 use Rattle.judge.specs.FollowLaws.{follow}
 use Rattle.judge.specs.TurnLaws.{Turned, walk-over, walk-none, walk-bad, walk-turn, cut-open, cut-ends, cut-spoilt, turned-inside, turned-three}
 use Rattle.judge.specs.Held.{lookedAt, seenBy, phased, stateIn, Held, decidedFrom, StepIs, walked}
-use Rattle.judge.specs.declared.Kind.{Kind}
+use Rattle.elements.specs.declared.Kind.{Kind}
 use Rattle.judge.specs.declared.walk.Phase.{Phase}
 use Rattle.judge.specs.declared.walk.Phase.the-variants.{Start, Idle, Busy, Done}
 use Rattle.judge.specs.declared.walk.State.{State}

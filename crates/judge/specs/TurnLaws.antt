@@ -31,7 +31,7 @@ use Rattle.grammar.specs.Interchange.{Reading}
 use Rattle.grammar.specs.Rules.{insideS}
 use Rattle.grammar.specs.Placing.{place}
 use Rattle.grammar.specs.Verdict.{refused, foundAt, tests, decided, then, atEnd, unless-done, tagged-or, walk}
-use Rattle.judge.specs.Octets.{textAt, partsAt, repeatedAt, askedAt}
+use Rattle.elements.specs.Octets.{textAt, partsAt, repeatedAt, askedAt}
 
 -- ---- what the octets of a segment answer is what the segment answers
 

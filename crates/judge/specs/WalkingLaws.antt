@@ -19,27 +19,27 @@ use Rattle.grammar.specs.Elements.{inRange, digits, formed}
 use Rattle.grammar.specs.Loads.{loadRight}
 use Rattle.grammar.specs.Verdict.{tested}
 use Rattle.grammar.specs.PlacingLaws.{same-eq}
-use Rattle.judge.specs.Kinds.{kindOf}
-use Rattle.judge.specs.Octets.{textAt, askedAt}
-use Rattle.judge.specs.Fields.{Marked, startIn, endIn}
-use Rattle.judge.specs.Formed.{formedBy}
-use Rattle.judge.specs.FormedLaws.{and-stop, and-go, formed-by}
-use Rattle.judge.specs.Refs.{refsIn, Chained}
-use Rattle.judge.specs.Heads.{headFlags}
-use Rattle.judge.specs.Summary.{Summary, StateS, startS, idleS, busyS, atStart, atIdle, atBusy, mayCome, allNamed, evenAll, totalRight, numberIn, orderK, refsK, countsK, scopeK, nextK, orderS, refsS, countsS, scopeS, nextS, opened, fresh, AnswerS, readS, refusedS, decidedS}
-use Rattle.judge.specs.Steps.{summaryIn, Roomy}
-use Rattle.judge.specs.StepsLaws.{marked-between, marked-ends, unt-digits, unz-digits}
+use Rattle.elements.specs.Kinds.{kindOf}
+use Rattle.elements.specs.Octets.{textAt, askedAt}
+use Rattle.elements.specs.Fields.{Marked, startIn, endIn}
+use Rattle.elements.specs.Formed.{formedBy}
+use Rattle.elements.specs.FormedLaws.{and-stop, and-go, formed-by}
+use Rattle.references.specs.Refs.{refsIn, Chained}
+use Rattle.message.specs.Heads.{headFlags}
+use Rattle.message.specs.Summary.{Summary, StateS, startS, idleS, busyS, atStart, atIdle, atBusy, mayCome, allNamed, evenAll, totalRight, numberIn, orderK, refsK, countsK, scopeK, nextK, orderS, refsS, countsS, scopeS, nextS, opened, fresh, AnswerS, readS, refusedS, decidedS}
+use Rattle.message.specs.Steps.{summaryIn, Roomy}
+use Rattle.message.specs.StepsLaws.{marked-between, marked-ends, unt-digits, unz-digits}
 use Rattle.judge.specs.Held.{phased, stateIn, openSize, Held, decidedFrom, StepIs, Ready}
-use Rattle.judge.specs.ItemsLaws.{not-true, not-false}
-use Rattle.judge.specs.declared.fields.Shape.{Shape}
-use Rattle.judge.specs.declared.Message.{Message}
+use Rattle.message.specs.ItemsLaws.{not-true, not-false}
+use Rattle.elements.specs.declared.fields.Shape.{Shape}
+use Rattle.message.specs.declared.Message.{Message}
 use Rattle.judge.specs.declared.walk.Phase.{Phase}
 use Rattle.judge.specs.declared.walk.Phase.the-variants.{Start, Idle, Busy, Done}
 use Rattle.judge.specs.declared.walk.State.{State}
 use Rattle.judge.specs.declared.walk.Step.{Step}
 use Rattle.judge.specs.declared.walk.Step.the-variants.{On, Stop}
-use Rattle.judge.specs.declared.Kind.{Kind}
-use Rattle.judge.specs.declared.Kind.the-variants.{Unb, Unh, Unt, Unz, Qty}
+use Rattle.elements.specs.declared.Kind.{Kind}
+use Rattle.elements.specs.declared.Kind.the-variants.{Unb, Unh, Unt, Unz, Qty}
 
 -- ---- the tests of a state, by the kind
 

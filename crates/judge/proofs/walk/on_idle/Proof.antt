@@ -1,6 +1,6 @@
 use mathlib.Core.Logic.{⊎-elim}
 use borrow.Enum.Known.{lives-at}
-use Rattle.judge.proofs.Kind.{enum}
+use Rattle.elements.proofs.Kind.{enum}
 use Rattle.judge.specs.BusyLaws.{ready-at, idle-7}
 use borrow.Author.Needs.{needs}
 use Rattle.judge.proofs.walk.on_idle.Statement.{statement}

@@ -6,7 +6,7 @@ use Rattle.judge.proofs.walk.seen.Statement.{statement}
 use Rattle.judge.proofs.walk.seen.Tie as tie
 use Rattle.judge.proofs.walk.seen.Reads as reads
 use Rattle.judge.proofs.walk.seen.Lts as lts
-use Rattle.judge.proofs.kind_of.Reads as kind-of-reads
+use Rattle.elements.proofs.kind_of.Reads as kind-of-reads
 use Rattle.judge.proofs.walk.unseen.Reads as unseen-reads
 
 -- src/walk.rt:72:19

@@ -1,9 +1,9 @@
 use mathlib.Core.Path.{refl, sym, _∙_}
-use Rattle.judge.specs.Octets.{askedAt}
-use Rattle.judge.specs.StepsLaws.{ush-room}
+use Rattle.elements.specs.Octets.{askedAt}
+use Rattle.message.specs.StepsLaws.{ush-room}
 use Rattle.judge.specs.BusyLaws.{may-to, ust-count, cnt-right, step-arm, usa-arm, usc-arm, usx-arm}
-use Rattle.judge.specs.declared.Kind.the-variants.{Unb, Unh, Unt, Unz, Ush, Usa, Usc, Usr, Ust, Usb, Usx, Usy, Reserved, Qty, Cnt, Other}
-use Rattle.judge.specs.declared.steps.Moved.the-variants.{Bad}
+use Rattle.elements.specs.declared.Kind.the-variants.{Unb, Unh, Unt, Unz, Ush, Usa, Usc, Usr, Ust, Usb, Usx, Usy, Reserved, Qty, Cnt, Other}
+use Rattle.message.specs.declared.steps.Moved.the-variants.{Bad}
 use borrow.Author.Needs.{needs}
 use Rattle.judge.proofs.walk.step_in.Statement.{statement}
 use Rattle.judge.proofs.walk.step_in.Tie as tie

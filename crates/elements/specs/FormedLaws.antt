@@ -1,0 +1,250 @@
+-- Checked elements: from what the code asks, one test after the other, to what the grammar says.
+use Prim.Native.Nat.{ℕ, zero, suc, _≤_, _<_}
+use native.Mathlib.Omega.{arith}
+use mathlib.Core.Path.{_≡_, refl, ap, sym, _∙_}
+use mathlib.Core.Bool.{Bool, true, false, cond, not, _&&_, false≢true}
+use mathlib.Core.List.{List, [], _∷_}
+use mathlib.Core.Option.{Option}
+use borrow.Author.Tests.{le-leb, lt-leb, eq-eqb, ne-eqb}
+use lib.Dec.{leb}
+use lib.ListN.{length}
+use Rattle.syntax.specs.Octets.{octets, same, within}
+use Rattle.syntax.specs.Content.{content, allDigits}
+use Rattle.syntax.specs.Segment.{piecesAt, atElement, componentAt, partOf, components, repeats, anyRepeats}
+use Rattle.syntax.specs.declared.Service.{Service}
+use Rattle.syntax.specs.declared.Version.{Version}
+use Rattle.grammar.specs.Segments as named
+use Rattle.grammar.specs.Segments.{Named, Free, Asked, kindIn, tags}
+use Rattle.grammar.specs.Loads.{Shape, shape, amountRight, grams, unit, threePart, controlUnit, controlBy}
+use Rattle.grammar.specs.Elements.{Range, text, digits, closed, composite, inRange, formedAs, formed, formedKind}
+use Rattle.grammar.specs.PlacingLaws.{same-eq}
+use Rattle.elements.specs.Octets.{textAt, partsAt, repeatedAt, askedAt}
+use Rattle.elements.specs.Kinds.{ofKind, kindOf}
+use Rattle.elements.specs.Fields.{Fields}
+use Rattle.elements.specs.Amounts.{amountIs, unitIs}
+use Rattle.elements.specs.AmountsLaws.{amount-grams, amount-bad, unit-of, unit-unknown, unit-fits}
+use Rattle.elements.specs.Formed.{controlOf, formedBy, looked}
+use Rattle.elements.specs.declared.amounts.Form.{Form}
+use Rattle.elements.specs.declared.amounts.Amount.{Amount}
+use Rattle.elements.specs.declared.amounts.Amount.the-variants.{Grams, Bad}
+use Rattle.elements.specs.declared.amounts.Unit as amounts
+use Rattle.elements.specs.declared.amounts.Unit.the-variants.{Of, Unknown}
+use Rattle.elements.specs.declared.Kind.{Kind}
+use Rattle.elements.specs.declared.Kind.the-variants.{Unb, Unh, Unt, Unz, Ush, Usa, Usc, Usr, Ust, Usb, Usx, Usy, Reserved, Qty, Cnt, Other}
+
+-- ---- one test after the other
+
+module _ {r a : Bool} (e : r ≡ a) where
+  pub and-stop : (b : Bool) → r ≡ false → false ≡ (a && b)
+  and-stop b f = rw (← e, f)
+
+  pub and-go : {b q : Bool} → r ≡ true → q ≡ b → q ≡ (a && b)
+  and-go t g = rw (← e, t) g
+
+  pub and-end : r ≡ (a && true)
+  and-end = e ∙ last a
+    where
+      last : (a : Bool) → a ≡ (a && true)
+      last true = refl
+      last false = refl
+
+  pub not-stop : (b : Bool) → r ≡ true → false ≡ (not a && b)
+  not-stop b t = rw (← e, t)
+
+  pub not-go : {b q : Bool} → r ≡ false → q ≡ b → q ≡ (not a && b)
+  not-go f g = rw (← e, f) g
+
+-- n not repeated, x what the first component is: y besides
+first-no : (n x y : Bool) → (n && (x && true)) ≡ false → (n && (x && y)) ≡ false
+first-no true true y h = absurd (false≢true (sym h))
+first-no true false y h = refl
+first-no false x y h = refl
+
+first-so : (n x : Bool) {y : Bool} → (n && (x && true)) ≡ true → (n && (x && y)) ≡ y
+first-so true true h = refl
+first-so true false h = absurd (false≢true h)
+first-so false x h = absurd (false≢true h)
+
+-- w its length, z how many components: d, that it is digits, besides
+digits-no : (n d w z : Bool) → ((n && (w && true)) && z) ≡ false → ((n && ((d && w) && true)) && z) ≡ false
+digits-no true true w z h = h
+digits-no true false w z h = refl
+digits-no false d w z h = refl
+
+digits-so : (n d w z : Bool) → ((n && (w && true)) && z) ≡ true → ((n && ((d && w) && true)) && z) ≡ d
+digits-so true true w z h = h
+digits-so true false w z h = refl
+digits-so false d w z h = absurd (false≢true h)
+
+module _ (a : Asked) (p : ℕ) where
+  module _ (k : Range) {r : Bool} (e : r ≡ formedAs (composite (k ∷ [])) a p) where
+    -- a further component
+    pub more-stop : (j : Range) → r ≡ false → false ≡ formedAs (composite (k ∷ j ∷ [])) a p
+    more-stop j f = sym (first-no (not (a .repeated p)) (inRange k (a .text p 0)) _ (sym e ∙ f))
+
+    pub more-go : (j : Range) {q : Bool} → r ≡ true → q ≡ inRange j (a .text p 1) → q ≡ formedAs (composite (k ∷ j ∷ [])) a p
+    more-go j t g = and-end g ∙ sym (first-so (not (a .repeated p)) (inRange k (a .text p 0)) (sym e ∙ t))
+
+  -- digits
+  module _ (least most : ℕ) {r : Bool} (e : r ≡ formedAs (closed (text least most ∷ [])) a p) where
+    pub digits-stop : r ≡ false → false ≡ formedAs (closed (digits least most ∷ [])) a p
+    digits-stop f = sym (digits-no (not (a .repeated p)) (allDigits (a .text p 0)) (within least most (length (a .text p 0))) (leb (a .parts p) 1) (sym e ∙ f))
+
+    pub digits-go : {q : Bool} → r ≡ true → q ≡ allDigits (a .text p 0) → q ≡ formedAs (closed (digits least most ∷ [])) a p
+    digits-go t g = g ∙ sym (digits-so (not (a .repeated p)) (allDigits (a .text p 0)) (within least most (length (a .text p 0))) (leb (a .parts p) 1) (sym e ∙ t))
+
+-- ---- what is asked at a position from 1 on
+
+module _ (σ : Service) (s : List ℕ) (a : ℕ) where
+  pub text-at : (p c : ℕ) → 1 ≤ p → textAt σ s a p c ≡ content (σ .release) (partOf s (componentAt σ s a p c))
+  text-at zero c l = absurd (omega (arith, l))
+  text-at (suc p) c l = refl
+
+  pub parts-at : (p : ℕ) → 1 ≤ p → partsAt σ s a p ≡ components (atElement p (piecesAt σ s a))
+  parts-at zero l = absurd (omega (arith, l))
+  parts-at (suc p) l = refl
+
+  pub repeated-at : (p : ℕ) → 1 ≤ p → repeatedAt σ s a p ≡ repeats (atElement p (piecesAt σ s a))
+  repeated-at zero l = absurd (omega (arith, l))
+  repeated-at (suc p) l = refl
+
+  -- what was read of it
+  module _ (p c : ℕ) (l : 1 ≤ p) {x : List ℕ} (e : x ≡ partOf s (componentAt σ s a p c)) where
+    pub text-read : content (σ .release) x ≡ textAt σ s a p c
+    text-read = ap (content (σ .release)) e ∙ sym (text-at p c l)
+
+    pub digits-read : {r : Bool} → r ≡ allDigits (content (σ .release) x) → r ≡ allDigits (textAt σ s a p c)
+    digits-read q = q ∙ ap allDigits text-read
+
+    module _ {n : ℕ} (q : n ≡ length (content (σ .release) x)) (least most : ℕ) where
+      size-read : n ≡ length (textAt σ s a p c)
+      size-read = q ∙ ap length text-read
+
+      pub text-few : n < least → false ≡ within least most (length (textAt σ s a p c))
+      text-few h = sym (ap (within least most) (sym size-read) ∙ rw (lt-leb least n h))
+
+      pub text-fits : least ≤ n → leb n most ≡ within least most (length (textAt σ s a p c))
+      text-fits h = sym (ap (within least most) (sym size-read) ∙ rw (le-leb least n h))
+
+-- two components of digits of as many as the version says
+pub date-is : {n m : ℕ} → n ≡ m → (a : Asked) {r : Bool} → r ≡ formedAs (composite (digits n n ∷ digits 4 4 ∷ [])) a 4 →
+    r ≡ formedAs (composite (digits m m ∷ digits 4 4 ∷ [])) a 4
+date-is e a q = q ∙ ap (λ (k : ℕ). formedAs (composite (digits k k ∷ digits 4 4 ∷ [])) a 4) e
+
+-- ---- the amount of a CNT
+
+module _ (σ : Service) (s : List ℕ) (a : ℕ) {x : List ℕ} (e : x ≡ partOf s (componentAt σ s a 1 2))
+    {r : amounts.Unit} (u : r ≡ unitIs (unit (content (σ .release) x) (shape 12 3) (shape 9 6))) where
+  unit-read : {o : Option Shape} → unit (content (σ .release) x) (shape 12 3) (shape 9 6) ≡ o → controlUnit (textAt σ s a 1 2) ≡ o
+  unit-read q = ap (λ (t : List ℕ). unit (content (σ .release) t) (shape 12 3) (shape 9 6)) (sym e) ∙ q
+
+  pub control-none : r ≡ Unknown → false ≡ controlBy (controlUnit (textAt σ s a 1 2)) (textAt σ s a 1 1)
+  control-none h = sym (ap (λ (o : Option Shape). controlBy o (textAt σ s a 1 1)) (unit-read (unit-unknown (content (σ .release) x) 12 9 u h)))
+
+  module _ {f : Form} (h : r ≡ Of f) where
+    pub control-fits : (f .whole ≤ 12) × (f .decimals ≤ 6)
+    control-fits = unit-fits (content (σ .release) x) 12 9 u (omega arith, omega arith) h
+
+    module _ {z : List ℕ} (g : z ≡ partOf s (componentAt σ s a 1 1)) {q : Amount}
+        (m : q ≡ amountIs (amountRight (shape (f .whole) (f .decimals)) (content (σ .release) z)) (grams (shape (f .whole) (f .decimals)) (content (σ .release) z))) where
+      amount-read : {b : Bool} → amountRight (shape (f .whole) (f .decimals)) (content (σ .release) z) ≡ b →
+          b ≡ controlBy (controlUnit (textAt σ s a 1 2)) (textAt σ s a 1 1)
+      amount-read k =
+          sym (ap (λ (o : Option Shape). controlBy o (textAt σ s a 1 1)) (unit-read (unit-of (content (σ .release) x) 12 9 u h))
+          ∙ ap (λ (t : List ℕ). amountRight (shape (f .whole) (f .decimals)) (content (σ .release) t)) (sym g)
+          ∙ k)
+
+      pub control-right : {n : ℕ} → q ≡ Grams n → true ≡ controlBy (controlUnit (textAt σ s a 1 2)) (textAt σ s a 1 1)
+      control-right k = amount-read (amount-grams (f .whole) (f .decimals) (content (σ .release) z) m k .0)
+
+      pub control-wrong : q ≡ Bad → false ≡ controlBy (controlUnit (textAt σ s a 1 2)) (textAt σ s a 1 1)
+      control-wrong k = amount-read (amount-bad (f .whole) (f .decimals) (content (σ .release) z) m k)
+
+-- ---- a CNT
+
+module _ (σ : Service) (s : List ℕ) (a : ℕ) {size : ℕ} {again : Bool} {m : List ℕ} (g : Fields σ s a size again m) where
+  pub cnt-repeats : again ≡ true → false ≡ (not (anyRepeats (piecesAt σ s a)) && controlOf (askedAt σ s a))
+  cnt-repeats h = not-stop (g .any) _ h
+
+  module _ (h : again ≡ false) {x : List ℕ} (e : x ≡ partOf s (componentAt σ s a 1 0)) {b : Bool} (q : b ≡ same (content (σ .release) x) (octets "1")) where
+    one-read : same (textAt σ s a 1 0) (octets "1") ≡ b
+    one-read = ap (λ (t : List ℕ). same (content (σ .release) t) (octets "1")) (sym e) ∙ sym q
+
+    pub cnt-free : b ≡ false → true ≡ (not (anyRepeats (piecesAt σ s a)) && controlOf (askedAt σ s a))
+    cnt-free t = not-go (g .any) h (sym (ap (λ (o : Bool). cond o (threePart (askedAt σ s a) && controlBy (controlUnit (textAt σ s a 1 2)) (textAt σ s a 1 1)) true) (one-read ∙ t)))
+
+    module _ (t : b ≡ true) where
+      one-go : {r : Bool} → r ≡ (threePart (askedAt σ s a) && controlBy (controlUnit (textAt σ s a 1 2)) (textAt σ s a 1 1)) →
+          r ≡ (not (anyRepeats (piecesAt σ s a)) && controlOf (askedAt σ s a))
+      one-go k =
+          not-go (g .any) h
+          (k ∙ sym (ap (λ (o : Bool). cond o (threePart (askedAt σ s a) && controlBy (controlUnit (textAt σ s a 1 2)) (textAt σ s a 1 1)) true) (one-read ∙ t)))
+
+      pub cnt-size : (size ≡ 1 → ⊥) → false ≡ (not (anyRepeats (piecesAt σ s a)) && controlOf (askedAt σ s a))
+      cnt-size o = one-go (rw (← g .sizes, ne-eqb size 1 o))
+
+      module _ (o : size ≡ 1) {n : ℕ} (w : n ≡ components (atElement 1 (piecesAt σ s a))) where
+        pub cnt-parts : (n ≡ 3 → ⊥) → false ≡ (not (anyRepeats (piecesAt σ s a)) && controlOf (askedAt σ s a))
+        cnt-parts k = one-go (rw (← g .sizes, eq-eqb size 1 o, ← w, ne-eqb n 3 k))
+
+        pub cnt-amount : n ≡ 3 → {r : Bool} → r ≡ controlBy (controlUnit (textAt σ s a 1 2)) (textAt σ s a 1 1) →
+            r ≡ (not (anyRepeats (piecesAt σ s a)) && controlOf (askedAt σ s a))
+        cnt-amount k v = one-go (rw (← g .sizes, eq-eqb size 1 o, ← w, eq-eqb n 3 k) v)
+
+-- ---- by the code's kinds
+
+counted-kind : (v : Version) (a : Asked) (q c : Bool) → same (a .tag) (octets "QTY") ≡ q → same (a .tag) (octets "CNT") ≡ c →
+    formedKind v Free a ≡ formedBy v (ofKind Free (a .tag)) a
+counted-kind v a true true e f = absurd (false≢true (sym (ap (λ (t : List ℕ). same t (octets "CNT")) (same-eq (a .tag) (octets "QTY") (rw e tt))) ∙ f))
+counted-kind v a true false e f = rw (e, f) (last (not (a .anyRepeated)))
+  where
+    last : (b : Bool) → (b && true) ≡ b
+    last true = refl
+    last false = refl
+counted-kind v a false true e f = rw (e, f)
+counted-kind v a false false e f = rw (e, f)
+
+kind-by : (v : Version) (k : named.Kind) (a : Asked) → formedKind v k a ≡ formedBy v (ofKind k (a .tag)) a
+kind-by v (Named named.Unb) a = refl
+kind-by v (Named named.Unh) a = refl
+kind-by v (Named named.Unt) a = refl
+kind-by v (Named named.Unz) a = refl
+kind-by v (Named named.Ush) a = refl
+kind-by v (Named named.Usa) a = refl
+kind-by v (Named named.Usc) a = refl
+kind-by v (Named named.Usr) a = refl
+kind-by v (Named named.Ust) a = refl
+kind-by v (Named named.Usb) a = refl
+kind-by v (Named named.Usx) a = refl
+kind-by v (Named named.Usy) a = refl
+kind-by v named.Reserved a = refl
+kind-by v Free a = counted-kind v a (same (a .tag) (octets "QTY")) (same (a .tag) (octets "CNT")) refl refl
+
+pub formed-by : (v : Version) (a : Asked) → formed v a ≡ formedBy v (kindOf (a .tag)) a
+formed-by v a = kind-by v (kindIn tags (a .tag)) a
+
+-- an arm of a match on the kind
+pub formed-at : (v : Version) (a : Asked) {k : Kind} → k ≡ kindOf (a .tag) → (j : Kind) → k ≡ j → {r : Bool} → r ≡ formedBy v j a → r ≡ formed v a
+formed-at v a e j f g = g ∙ ap (λ (x : Kind). formedBy v x a) (sym f ∙ e) ∙ sym (formed-by v a)
+
+-- nothing is checked of a segment of another kind
+free-by : (v : Version) (k : Kind) (a : Asked) → looked k ≡ false → formedBy v k a ≡ true
+free-by v Unb a h = absurd (false≢true (sym h))
+free-by v Unh a h = absurd (false≢true (sym h))
+free-by v Unt a h = absurd (false≢true (sym h))
+free-by v Unz a h = absurd (false≢true (sym h))
+free-by v Ush a h = absurd (false≢true (sym h))
+free-by v Usa a h = refl
+free-by v Usc a h = refl
+free-by v Usr a h = absurd (false≢true (sym h))
+free-by v Ust a h = absurd (false≢true (sym h))
+free-by v Usb a h = absurd (false≢true (sym h))
+free-by v Usx a h = absurd (false≢true (sym h))
+free-by v Usy a h = absurd (false≢true (sym h))
+free-by v Reserved a h = refl
+free-by v Qty a h = absurd (false≢true (sym h))
+free-by v Cnt a h = absurd (false≢true (sym h))
+free-by v Other a h = refl
+
+pub formed-free : (v : Version) (a : Asked) {k : Kind} → k ≡ kindOf (a .tag) → looked k ≡ false → formed v a ≡ true
+formed-free v a {k} e h = formed-by v a ∙ ap (λ (x : Kind). formedBy v x a) (sym e) ∙ free-by v k a h

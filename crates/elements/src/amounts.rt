@@ -1,0 +1,149 @@
+// Amounts: digits, optionally a mark and digits, in whole grams.
+use syntax::content::Next;
+use syntax::content::content_is;
+use syntax::content::next_octet;
+ghost use mathlib.Core.Path.{_≡_};
+ghost use Prim.Native.Nat.{_≤_, _<_, _*_};
+ghost use lib.ListN.{drop};
+ghost use Rattle.syntax.specs.Content.{content};
+ghost use Rattle.grammar.specs.Loads.{shape, mark, tens, amountRight, grams};
+ghost use Rattle.grammar.specs.Loads as loads;
+ghost use Rattle.elements.specs.Amounts.{amountIs, unitIs, fractionOf};
+
+// How many digits may stand before and behind the mark.
+pub struct Form {
+    pub whole: usize,
+    pub decimals: usize,
+}
+
+pub enum Amount {
+    Grams(u64),
+    Bad,
+}
+
+pub enum Unit {
+    Of(Form),
+    Unknown,
+}
+
+// The form that a unit gives, KGM or TNE.
+pub fn unit_in(x: &[u8], release: u8, kgm: usize, tne: usize) -> Unit
+    ensures { λ r. ⌜ r ≡ unitIs (loads.unit (content release (now (x .entry))) (shape kgm 3) (shape tne 6)) ⌝ }
+{
+    if content_is(x, release, b"KGM") {
+        return Unit::Of(Form {
+            whole: kgm,
+            decimals: 3,
+        });
+    }
+    if content_is(x, release, b"TNE") {
+        return Unit::Of(Form {
+            whole: tne,
+            decimals: 6,
+        });
+    }
+    Unit::Unknown
+}
+
+fn wide(b: u8) -> u64
+    ensures { λ r. ⌜ (r ≡ b) × (r < 256) ⌝ }
+{
+    b as u64
+}
+
+fn is_mark(b: u8) -> bool
+    ensures { λ r. ⌜ r ≡ mark b ⌝ }
+{
+    if b == 44 {
+        return true;
+    }
+    b == 46
+}
+
+// The grams of digits behind the mark: `v` are those before it; a digit that is not there counts as 0.
+fn fraction(x: &[u8], from: usize, release: u8, v: u64, decimals: usize) -> Amount
+    requires { ⌜ (v < 1000000000000) × (decimals ≤ 6) ⌝ }
+    ensures { λ r. ⌜ r ≡ fractionOf v decimals (content release (drop from (now (x .entry)))) ⌝ }
+{
+    let mut i = from;
+    let mut n: usize = 0;
+    let mut g = v;
+    loop {
+        match next_octet(x, i, release) {
+            Next::Octet(b, j) => {
+                if b < 48 {
+                    return Amount::Bad;
+                }
+                if 57 < b {
+                    return Amount::Bad;
+                }
+                if decimals <= n {
+                    return Amount::Bad;
+                }
+                g = g * 10 + (wide(b) - 48);
+                n += 1;
+                i = j;
+            }
+            Next::Over => {
+                if n == 0 {
+                    return Amount::Bad;
+                }
+                return Amount::Grams(scaled(g, decimals - n));
+            }
+        }
+    }
+}
+
+fn scaled(v: u64, zeros: usize) -> u64
+    requires { ⌜ v * tens zeros < 1000000000000000000 ⌝ }
+    ensures { λ r. ⌜ r ≡ v * tens zeros ⌝ }
+{
+    let mut g = v;
+    let mut n = zeros;
+    while 0 < n {
+        g = g * 10;
+        n -= 1;
+    }
+    g
+}
+
+// The grams that the content gives, where it is written right.
+pub fn amount_in(x: &[u8], release: u8, f: Form) -> Amount
+    requires { ⌜ (f .whole ≤ 12) × (f .decimals ≤ 6) ⌝ }
+    ensures { λ r. ⌜
+        r ≡ amountIs (amountRight (shape (f .whole) (f .decimals)) (content release (now (x .entry)))) (grams (shape (f .whole) (f .decimals)) (content release (now (x .entry)))) ⌝ }
+{
+    let mut i = 0;
+    let mut n: usize = 0;
+    let mut v: u64 = 0;
+    loop {
+        match next_octet(x, i, release) {
+            Next::Octet(b, j) => {
+                if is_mark(b) {
+                    if n == 0 {
+                        return Amount::Bad;
+                    }
+                    return fraction(x, j, release, v, f.decimals);
+                }
+                if b < 48 {
+                    return Amount::Bad;
+                }
+                if 57 < b {
+                    return Amount::Bad;
+                }
+                if f.whole <= n {
+                    return Amount::Bad;
+                }
+                v = v * 10 + (wide(b) - 48);
+                n += 1;
+                i = j;
+            }
+            Next::Over => {
+                if n == 0 {
+                    return Amount::Bad;
+                }
+                return Amount::Grams(scaled(v, f.decimals));
+            }
+        }
+    }
+}

@@ -1,0 +1,323 @@
+// Checked elements (number 8): by kind and position, from the fields that were noted.
+use crate::Kind;
+use crate::amounts::Amount;
+use crate::amounts::Unit;
+use crate::amounts::amount_in;
+use crate::amounts::unit_in;
+use crate::fields::Shape;
+use crate::fields::field;
+use crate::fields::parts;
+use crate::fields::repeated;
+use syntax::Syntax;
+use syntax::Version;
+use syntax::content::all_digits;
+use syntax::content::content_is;
+use syntax::content::content_length;
+ghost use mathlib.Core.Path.{_≡_};
+ghost use mathlib.Core.Bool.{true, not, _&&_};
+ghost use mathlib.Core.List.{[], _∷_};
+ghost use Prim.Native.Nat.{_≤_, _+_};
+ghost use lib.ListN.{length};
+ghost use lib.Seq.{slice};
+ghost use Rattle.syntax.specs.Octets.{within};
+ghost use Rattle.syntax.specs.Segment.{piecesAt, anyRepeats};
+ghost use Rattle.grammar.specs.Segments as named;
+ghost use Rattle.grammar.specs.Loads.{controlUnit, controlBy};
+ghost use Rattle.grammar.specs.Elements as checked;
+ghost use Rattle.grammar.specs.Elements.{inRange, formedAs, formedRow, row, formed, dateDigits};
+ghost use Rattle.elements.specs.Octets.{textAt, askedAt};
+ghost use Rattle.elements.specs.Kinds.{kindOf};
+ghost use Rattle.elements.specs.Fields.{Marked, Fields};
+ghost use Rattle.elements.specs.Formed.{controlOf, looked};
+
+// A component's length is within bounds.
+fn text(
+    s: &[u8],
+    at: usize,
+    y: Syntax,
+    marks: &[usize],
+    p: usize,
+    c: usize,
+    least: usize,
+    most: usize,
+) -> bool
+    requires { ⌜ Marked (y .service) (now s) at (now marks) ⌝ }
+    requires { ⌜ (1 ≤ p) × (p ≤ 5) × (c ≤ 2) ⌝ }
+    ensures { λ r. ⌜ r ≡ within least most (length (textAt (y .service) (now (s .entry)) at p c)) ⌝ }
+{
+    let v = y.service;
+    let n = content_length(field(s, at, y, marks, p, c), v.release);
+    if n < least {
+        return false;
+    }
+    n <= most
+}
+
+// .. and it is digits.
+fn digits(
+    s: &[u8],
+    at: usize,
+    y: Syntax,
+    marks: &[usize],
+    p: usize,
+    c: usize,
+    least: usize,
+    most: usize,
+) -> bool
+    requires { ⌜ Marked (y .service) (now s) at (now marks) ⌝ }
+    requires { ⌜ (1 ≤ p) × (p ≤ 5) × (c ≤ 2) ⌝ }
+    ensures { λ r. ⌜ r ≡ inRange (checked.digits least most) (textAt (y .service) (now (s .entry)) at p c) ⌝ }
+{
+    let v = y.service;
+    if all_digits(field(s, at, y, marks, p, c), v.release) {
+        return text(s, at, y, marks, p, c, least, most);
+    }
+    false
+}
+
+// An element whose first component has a length; further ones may follow.
+fn composite(
+    s: &[u8],
+    at: usize,
+    y: Syntax,
+    marks: &[usize],
+    p: usize,
+    least: usize,
+    most: usize,
+) -> bool
+    requires { ⌜ Marked (y .service) (now s) at (now marks) ⌝ }
+    requires { ⌜ (1 ≤ p) × (p ≤ 5) ⌝ }
+    ensures { λ r. ⌜ r ≡ formedAs (checked.composite (checked.text least most ∷ [])) (askedAt (y .service) (now (s .entry)) at) p ⌝ }
+{
+    if repeated(s, at, y, marks, p) {
+        return false;
+    }
+    text(s, at, y, marks, p, 0, least, most)
+}
+
+// An element of one component of a length.
+fn single(
+    s: &[u8],
+    at: usize,
+    y: Syntax,
+    marks: &[usize],
+    p: usize,
+    least: usize,
+    most: usize,
+) -> bool
+    requires { ⌜ Marked (y .service) (now s) at (now marks) ⌝ }
+    requires { ⌜ (1 ≤ p) × (p ≤ 5) ⌝ }
+    ensures { λ r. ⌜ r ≡ formedAs (checked.closed (checked.text least most ∷ [])) (askedAt (y .service) (now (s .entry)) at) p ⌝ }
+{
+    if composite(s, at, y, marks, p, least, most) {
+        return parts(s, at, y, marks, p) <= 1;
+    }
+    false
+}
+
+fn single_digits(
+    s: &[u8],
+    at: usize,
+    y: Syntax,
+    marks: &[usize],
+    p: usize,
+    least: usize,
+    most: usize,
+) -> bool
+    requires { ⌜ Marked (y .service) (now s) at (now marks) ⌝ }
+    requires { ⌜ (1 ≤ p) × (p ≤ 5) ⌝ }
+    ensures { λ r. ⌜ r ≡ formedAs (checked.closed (checked.digits least most ∷ [])) (askedAt (y .service) (now (s .entry)) at) p ⌝ }
+{
+    if single(s, at, y, marks, p, least, most) {
+        let v = y.service;
+        return all_digits(field(s, at, y, marks, p, 0), v.release);
+    }
+    false
+}
+
+// 0563 1..3 : 0560 0..512
+fn value_formed(s: &[u8], at: usize, y: Syntax, marks: &[usize], p: usize) -> bool
+    requires { ⌜ Marked (y .service) (now s) at (now marks) ⌝ }
+    requires { ⌜ (1 ≤ p) × (p ≤ 5) ⌝ }
+    ensures { λ r. ⌜ r ≡ formedAs (checked.composite (checked.text 1 3 ∷ checked.text 0 512 ∷ [])) (askedAt (y .service) (now (s .entry)) at) p ⌝ }
+{
+    if composite(s, at, y, marks, p, 1, 3) {
+        return text(s, at, y, marks, p, 1, 0, 512);
+    }
+    false
+}
+
+// 0001 1.. : 0002 1..
+fn syntax_formed(s: &[u8], at: usize, y: Syntax, marks: &[usize]) -> bool
+    requires { ⌜ Marked (y .service) (now s) at (now marks) ⌝ }
+    ensures { λ r. ⌜ r ≡ formedAs (checked.composite (checked.text 1 65535 ∷ checked.text 1 65535 ∷ [])) (askedAt (y .service) (now (s .entry)) at) 1 ⌝ }
+{
+    if composite(s, at, y, marks, 1, 1, 65535) {
+        return text(s, at, y, marks, 1, 1, 1, 65535);
+    }
+    false
+}
+
+fn date_formed(s: &[u8], at: usize, y: Syntax, marks: &[usize], n: usize) -> bool
+    requires { ⌜ Marked (y .service) (now s) at (now marks) ⌝ }
+    ensures { λ r. ⌜ r ≡ formedAs (checked.composite (checked.digits n n ∷ checked.digits 4 4 ∷ [])) (askedAt (y .service) (now (s .entry)) at) 4 ⌝ }
+{
+    if repeated(s, at, y, marks, 4) {
+        return false;
+    }
+    if digits(s, at, y, marks, 4, 0, n, n) {
+        return digits(s, at, y, marks, 4, 1, 4, 4);
+    }
+    false
+}
+
+fn date_digits(v: Version) -> usize
+    ensures { λ r. ⌜ r ≡ dateDigits v ⌝ }
+{
+    match v {
+        Version::Three => 6,
+        Version::Four => 8,
+    }
+}
+
+fn unb_formed(s: &[u8], at: usize, y: Syntax, marks: &[usize]) -> bool
+    requires { ⌜ Marked (y .service) (now s) at (now marks) ⌝ }
+    ensures { λ r. ⌜ r ≡ formedRow (row (y .version) named.Unb) (askedAt (y .service) (now (s .entry)) at) 1 ⌝ }
+{
+    if !syntax_formed(s, at, y, marks) {
+        return false;
+    }
+    if !composite(s, at, y, marks, 2, 1, 35) {
+        return false;
+    }
+    if !composite(s, at, y, marks, 3, 1, 35) {
+        return false;
+    }
+    let v = y.version;
+    if !date_formed(s, at, y, marks, date_digits(v)) {
+        return false;
+    }
+    single(s, at, y, marks, 5, 1, 14)
+}
+
+fn unh_formed(s: &[u8], at: usize, y: Syntax, marks: &[usize]) -> bool
+    requires { ⌜ Marked (y .service) (now s) at (now marks) ⌝ }
+    ensures { λ r. ⌜ r ≡ formedRow (row (y .version) named.Unh) (askedAt (y .service) (now (s .entry)) at) 1 ⌝ }
+{
+    if single(s, at, y, marks, 1, 1, 14) {
+        return composite(s, at, y, marks, 2, 1, 6);
+    }
+    false
+}
+
+// UNT and UNZ: a count, and a reference of any length.
+fn end_formed(s: &[u8], at: usize, y: Syntax, marks: &[usize]) -> bool
+    requires { ⌜ Marked (y .service) (now s) at (now marks) ⌝ }
+    ensures { λ r. ⌜ r ≡ formedRow (row (y .version) named.Unt) (askedAt (y .service) (now (s .entry)) at) 1 ⌝ }
+{
+    if single_digits(s, at, y, marks, 1, 1, 6) {
+        return single(s, at, y, marks, 2, 1, 65535);
+    }
+    false
+}
+
+fn ush_formed(s: &[u8], at: usize, y: Syntax, marks: &[usize]) -> bool
+    requires { ⌜ Marked (y .service) (now s) at (now marks) ⌝ }
+    ensures { λ r. ⌜ r ≡ formedRow (row (y .version) named.Ush) (askedAt (y .service) (now (s .entry)) at) 1 ⌝ }
+{
+    if !single(s, at, y, marks, 1, 1, 3) {
+        return false;
+    }
+    if !single(s, at, y, marks, 2, 1, 14) {
+        return false;
+    }
+    if !single(s, at, y, marks, 3, 1, 3) {
+        return false;
+    }
+    if !single(s, at, y, marks, 4, 0, 3) {
+        return false;
+    }
+    single(s, at, y, marks, 5, 0, 3)
+}
+
+fn ust_formed(s: &[u8], at: usize, y: Syntax, marks: &[usize]) -> bool
+    requires { ⌜ Marked (y .service) (now s) at (now marks) ⌝ }
+    ensures { λ r. ⌜ r ≡ formedRow (row (y .version) named.Ust) (askedAt (y .service) (now (s .entry)) at) 1 ⌝ }
+{
+    if single(s, at, y, marks, 1, 1, 14) {
+        return single_digits(s, at, y, marks, 2, 1, 6);
+    }
+    false
+}
+
+fn usy_formed(s: &[u8], at: usize, y: Syntax, marks: &[usize]) -> bool
+    requires { ⌜ Marked (y .service) (now s) at (now marks) ⌝ }
+    ensures { λ r. ⌜ r ≡ formedRow (row (y .version) named.Usy) (askedAt (y .service) (now (s .entry)) at) 1 ⌝ }
+{
+    if single(s, at, y, marks, 1, 1, 14) {
+        return value_formed(s, at, y, marks, 2);
+    }
+    false
+}
+
+// The amount of a CNT: a unit in its third component, and digits as the unit asks in its second.
+fn control_formed(s: &[u8], at: usize, y: Syntax, marks: &[usize]) -> bool
+    requires { ⌜ Marked (y .service) (now s) at (now marks) ⌝ }
+    ensures { λ r. ⌜ r ≡ controlBy (controlUnit (textAt (y .service) (now (s .entry)) at 1 2)) (textAt (y .service) (now (s .entry)) at 1 1) ⌝ }
+{
+    let v = y.service;
+    match unit_in(field(s, at, y, marks, 1, 2), v.release, 12, 9) {
+        Unit::Of(u) => match amount_in(field(s, at, y, marks, 1, 1), v.release, u) {
+            Amount::Grams(_) => true,
+            Amount::Bad => false,
+        },
+        Unit::Unknown => false,
+    }
+}
+
+// CNT: where its qualifier is 1, one element of three components, a unit and an amount.
+fn cnt_formed(s: &[u8], at: usize, y: Syntax, marks: &[usize], f: Shape) -> bool
+    requires { ⌜ Fields (y .service) (now s) at (f .size) (f .repeats) (now marks) ⌝ }
+    ensures { λ r. ⌜ r ≡ not (anyRepeats (piecesAt (y .service) (now (s .entry)) at)) && controlOf (askedAt (y .service) (now (s .entry)) at) ⌝ }
+{
+    let v = y.service;
+    if f.repeats {
+        return false;
+    }
+    if !content_is(field(s, at, y, marks, 1, 0), v.release, b"1") {
+        return true;
+    }
+    if f.size != 1 {
+        return false;
+    }
+    if parts(s, at, y, marks, 1) != 3 {
+        return false;
+    }
+    control_formed(s, at, y, marks)
+}
+
+// Whether the checked elements of a segment of kind `k` are there and well formed. Of a kind that is not looked into the fields need not be noted.
+pub fn is_formed(s: &[u8], at: usize, y: Syntax, marks: &[usize], f: Shape, k: Kind) -> bool
+    requires { ⌜ (looked k ≡ true → Fields (y .service) (now s) at (f .size) (f .repeats) (now marks)) ⌝ }
+    requires { ⌜ k ≡ kindOf (slice at (at + 3) (now s)) ⌝ }
+    ensures { λ r. ⌜ r ≡ formed (y .version) (askedAt (y .service) (now (s .entry)) at) ⌝ }
+{
+    match k {
+        Kind::Unb => unb_formed(s, at, y, marks),
+        Kind::Unh => unh_formed(s, at, y, marks),
+        Kind::Unt => end_formed(s, at, y, marks),
+        Kind::Unz => end_formed(s, at, y, marks),
+        Kind::Ush => ush_formed(s, at, y, marks),
+        Kind::Usa => true,
+        Kind::Usc => true,
+        Kind::Usr => value_formed(s, at, y, marks, 1),
+        Kind::Ust => ust_formed(s, at, y, marks),
+        Kind::Usb => single(s, at, y, marks, 1, 1, 3),
+        Kind::Usx => single(s, at, y, marks, 1, 1, 14),
+        Kind::Usy => usy_formed(s, at, y, marks),
+        Kind::Reserved => true,
+        Kind::Qty => !f.repeats,
+        Kind::Cnt => cnt_formed(s, at, y, marks, f),
+        Kind::Other => true,
+    }
+}

@@ -1,9 +1,0 @@
--- A message with one segment more.
-use Prim.Native.Nat.{suc}
-use Rattle.judge.specs.declared.Group.{Group}
-use Rattle.judge.specs.declared.Sums.{Sums}
-use Rattle.judge.specs.declared.Message.{Message}
-
--- in the group g, with these sums
-abbrev pub grownWith : Message → Group → Sums → Message
-grownWith m g u = record { group = g; auto = m .auto; segments = suc (m .segments); headers = m .headers; sums = u; pair = m .pair }

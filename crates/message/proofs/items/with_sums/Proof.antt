@@ -1,0 +1,13 @@
+use native.Mathlib.Numerals.{add-one}
+use borrow.Author.Needs.{needs}
+use Rattle.message.proofs.items.with_sums.Statement.{statement}
+use Rattle.message.proofs.items.with_sums.Tie as tie
+
+add-t5 : tie.Need-add-t5
+add-t5 c = search needs
+
+returns : tie.Need-returns
+returns c = rw add-one
+
+pub with-sums-spec : {M : Type 1} → statement M
+with-sums-spec = tie.close (tie.spec add-t5 returns)

@@ -1,0 +1,24 @@
+use mathlib.Core.Path.{_∙_}
+use Rattle.message.specs.StepsLaws.{bump-room, header-moved}
+use borrow.Author.Needs.{needs}
+use Rattle.message.proofs.steps.in_header.Statement.{statement}
+use Rattle.message.proofs.steps.in_header.Tie as tie
+use Rattle.message.proofs.steps.in_header.Reads as reads
+use Rattle.message.proofs.steps.in_header.Lts as lts
+use Rattle.message.proofs.heads.bump_header.Reads as bump-header-reads
+use Rattle.message.proofs.kept.grown_to.Reads as grown-to-reads
+
+-- src/steps.rt:82:5
+bump-header-requires : tie.Need-bump-header-requires
+bump-header-requires c κs = (c .before .pre .0 .headers, (c .before .pre .1 .1, bump-room (c .before .pre .0) (c .before .pre .1 .0)))
+
+-- src/steps.rt:83:15
+grown-to-requires : tie.Need-grown-to-requires
+grown-to-requires c κs = search needs
+
+-- src/steps.rt:76:1
+returns : tie.Need-returns
+returns c = (header-moved (c .before .before .before .pre .0) (c .before .before .before .pre .1 .0) (c .before .before .before .args .g) (c .before .bump-header .ensures) (c .grown-to .ensures), c .before .bump-header .ensures .long ∙ c .before .before .before .pre .1 .1)
+
+pub in-header-spec : {M : Type 1} → statement M
+in-header-spec = tie.close (tie.spec bump-header-requires grown-to-requires returns)

@@ -1,0 +1,179 @@
+-- Facts on what the code keeps of a list: the sums, the pairs, and the header that a trailer names.
+use Prim.Native.Nat.{ℕ, suc, _<_}
+use native.Mathlib.Omega.{arith}
+use mathlib.Core.Bool.{Bool, true, false, cond, not, _&&_, _||_, false≢true}
+use mathlib.Core.List.{List, [], _∷_}
+use mathlib.Core.Option.{Option, none, some}
+use mathlib.Core.Path.{_≡_, refl, ap, _∙_, sym}
+use lib.Dec.{T, eqb, ltb, eqb→eq, eqb-refl, leb·zero, leb·suc-suc}
+use Rattle.syntax.specs.Octets.{same}
+use Rattle.grammar.specs.Lists.{Snoc, nil, _▷_, each, size, any, among, Rule, test, holds, check, every, distinct}
+use Rattle.grammar.specs.Interchange.{Header, Body, plain, ack, Trailer, trailer}
+use Rattle.grammar.specs.Loads.{controls, put}
+use Rattle.grammar.specs.Rules.{refH, sizeAt, counted, one, total}
+use Rattle.grammar.specs.RuleLaws.{check-holds, holds-check}
+use Rattle.grammar.specs.PlacingLaws.{same-eq}
+use Rattle.message.specs.Summary.{firstIn, agreeIn, sumsIn, sumsOf, pairOf, sizeH, flagsOf, orElse, freeAt, allNamed, evenAll, totalRight, sizeIn, named, loaded, controlledBy, controlled}
+
+-- ---- tests
+
+pub same-bool : (a b : Bool) → (a ≡ true → b ≡ true) → (b ≡ true → a ≡ true) → a ≡ b
+same-bool true b f g = sym (f refl)
+same-bool false true f g = g refl
+same-bool false false f g = refl
+
+-- two rules that say the same test the same
+pub alike : (a b : Rule) → (holds a → holds b) → (holds b → holds a) → check a ≡ check b
+alike a b f g = same-bool (check a) (check b) (λ e. holds-check b (f (check-holds a e))) (λ e. holds-check a (g (check-holds b e)))
+
+so : (b : Bool) → T b → b ≡ true
+so true h = refl
+so false h = absurd h
+
+not-so : (b : Bool) → T (not b) → b ≡ false
+not-so true h = absurd h
+not-so false h = refl
+
+T-of : (b : Bool) → b ≡ true → T b
+T-of true e = tt
+T-of false e = absurd (false≢true e)
+
+same-refl : (x : List ℕ) → same x x ≡ true
+same-refl [] = refl
+same-refl (n ∷ x) = rw (so (eqb n n) (eqb-refl n)) (same-refl x)
+
+same-turn : (x y : List ℕ) → same x y ≡ true → same y x ≡ true
+same-turn x y e = ap (λ (z : List ℕ). same y z) (same-eq x y (T-of (same x y) e)) ∙ same-refl y
+
+same-sym : (x y : List ℕ) → same x y ≡ same y x
+same-sym x y = same-bool (same x y) (same y x) (same-turn x y) (same-turn y x)
+
+and-none : (b : Bool) → false ≡ (b && false)
+and-none true = refl
+and-none false = refl
+
+so-and : (b : Bool) → b ≡ (b && true)
+so-and true = refl
+so-and false = refl
+
+-- ---- sizes
+
+pub size-each : {A B : Type 0} (f : A → B) (s : Snoc A) → size (each f s) ≡ size s
+size-each f nil = refl
+size-each f (s ▷ a) = ap suc (size-each f s)
+
+pub any-each : {A B : Type 0} (f : A → B) (s : Snoc A) → any (each f s) ≡ any s
+any-each f nil = refl
+any-each f (s ▷ a) = refl
+
+-- there is one
+pub any-size : {A B : Type 0} (f : A → B) (s : Snoc A) → any s ≡ ltb 0 (size (each f s))
+any-size f nil = refl
+any-size f (s ▷ a) = sym (leb·suc-suc 0 (size (each f s)) ∙ leb·zero (size (each f s)))
+
+-- a place of the list is not the next one
+below : {A B : Type 0} (f : A → B) (s : Snoc A) (i : ℕ) → i < size s → eqb i (size (each f s)) ≡ false
+below f s i h = rw (size-each f s) (by (eqb i (size s)) refl)
+  where
+    by : (b : Bool) → eqb i (size s) ≡ b → eqb i (size s) ≡ false
+    by true e = let k = eqb→eq i (size s) (T-of (eqb i (size s)) e) in absurd (omega (arith, h, k))
+    by false e = e
+
+-- ---- sums
+
+pub load-sums : (s c : Snoc ℕ) (o : Option ℕ) → sumsIn (put s o) c ≡ loaded (sumsIn s c) o
+load-sums s c none = refl
+load-sums s c (some n) = refl
+
+pub control-sums : (s c : Snoc ℕ) (o : Option ℕ) → sumsIn s (put c o) ≡ controlled (sumsIn s c) o
+control-sums s c none = refl
+control-sums s nil (some n) = first
+  where
+    first : sumsIn s (nil ▷ n) ≡ controlledBy false (sumsIn s nil) n
+    first = rw (so (eqb n n) (eqb-refl n))
+control-sums s (c ▷ m) (some n) = refl
+
+-- all equal to s: the first is, and all are equal to it
+all-first : (s : ℕ) (c : Snoc ℕ) → check (every (λ (n : ℕ). test (eqb n s)) c) ≡ (agreeIn c && (not (any c) || eqb (firstIn c) s))
+all-first s nil = refl
+all-first s (nil ▷ n) = rw (so (eqb n n) (eqb-refl n))
+all-first s (c ▷ m ▷ n) = rw (all-first s (c ▷ m)) (swap (agreeIn (c ▷ m)) (firstIn (c ▷ m)) (eqb (firstIn (c ▷ m)) s) refl)
+  where
+    swap : (a : Bool) (f : ℕ) (e : Bool) → eqb f s ≡ e → (a && eqb f s && eqb n s) ≡ ((a && eqb n f) && eqb f s)
+    swap true f true h = rw (h, eqb→eq f s (T-of (eqb f s) h)) (so-and (eqb n s))
+    swap false f true h = refl
+    swap true f false h = rw h (and-none (eqb n f))
+    swap false f false h = refl
+
+-- the control totals are the sum of the loads
+pub totals : (b : Body) → check (total b) ≡ totalRight (sumsOf b)
+totals (plain b) = all-first (sumsOf (plain b) .grams) (controls b)
+totals (ack c ls) = refl
+
+-- ---- trailers
+
+-- the trailers so far count right
+pub evens : (hs : Snoc Header) (ts : Snoc Trailer) → check (every (counted hs) ts) ≡ evenAll (pairOf hs ts)
+evens hs nil = refl
+evens hs (ts ▷ trailer c r) = refl
+
+-- each header is named
+pub all-named : (names refs : Snoc (List ℕ)) → check (every (one names) refs) ≡ allNamed (flagsOf names refs)
+all-named names nil = refl
+all-named names (refs ▷ r) = ap (λ (b : Bool). b && among names r) (all-named names refs)
+
+-- a reference that is not there names nothing
+same-flags : (names refs : Snoc (List ℕ)) (r : List ℕ) → among refs r ≡ false → flagsOf (names ▷ r) refs ≡ flagsOf names refs
+same-flags names nil r h = refl
+same-flags names (refs ▷ s) r h = by (same s r) refl h (same-flags names refs r)
+  where
+    by : (e : Bool) → same s r ≡ e → (same s r || among refs r) ≡ false → (among refs r ≡ false → flagsOf (names ▷ r) refs ≡ flagsOf names refs)
+        → flagsOf (names ▷ r) (refs ▷ s) ≡ flagsOf names (refs ▷ s)
+    by true e k ih = absurd (false≢true (sym k ∙ ap (λ (b : Bool). b || among refs r) e))
+    by false e k ih = rw (same-sym r s, e, ih (sym (ap (λ (b : Bool). b || among refs r) e) ∙ k))
+
+-- what is found: nothing, where the reference is named or is no header's; else the place of the header that has it
+pub data Spot (r : List ℕ) (hs : Snoc Header) (names : Snoc (List ℕ)) : Option ℕ → Type 0 where
+  no : (not (among names r) && among (each refH hs) r) ≡ false → Spot r hs names none
+  yes : (i : ℕ) → (not (among names r) && among (each refH hs) r) ≡ true → i < size hs → sizeAt r hs ≡ sizeIn (each sizeH hs) i
+      → flagsOf (names ▷ r) (each refH hs) ≡ named (flagsOf names (each refH hs)) i → Spot r hs names (some i)
+
+module _ (r : List ℕ) (names : Snoc (List ℕ)) (hs : Snoc Header) (h : Header) where
+  -- this header has another reference
+  other : (o : Option ℕ) → same (refH h) r ≡ false → Spot r hs names o → Spot r (hs ▷ h) names (orElse o none)
+  other o e (no k) = no (rw e k)
+  other o e (yes i k l s f) =
+      yes i (rw e k) (omega (arith, l))
+      (rw (e, below sizeH hs i l) s)
+      (rw (same-sym r (refH h), e, below-flags i l) (ap (λ (t : Snoc Bool). t ▷ among names (refH h)) f))
+    where
+      below-flags : (i : ℕ) → i < size hs → eqb i (size (flagsOf names (each refH hs))) ≡ false
+      below-flags i l = rw (size-each (among names) (each refH hs)) (below refH hs i l)
+
+  -- this header has it, and none before it
+  this : same (refH h) r ≡ true → among (each refH hs) r ≡ false → (n : Bool) → among names (refH h) ≡ n
+      → Spot r (hs ▷ h) names (cond (not n) (some (size (each refH hs))) none)
+  this e d true k =
+      let q : among names r ≡ true = sym (ap (among names) (same-eq (refH h) r (T-of (same (refH h) r) e))) ∙ k in
+      no (rw q)
+  this e d false k =
+      let q : among names r ≡ false = sym (ap (among names) (same-eq (refH h) r (T-of (same (refH h) r) e))) ∙ k in
+      let z : eqb (size hs) (size hs) ≡ true = so (eqb (size hs) (size hs)) (eqb-refl (size hs)) in
+      yes (size (each refH hs)) (rw (q, e)) (rw (size-each refH hs) (omega arith))
+      (rw (e, size-each refH hs, size-each sizeH hs, z))
+      (rw (same-sym r (refH h), e, size-each refH hs, size-each (among names) (each refH hs), size-each refH hs, z, same-flags names (each refH hs) r d))
+
+  apart : same (refH h) r ≡ true → holds (distinct (each refH hs ▷ refH h)) → among (each refH hs) r ≡ false
+  apart e d = sym (ap (among (each refH hs)) (same-eq (refH h) r (T-of (same (refH h) r) e))) ∙ not-so (among (each refH hs) (refH h)) (d .1)
+
+  last : (o : Option ℕ) (e : Bool) → same (refH h) r ≡ e → holds (distinct (each refH hs ▷ refH h)) → Spot r hs names o
+      → Spot r (hs ▷ h) names (orElse o (cond (e && not (among names (refH h))) (some (size (each refH hs))) none))
+  last o false e d k = other o e k
+  last o true e d (no k) = this e (apart e d) (among names (refH h)) refl
+  last o true e d (yes i k l s f) = absurd (false≢true (and-none (not (among names r)) ∙ ap (λ (b : Bool). not (among names r) && b) (sym (apart e d)) ∙ k))
+
+-- the search finds it
+pub spot : (r : List ℕ) (hs : Snoc Header) (names : Snoc (List ℕ)) → holds (distinct (each refH hs))
+    → Spot r hs names (freeAt r (each refH hs) (flagsOf names (each refH hs)))
+spot r nil names d = no (sym (and-none (not (among names r))))
+spot r (hs ▷ h) names d = last r names hs h (freeAt r (each refH hs) (flagsOf names (each refH hs))) (same (refH h) r) refl d (spot r hs names (d .0))

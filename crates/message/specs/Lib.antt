@@ -1,0 +1,9 @@
+pub mod Summary
+pub mod Heads
+pub mod HeadsLaws
+pub mod Items
+pub mod ItemsLaws
+pub mod KeptLaws
+pub mod FlagLaws
+pub mod Steps
+pub mod StepsLaws

@@ -1,0 +1,519 @@
+-- What the code keeps of a tree, as a function of the tree; and the tests and the step, which need no more than that and the segment's view.
+use Prim.Native.Nat.{ℕ, suc, _+_}
+use mathlib.Core.Bool.{Bool, true, false, cond, not, _&&_, _||_}
+use mathlib.Core.List.{List, [], _∷_}
+use mathlib.Core.Option.{Option, none, some}
+use lib.Dec.{eqb, ltb}
+use Rattle.syntax.specs.Octets.{octets, same}
+use Rattle.syntax.specs.Content.{valueFrom}
+use Rattle.syntax.specs.declared.Syntax.{Syntax}
+use Rattle.grammar.specs.Lists.{Snoc, nil, _▷_, each, size, any, among, sum, test, check, every}
+use Rattle.grammar.specs.Segments.{Asked, text, number, reference}
+use Rattle.grammar.specs.Interchange.{Leaf, certificate, Header, header, Trailer, trailer, Link, link, Body, plain, ack, Open, msg, Reading, start, idle, busy, done, showHeader, showTrailer, showOpen}
+use Rattle.grammar.specs.Loads.{loads, controls, loadIn, controlIn, loadRight}
+use Rattle.grammar.specs.Elements.{formed}
+use Rattle.grammar.specs.Rules.{auto, refH, refT, refM, sizeAt, counted}
+use Rattle.grammar.specs.Verdict.{Test, tested, Answer, read, refused}
+use Rattle.elements.specs.Kinds.{kindOf}
+use Rattle.elements.specs.declared.Kind.{Kind}
+use Rattle.elements.specs.declared.Kind.the-variants.{Unb, Unh, Unt, Unz, Ush, Usa, Usc, Usr, Ust, Usb, Usx, Usy, Reserved, Qty, Cnt, Other}
+use Rattle.message.specs.declared.Group.{Group}
+use Rattle.message.specs.declared.Group.the-variants.{Opened, Header as InHeader, Certificate as InCertificate, Body as InBody, Ack as InAck, Trailer as InTrailer}
+use Rattle.message.specs.declared.Sums.{Sums}
+use Rattle.message.specs.declared.Pair.{Pair}
+use Rattle.message.specs.declared.Message.{Message as Kept}
+
+-- ---- of a message that is open: the group that is open in it
+
+abbrev pub given : Option Leaf → Bool
+given none = false
+given (some c) = true
+
+-- the last USX has a USY
+abbrev pub full : Snoc Link → Bool
+full nil = false
+full (ls ▷ link c ys) = any ys
+
+abbrev pub groupOf : Open → Group
+groupOf (msg h nil (plain nil) nil) = Opened
+groupOf (msg h (hs ▷ header c us nil) (plain nil) nil) = InHeader (size us)
+groupOf (msg h (hs ▷ header c us (cs ▷ certificate d vs r)) (plain nil) nil) = InCertificate (size cs) (size vs) (given r)
+groupOf (msg h hs (plain (b ▷ i)) nil) = InBody
+groupOf (msg h hs (ack c ls) nil) = InAck (any ls) (full ls)
+groupOf (msg h hs b (ts ▷ trailer c r)) = InTrailer (given r)
+
+-- ---- its loads and control totals
+
+-- the first, 0 if there is none
+abbrev pub firstIn : Snoc ℕ → ℕ
+firstIn nil = 0
+firstIn (nil ▷ n) = n
+firstIn (s ▷ m ▷ n) = firstIn (s ▷ m)
+
+-- all are equal to the first
+abbrev pub agreeIn : Snoc ℕ → Bool
+agreeIn s = check (every (λ (n : ℕ). test (eqb n (firstIn s))) s)
+
+-- of the loads s and the control totals c
+abbrev pub sumsIn : Snoc ℕ → Snoc ℕ → Sums
+sumsIn s c = record { loads = size s; grams = sum s; controlled = any c; control = firstIn c; agree = agreeIn c }
+
+abbrev pub noSums : Sums
+noSums = record { loads = 0; grams = 0; controlled = false; control = 0; agree = true }
+
+abbrev pub sumsOf : Body → Sums
+sumsOf (plain b) = sumsIn (loads b) (controls b)
+sumsOf (ack c ls) = noSums
+
+-- ---- its trailers: whether all but the last count right, and what the last claims, the segments of the header that it names, and its own
+
+abbrev pub noPair : Pair
+noPair = record { even = true; claim = 0; base = 0; own = 0 }
+
+abbrev pub pairOf : Snoc Header → Snoc Trailer → Pair
+pairOf hs nil = noPair
+pairOf hs (ts ▷ trailer c r) = record { even = check (every (counted hs) ts); claim = number c 2; base = sizeAt (reference c) hs; own = size (showTrailer (trailer c r)) }
+
+-- ---- all of it: the code's struct; the message's 0062; of its headers 0534, the segments, and whether a trailer has named them
+
+pub record Summary : Type 0 where
+  pub m : Kept
+  pub ref : List ℕ
+  pub refs : Snoc (List ℕ)
+  pub sizes : Snoc ℕ
+  pub flags : Snoc Bool
+
+abbrev pub sizeH : Header → ℕ
+sizeH h = size (showHeader h)
+
+abbrev pub keptOf : Open → Kept
+keptOf (msg h hs b ts) =
+    record { group = groupOf (msg h hs b ts); auto = auto h; segments = size (showOpen (msg h hs b ts)); headers = size (each refH hs); sums = sumsOf b; pair = pairOf hs ts }
+
+abbrev pub flagsOf : Snoc (List ℕ) → Snoc (List ℕ) → Snoc Bool
+flagsOf names refs = each (among names) refs
+
+abbrev pub summaryOf : Open → Summary
+summaryOf (msg h hs b ts) =
+    record { m = keptOf (msg h hs b ts); ref = reference h; refs = each refH hs; sizes = each sizeH hs; flags = flagsOf (each refT ts) (each refH hs) }
+
+-- nothing read; between messages, with UNB's 0020 and the 0062s so far; in a message; all read
+pub data StateS : Type 0 where
+  startS : StateS
+  idleS : List ℕ → Snoc (List ℕ) → StateS
+  busyS : List ℕ → Snoc (List ℕ) → Summary → StateS
+  doneS : StateS
+
+abbrev pub stateOf : Reading → StateS
+stateOf start = startS
+stateOf (idle u ms) = idleS (text u 5 0) (each refM ms)
+stateOf (busy u ms o) = busyS (text u 5 0) (each refM ms) (summaryOf o)
+stateOf (done u ms z) = doneS
+
+-- ---- 7, in a message: by group and kind
+
+-- headers may come
+abbrev pub atHeads : Group → Bool
+atHeads Opened = true
+atHeads (InHeader n) = true
+atHeads (InCertificate n m r) = true
+atHeads InBody = false
+atHeads (InAck l y) = false
+atHeads (InTrailer r) = false
+
+-- a segment of a body may come
+abbrev pub atItems : Group → Bool
+atItems Opened = true
+atItems (InHeader n) = true
+atItems (InCertificate n m r) = true
+atItems InBody = true
+atItems (InAck l y) = false
+atItems (InTrailer r) = false
+
+-- the body may end; in AUTACK it ends with a USY
+abbrev pub closes : Bool → Group → Bool
+closes a Opened = not a
+closes a (InHeader n) = not a
+closes a (InCertificate n m r) = not a
+closes a InBody = true
+closes a (InAck l y) = y
+closes a (InTrailer r) = true
+
+abbrev pub usaMay : Group → Bool
+usaMay Opened = false
+usaMay (InHeader n) = ltb n 3
+usaMay (InCertificate n m r) = not r && ltb m 3
+usaMay InBody = false
+usaMay (InAck l y) = false
+usaMay (InTrailer r) = false
+
+abbrev pub uscMay : Group → Bool
+uscMay Opened = false
+uscMay (InHeader n) = true
+uscMay (InCertificate n m r) = ltb (suc n) 2
+uscMay InBody = false
+uscMay (InAck l y) = false
+uscMay (InTrailer r) = false
+
+abbrev pub usrMay : Group → Bool
+usrMay Opened = false
+usrMay (InHeader n) = false
+usrMay (InCertificate n m r) = not r
+usrMay InBody = false
+usrMay (InAck l y) = false
+usrMay (InTrailer r) = not r
+
+abbrev pub usxMay : Group → Bool
+usxMay Opened = false
+usxMay (InHeader n) = false
+usxMay (InCertificate n m r) = false
+usxMay InBody = false
+usxMay (InAck l y) = not l || y
+usxMay (InTrailer r) = false
+
+abbrev pub usyMay : Group → Bool
+usyMay Opened = false
+usyMay (InHeader n) = false
+usyMay (InCertificate n m r) = false
+usyMay InBody = false
+usyMay (InAck l y) = l
+usyMay (InTrailer r) = false
+
+abbrev pub mayCome : Kind → Kept → Bool
+mayCome Unb m = false
+mayCome Unh m = false
+mayCome Unt m = closes (m .auto) (m .group)
+mayCome Unz m = false
+mayCome Ush m = atHeads (m .group) && ltb (m .headers) 9
+mayCome Usa m = usaMay (m .group)
+mayCome Usc m = uscMay (m .group)
+mayCome Usr m = usrMay (m .group)
+mayCome Ust m = closes (m .auto) (m .group)
+mayCome Usb m = atHeads (m .group) && (m .auto && ltb 0 (m .headers))
+mayCome Usx m = usxMay (m .group)
+mayCome Usy m = usyMay (m .group)
+mayCome Reserved m = false
+mayCome Qty m = atItems (m .group) && not (m .auto)
+mayCome Cnt m = atItems (m .group) && not (m .auto)
+mayCome Other m = atItems (m .group) && not (m .auto)
+
+-- ---- by the kinds that matter
+
+abbrev pub atStart : {A : Type 0} → A → A → Kind → A
+atStart unb other Unb = unb
+atStart unb other Unh = other
+atStart unb other Unt = other
+atStart unb other Unz = other
+atStart unb other Ush = other
+atStart unb other Usa = other
+atStart unb other Usc = other
+atStart unb other Usr = other
+atStart unb other Ust = other
+atStart unb other Usb = other
+atStart unb other Usx = other
+atStart unb other Usy = other
+atStart unb other Reserved = other
+atStart unb other Qty = other
+atStart unb other Cnt = other
+atStart unb other Other = other
+
+abbrev pub atIdle : {A : Type 0} → A → A → A → Kind → A
+atIdle unh unz other Unb = other
+atIdle unh unz other Unh = unh
+atIdle unh unz other Unt = other
+atIdle unh unz other Unz = unz
+atIdle unh unz other Ush = other
+atIdle unh unz other Usa = other
+atIdle unh unz other Usc = other
+atIdle unh unz other Usr = other
+atIdle unh unz other Ust = other
+atIdle unh unz other Usb = other
+atIdle unh unz other Usx = other
+atIdle unh unz other Usy = other
+atIdle unh unz other Reserved = other
+atIdle unh unz other Qty = other
+atIdle unh unz other Cnt = other
+atIdle unh unz other Other = other
+
+abbrev pub atBusy : {A : Type 0} → A → A → A → A → A → Kind → A
+atBusy ush usy ust unt other Unb = other
+atBusy ush usy ust unt other Unh = other
+atBusy ush usy ust unt other Unt = unt
+atBusy ush usy ust unt other Unz = other
+atBusy ush usy ust unt other Ush = ush
+atBusy ush usy ust unt other Usa = other
+atBusy ush usy ust unt other Usc = other
+atBusy ush usy ust unt other Usr = other
+atBusy ush usy ust unt other Ust = ust
+atBusy ush usy ust unt other Usb = other
+atBusy ush usy ust unt other Usx = other
+atBusy ush usy ust unt other Usy = usy
+atBusy ush usy ust unt other Reserved = other
+atBusy ush usy ust unt other Qty = other
+atBusy ush usy ust unt other Cnt = other
+atBusy ush usy ust unt other Other = other
+
+abbrev pub orderK : StateS → Kind → Bool
+orderK startS k = atStart true false k
+orderK (idleS u rs) k = atIdle true (any rs) false k
+orderK (busyS u rs S) k = mayCome k (S .m)
+orderK doneS k = false
+
+-- ---- 9
+
+abbrev pub isFound : Option ℕ → Bool
+isFound none = false
+isFound (some i) = true
+
+abbrev pub orElse : Option ℕ → Option ℕ → Option ℕ
+orElse none o = o
+orElse (some i) o = some i
+
+-- the first header of the reference r that no trailer has named: its place, from 0
+abbrev pub freeAt : List ℕ → Snoc (List ℕ) → Snoc Bool → Option ℕ
+freeAt r nil fs = none
+freeAt r (rs ▷ s) nil = none
+freeAt r (rs ▷ s) (fs ▷ f) = orElse (freeAt r rs fs) (cond (same s r && not f) (some (size rs)) none)
+
+-- each header is named
+abbrev pub allNamed : Snoc Bool → Bool
+allNamed nil = true
+allNamed (fs ▷ f) = allNamed fs && f
+
+abbrev pub refsK : StateS → Kind → Asked → Bool
+refsK startS k a = true
+refsK (idleS u rs) k a = atIdle (not (among rs (a .text 1 0))) (same (a .text 2 0) u) true k
+refsK (busyS u rs S) k a =
+    atBusy (not (among (S .refs) (a .text 2 0))) (among (S .refs) (a .text 1 0)) (isFound (freeAt (a .text 1 0) (S .refs) (S .flags)))
+    (same (a .text 2 0) (S .ref) && allNamed (S .flags)) true k
+refsK doneS k a = true
+
+-- ---- 10
+
+-- all trailers so far count right
+abbrev pub evenAll : Pair → Bool
+evenAll p = p .even && eqb (p .claim) (p .base + p .own)
+
+-- the control totals are the sum of the loads
+abbrev pub totalRight : Sums → Bool
+totalRight s = s .agree && (not (s .controlled) || eqb (s .control) (s .grams))
+
+-- the number that the element at position p gives
+abbrev pub numberIn : Asked → ℕ → ℕ
+numberIn a p = valueFrom 0 (a .text p 0)
+
+abbrev pub countsK : StateS → Kind → Asked → Bool
+countsK startS k a = true
+countsK (idleS u rs) k a = atIdle true (eqb (numberIn a 1) (size rs)) true k
+countsK (busyS u rs S) k a = atBusy true true true (eqb (numberIn a 1) (suc (S .m .segments)) && (evenAll (S .m .pair) && totalRight (S .m .sums))) true k
+countsK doneS k a = true
+
+-- ---- 11
+
+abbrev pub scopeIn : Bool → Asked → Bool
+scopeIn true a = same (a .text 3 0) (octets "F01")
+scopeIn false a = same (a .text 3 0) (octets "1") || same (a .text 3 0) (octets "2")
+
+abbrev pub scopeK : StateS → Kind → Asked → Bool
+scopeK startS k a = true
+scopeK (idleS u rs) k a = true
+scopeK (busyS u rs S) k a = atBusy (scopeIn (S .m .auto) a) true true true true k
+scopeK doneS k a = true
+
+-- ---- the step; it matters only where the tests are passed
+
+-- one segment more in the last header
+abbrev pub bump : Snoc ℕ → Snoc ℕ
+bump nil = nil
+bump (s ▷ n) = s ▷ suc n
+
+-- of the header at place i: its segments; named now
+abbrev pub sizeIn : Snoc ℕ → ℕ → ℕ
+sizeIn nil i = 0
+sizeIn (s ▷ n) i = cond (eqb i (size s)) n (sizeIn s i)
+
+abbrev pub named : Snoc Bool → ℕ → Snoc Bool
+named nil i = nil
+named (fs ▷ f) i = cond (eqb i (size fs)) (fs ▷ true) (named fs i ▷ f)
+
+abbrev pub usaGroup : Group → Group
+usaGroup Opened = Opened
+usaGroup (InHeader n) = InHeader (suc n)
+usaGroup (InCertificate n m r) = InCertificate n (suc m) r
+usaGroup InBody = InBody
+usaGroup (InAck l y) = InAck l y
+usaGroup (InTrailer r) = InTrailer r
+
+abbrev pub uscGroup : Group → Group
+uscGroup Opened = Opened
+uscGroup (InHeader n) = InCertificate 0 0 false
+uscGroup (InCertificate n m r) = InCertificate (suc n) 0 false
+uscGroup InBody = InBody
+uscGroup (InAck l y) = InAck l y
+uscGroup (InTrailer r) = InTrailer r
+
+-- one segment more, in the group g
+abbrev pub grown : Kept → Group → Kept
+grown m g = record { group = g; auto = m .auto; segments = suc (m .segments); headers = m .headers; sums = m .sums; pair = m .pair }
+
+abbrev pub grownBy : Summary → Group → Snoc ℕ → Summary
+grownBy S g sizes = record { m = grown (S .m) g; ref = S .ref; refs = S .refs; sizes = sizes; flags = S .flags }
+
+abbrev pub ushNext : Summary → Asked → Summary
+ushNext S a = record {
+  m = record { group = InHeader 0; auto = S .m .auto; segments = suc (S .m .segments); headers = suc (S .m .headers); sums = S .m .sums; pair = S .m .pair };
+  ref = S .ref;
+  refs = S .refs ▷ a .text 2 0;
+  sizes = S .sizes ▷ 1;
+  flags = S .flags ▷ false;
+}
+
+-- the pair of a trailer has a segment more
+abbrev pub ownMore : Pair → Pair
+ownMore p = record { even = p .even; claim = p .claim; base = p .base; own = suc (p .own) }
+
+abbrev pub usrNext : Summary → Group → Summary
+usrNext S Opened = S
+usrNext S (InHeader n) = S
+usrNext S (InCertificate n m r) = grownBy S (InCertificate n m true) (bump (S .sizes))
+usrNext S InBody = S
+usrNext S (InAck l y) = S
+usrNext S (InTrailer r) = record {
+  m = record { group = InTrailer true; auto = S .m .auto; segments = suc (S .m .segments); headers = S .m .headers; sums = S .m .sums; pair = ownMore (S .m .pair) };
+  ref = S .ref;
+  refs = S .refs;
+  sizes = S .sizes;
+  flags = S .flags;
+}
+
+-- the trailer of the header at this place
+abbrev pub ustNext : Summary → Asked → Option ℕ → Summary
+ustNext S a none = S
+ustNext S a (some i) = record {
+  m = record {
+    group = InTrailer false;
+    auto = S .m .auto;
+    segments = suc (S .m .segments);
+    headers = S .m .headers;
+    sums = S .m .sums;
+    pair = record { even = evenAll (S .m .pair); claim = numberIn a 2; base = sizeIn (S .sizes) i; own = 1 };
+  };
+  ref = S .ref;
+  refs = S .refs;
+  sizes = S .sizes;
+  flags = named (S .flags) i;
+}
+
+abbrev pub itemNext : Summary → Sums → Summary
+itemNext S s = record {
+  m = record { group = InBody; auto = S .m .auto; segments = suc (S .m .segments); headers = S .m .headers; sums = s; pair = S .m .pair };
+  ref = S .ref;
+  refs = S .refs;
+  sizes = S .sizes;
+  flags = S .flags;
+}
+
+abbrev pub usbNext : Summary → Summary
+usbNext S = record {
+  m = record { group = InAck false false; auto = S .m .auto; segments = suc (S .m .segments); headers = S .m .headers; sums = noSums; pair = S .m .pair };
+  ref = S .ref;
+  refs = S .refs;
+  sizes = S .sizes;
+  flags = S .flags;
+}
+
+-- a load more
+abbrev pub loaded : Sums → Option ℕ → Sums
+loaded s none = s
+loaded s (some n) = record { loads = suc (s .loads); grams = s .grams + n; controlled = s .controlled; control = s .control; agree = s .agree }
+
+-- a control total more
+abbrev pub controlledBy : Bool → Sums → ℕ → Sums
+controlledBy false s n = record { loads = s .loads; grams = s .grams; controlled = true; control = n; agree = true }
+controlledBy true s n = record { loads = s .loads; grams = s .grams; controlled = true; control = s .control; agree = s .agree && eqb n (s .control) }
+
+abbrev pub controlled : Sums → Option ℕ → Sums
+controlled s none = s
+controlled s (some n) = controlledBy (s .controlled) s n
+
+abbrev pub busyNext : Kind → List ℕ → Snoc (List ℕ) → Summary → Asked → StateS
+busyNext Unb u rs S a = busyS u rs S
+busyNext Unh u rs S a = busyS u rs S
+busyNext Unt u rs S a = idleS u (rs ▷ S .ref)
+busyNext Unz u rs S a = busyS u rs S
+busyNext Ush u rs S a = busyS u rs (ushNext S a)
+busyNext Usa u rs S a = busyS u rs (grownBy S (usaGroup (S .m .group)) (bump (S .sizes)))
+busyNext Usc u rs S a = busyS u rs (grownBy S (uscGroup (S .m .group)) (bump (S .sizes)))
+busyNext Usr u rs S a = busyS u rs (usrNext S (S .m .group))
+busyNext Ust u rs S a = busyS u rs (ustNext S a (freeAt (a .text 1 0) (S .refs) (S .flags)))
+busyNext Usb u rs S a = busyS u rs (usbNext S)
+busyNext Usx u rs S a = busyS u rs (grownBy S (InAck true false) (S .sizes))
+busyNext Usy u rs S a = busyS u rs (grownBy S (InAck true true) (S .sizes))
+busyNext Reserved u rs S a = busyS u rs S
+busyNext Qty u rs S a = busyS u rs (itemNext S (loaded (S .m .sums) (loadIn a)))
+busyNext Cnt u rs S a = busyS u rs (itemNext S (controlled (S .m .sums) (controlIn a)))
+busyNext Other u rs S a = busyS u rs (itemNext S (S .m .sums))
+
+-- a message begun by its UNH
+abbrev pub opened : Asked → Summary
+opened a = record {
+  m = record { group = Opened; auto = same (a .text 2 0) (octets "AUTACK"); segments = 1; headers = 0; sums = noSums; pair = noPair };
+  ref = a .text 1 0;
+  refs = nil;
+  sizes = nil;
+  flags = nil;
+}
+
+abbrev pub nextK : StateS → Kind → Asked → StateS
+nextK startS k a = idleS (a .text 5 0) nil
+nextK (idleS u rs) k a = atIdle (busyS u rs (opened a)) doneS (idleS u rs) k
+nextK (busyS u rs S) k a = busyNext k u rs S a
+nextK doneS k a = doneS
+
+-- ---- the same, of a segment's view
+
+abbrev pub orderS : StateS → Asked → Bool
+orderS x a = orderK x (kindOf (a .tag))
+
+abbrev pub refsS : StateS → Asked → Bool
+refsS x a = refsK x (kindOf (a .tag)) a
+
+abbrev pub countsS : StateS → Asked → Bool
+countsS x a = countsK x (kindOf (a .tag)) a
+
+abbrev pub scopeS : StateS → Asked → Bool
+scopeS x a = scopeK x (kindOf (a .tag)) a
+
+abbrev pub nextS : StateS → Asked → StateS
+nextS x a = nextK x (kindOf (a .tag)) a
+
+-- ---- the answer on a segment
+
+pub data AnswerS : Type 0 where
+  readS : StateS → AnswerS
+  refusedS : ℕ → ℕ → AnswerS
+
+-- `i` is whether 3 is passed and `q` where it is broken; the segment stands at p
+abbrev pub testsS : Syntax → Asked → Bool → ℕ → ℕ → StateS → List Test
+testsS y a i q p x =
+    tested 3 q i
+    ∷ tested 7 p (orderS x a)
+    ∷ tested 8 p (formed (y .version) a)
+    ∷ tested 9 p (refsS x a)
+    ∷ tested 10 p (countsS x a)
+    ∷ tested 11 p (scopeS x a)
+    ∷ tested 12 p (loadRight a)
+    ∷ []
+
+abbrev pub decidedS : List Test → StateS → AnswerS
+decidedS [] x = readS x
+decidedS (tested n p b ∷ ts) x = cond b (decidedS ts x) (refusedS n p)
+
+-- the judge's answer, in what the code keeps
+abbrev pub told : Answer → AnswerS
+told (read x) = readS (stateOf x)
+told (refused n p) = refusedS n p
+
+-- the state of a message just begun
+abbrev pub fresh : Bool → Kept
+fresh a = record { group = Opened; auto = a; segments = 1; headers = 0; sums = noSums; pair = noPair }

@@ -1,0 +1,99 @@
+// The headers of the message now open, in a lent array: for header i, at 4 * i, start and end of its 0534, its segments, and 1 where a trailer has
+// named it.
+use syntax::content::part;
+use syntax::content::same_content;
+ghost use mathlib.Core.Path.{_≡_};
+ghost use Prim.Native.Nat.{_+_, _*_, _-_, _^_, _≤_, _<_};
+ghost use lib.ListN.{length, getD};
+ghost use Rattle.syntax.specs.Content.{content};
+ghost use Rattle.grammar.specs.Lists.{among};
+ghost use Rattle.message.specs.Summary.{freeAt, allNamed};
+ghost use Rattle.message.specs.Heads.{headRefs, headFlags, posOr, Pushed, Bumped, Named};
+
+// Whether one of the first `n` headers has the content of `x`.
+pub fn header_named(s: &[u8], release: u8, heads: &[usize; 36], n: usize, x: &[u8]) -> bool
+    requires { ⌜ n ≤ 9 ⌝ }
+    ensures { λ r. ⌜ r ≡ among (headRefs release (now (s .entry)) (now (heads .entry)) n) (content release (now (x .entry))) ⌝ }
+{
+    let mut i: usize = 0;
+    while i < n {
+        let a = heads[4 * i];
+        let e = heads[4 * i + 1];
+        if same_content(part(s, a, e), release, x, release) {
+            return true;
+        }
+        i += 1;
+    }
+    false
+}
+
+// The first of them that no trailer has named: its position, or `n`.
+pub fn free_header(s: &[u8], release: u8, heads: &[usize; 36], n: usize, x: &[u8]) -> usize
+    requires { ⌜ n ≤ 9 ⌝ }
+    ensures { λ r. ⌜ r ≡ posOr n (freeAt (content release (now (x .entry))) (headRefs release (now (s .entry)) (now (heads .entry)) n) (headFlags (now (heads .entry)) n)) ⌝ }
+    ensures { λ r. ⌜ r ≤ n ⌝ }
+{
+    let mut found = n;
+    let mut i: usize = 0;
+    while i < n {
+        if heads[4 * i + 3] == 0 {
+            let a = heads[4 * i];
+            let e = heads[4 * i + 1];
+            if same_content(part(s, a, e), release, x, release) {
+                found = i;
+                break;
+            }
+        }
+        i += 1;
+    }
+    found
+}
+
+// Whether each is named.
+pub fn all_named(heads: &[usize; 36], n: usize) -> bool
+    requires { ⌜ n ≤ 9 ⌝ }
+    ensures { λ r. ⌜ r ≡ allNamed (headFlags (now (heads .entry)) n) ⌝ }
+{
+    let mut i: usize = 0;
+    while i < n {
+        if heads[4 * i + 3] == 0 {
+            return false;
+        }
+        i += 1;
+    }
+    true
+}
+
+// A header more, just begun by its USH.
+pub fn push_header(heads: &mut [usize; 36], n: usize, a: usize, e: usize)
+    requires { ⌜ n < 9 ⌝ }
+    requires { ⌜ length (now heads) ≡ 36 ⌝ }
+    ensures { λ r. ⌜ Pushed (now (heads .entry)) (now (heads .exit)) n a e ⌝ }
+{
+    heads[4 * n] = a;
+    heads[4 * n + 1] = e;
+    heads[4 * n + 2] = 1;
+    heads[4 * n + 3] = 0;
+}
+
+// A segment more in the last of `n` headers.
+pub fn bump_header(heads: &mut [usize; 36], n: usize)
+    requires { ⌜ n ≤ 9 ⌝ }
+    requires { ⌜ length (now heads) ≡ 36 ⌝ }
+    requires { ⌜ (0 < n → getD (now heads) (4 * (n - 1) + 2) 0 < 2 ^ 32) ⌝ }
+    ensures { λ r. ⌜ Bumped (now (heads .entry)) (now (heads .exit)) n ⌝ }
+{
+    if 0 < n {
+        let k = 4 * (n - 1) + 2;
+        heads[k] = heads[k] + 1;
+    }
+}
+
+// Header `i` is named.
+pub fn name_header(heads: &mut [usize; 36], n: usize, i: usize)
+    requires { ⌜ (i < n) × (n ≤ 9) ⌝ }
+    requires { ⌜ length (now heads) ≡ 36 ⌝ }
+    ensures { λ r. ⌜ Named (now (heads .entry)) (now (heads .exit)) n i ⌝ }
+{
+    heads[4 * i + 3] = 1;
+}

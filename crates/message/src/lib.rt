@@ -1,0 +1,48 @@
+// The open message as a small state, and what a segment does to it: 7, 9, 11 and 12.
+pub mod heads;
+pub mod items;
+pub mod kept;
+pub mod order;
+pub mod steps;
+
+// The group of a message that is now open.
+pub enum Group {
+    // UNH, nothing behind it
+    Opened,
+    // a header group: its USAs
+    Header(u8),
+    // a certificate: those before it in its header group, its USAs, whether its USR stands
+    Certificate(u8, u8, bool),
+    Body,
+    // AUTACK's body: whether a USX has come, whether the last one has a USY
+    Ack(bool, bool),
+    // a trailer group: whether its USR stands
+    Trailer(bool),
+}
+
+// A message's loads so far: how many, their grams; of its control totals whether there is one, the first, and whether the others equal it.
+pub struct Sums {
+    pub loads: usize,
+    pub grams: u64,
+    pub controlled: bool,
+    pub control: u64,
+    pub agree: bool,
+}
+
+// A message's trailers so far: whether all but the last count right; of the last what it claims, the segments of its header, and its own.
+pub struct Pair {
+    pub even: bool,
+    pub claim: u64,
+    pub base: usize,
+    pub own: usize,
+}
+
+// A message as far as it was read.
+pub struct Message {
+    pub group: Group,
+    pub auto: bool,
+    pub segments: usize,
+    pub headers: usize,
+    pub sums: Sums,
+    pub pair: Pair,
+}

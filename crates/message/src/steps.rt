@@ -1,0 +1,236 @@
+// What a segment does in an open message, once it may come (7) and is well formed (8): numbers 9, 11 and 12, and the message after it.
+ghost use mathlib.Core.Path.{_≡_};
+ghost use mathlib.Core.Bool.{true};
+ghost use mathlib.Core.List.{List};
+ghost use Prim.Native.Nat.{ℕ, _≤_, _<_};
+ghost use lib.ListN.{length};
+ghost use Rattle.syntax.specs.Content.{valueFrom};
+ghost use Rattle.grammar.specs.Elements.{inRange, digits};
+ghost use Rattle.elements.specs.Octets.{textAt, askedAt};
+ghost use Rattle.elements.specs.Fields.{Marked};
+ghost use Rattle.message.specs.Heads.{headRefs, headSizes, headFlags};
+ghost use Rattle.message.specs.Summary.{scopeIn, freeAt, bump, grownBy, usrNext};
+ghost use Rattle.message.specs.Steps.{toM, ushM, ustM, usyM, headed, trailed, ownGrown, summaryIn, Roomy, MovedIs};
+use crate::Group;
+use crate::Message;
+use crate::Pair;
+use crate::heads::bump_header;
+use crate::heads::free_header;
+use crate::heads::header_named;
+use crate::heads::name_header;
+use crate::heads::push_header;
+use crate::kept::all_even;
+use crate::kept::grown_to;
+use elements::fields::field;
+use elements::fields::field_end;
+use elements::fields::field_start;
+use syntax::Syntax;
+use syntax::content::Number;
+use syntax::content::content_is;
+use syntax::content::digits_value;
+
+// The message after a segment, or the number of its breach.
+pub enum Moved {
+    To(Message),
+    Bad(u8),
+}
+
+// 0541 is 1 or 2; in AUTACK it is F01.
+fn scope_right(s: &[u8], at: usize, y: Syntax, marks: &[usize], auto: bool) -> bool
+    requires { ⌜ Marked (y .service) (now s) at (now marks) ⌝ }
+    ensures { λ r. ⌜ r ≡ scopeIn auto (askedAt (y .service) (now (s .entry)) at) ⌝ }
+{
+    let v = y.service;
+    let x = field(s, at, y, marks, 3, 0);
+    if auto {
+        return content_is(x, v.release, b"F01");
+    }
+    if content_is(x, v.release, b"1") {
+        return true;
+    }
+    content_is(x, v.release, b"2")
+}
+
+// The message with a header more.
+fn with_header(m: Message) -> Message
+    requires { ⌜ (m .headers < 9) × (m .segments < 65536) ⌝ }
+    ensures { λ r. ⌜ r ≡ headed m ⌝ }
+{
+    let u = m.sums;
+    let p = m.pair;
+    Message {
+        group: Group::Header(0),
+        auto: m.auto,
+        segments: m.segments + 1,
+        headers: m.headers + 1,
+        sums: u,
+        pair: p,
+    }
+}
+
+// A USH: 0534 once in a message, then its scope; a header more.
+pub fn on_ush(
+    s: &[u8],
+    at: usize,
+    y: Syntax,
+    m: Message,
+    marks: &[usize],
+    heads: &mut [usize; 36],
+) -> Moved
+    requires { ⌜ Marked (y .service) (now s) at (now marks) ⌝ }
+    requires { ⌜ Roomy m (now heads) ⌝ }
+    requires { ⌜ (m .headers < 9) × (m .segments < 65536) × (length (now heads) ≡ 36) ⌝ }
+    ensures { λ r. ⌜ ((u w : ℕ) → MovedIs (ushM (summaryIn (y .service .release) (now (s .entry)) m u w (now (heads .entry))) (askedAt (y .service) (now (s .entry)) at)) r (y .service .release) (now (s .entry)) u w (now (heads .exit))) ⌝ }
+    ensures { λ r. ⌜ length (now (heads .exit)) ≡ 36 ⌝ }
+{
+    let v = y.service;
+    let n = m.headers;
+    let x = field(s, at, y, marks, 2, 0);
+    if header_named(s, v.release, heads, n, x) {
+        return Moved::Bad(9);
+    }
+    if !scope_right(s, at, y, marks, m.auto) {
+        return Moved::Bad(11);
+    }
+    let b = field_start(marks, 2, 0);
+    let e = field_end(marks, 2, 0);
+    push_header(heads, n, b, e);
+    Moved::To(with_header(m))
+}
+
+// A USA, a USC or a USR of the header group now open: a segment more in it.
+pub fn in_header(m: Message, g: Group, heads: &mut [usize; 36]) -> Moved
+    requires { ⌜ Roomy m (now heads) ⌝ }
+    requires { ⌜ (m .segments < 65536) × (length (now heads) ≡ 36) ⌝ }
+    ensures { λ r. ⌜ ((ρ : ℕ) (s : List ℕ) (u w : ℕ) → MovedIs (toM (grownBy (summaryIn ρ s m u w (now (heads .entry))) g (bump (headSizes (now (heads .entry)) (m .headers))))) r ρ s u w (now (heads .exit))) ⌝ }
+    ensures { λ r. ⌜ length (now (heads .exit)) ≡ 36 ⌝ }
+{
+    bump_header(heads, m.headers);
+    Moved::To(grown_to(m, g))
+}
+
+// A USR of the trailer group now open: a segment more in it.
+fn in_trailer(m: Message) -> Message
+    requires { ⌜ (m .segments < 65536) × (m .pair .own < 65536) ⌝ }
+    ensures { λ r. ⌜ r ≡ ownGrown m ⌝ }
+{
+    let u = m.sums;
+    let p = m.pair;
+    Message {
+        group: Group::Trailer(true),
+        auto: m.auto,
+        segments: m.segments + 1,
+        headers: m.headers,
+        sums: u,
+        pair: Pair {
+            even: p.even,
+            claim: p.claim,
+            base: p.base,
+            own: p.own + 1,
+        },
+    }
+}
+
+// A USR: the certificate's, or the trailer's; elsewhere it may not come.
+pub fn on_usr(m: Message, heads: &mut [usize; 36]) -> Moved
+    requires { ⌜ Roomy m (now heads) ⌝ }
+    requires { ⌜ (m .segments < 65536) × (length (now heads) ≡ 36) ⌝ }
+    ensures { λ r. ⌜ ((ρ : ℕ) (s : List ℕ) (u w : ℕ) → MovedIs (toM (usrNext (summaryIn ρ s m u w (now (heads .entry))) (m .group))) r ρ s u w (now (heads .exit))) ⌝ }
+    ensures { λ r. ⌜ length (now (heads .exit)) ≡ 36 ⌝ }
+{
+    let g = m.group;
+    match g {
+        Group::Certificate(n, k, _) => in_header(m, Group::Certificate(n, k, true), heads),
+        Group::Trailer(_) => Moved::To(in_trailer(m)),
+        Group::Opened => Moved::To(m),
+        Group::Header(_) => Moved::To(m),
+        Group::Body => Moved::To(m),
+        Group::Ack(_, _) => Moved::To(m),
+    }
+}
+
+// The number that an element's digits give.
+pub fn number_in(s: &[u8], at: usize, y: Syntax, marks: &[usize], p: usize) -> u64
+    requires { ⌜ Marked (y .service) (now s) at (now marks) ⌝ }
+    requires { ⌜ (1 ≤ p) × (p ≤ 5) × (inRange (digits 1 6) (textAt (y .service) (now s) at p 0) ≡ true) ⌝ }
+    ensures { λ r. ⌜ (r ≡ valueFrom 0 (textAt (y .service) (now (s .entry)) at p 0)) × (r < 1000000) ⌝ }
+{
+    let v = y.service;
+    match digits_value(field(s, at, y, marks, p, 0), v.release) {
+        Number::Is(n) => n,
+        Number::Not => 0,
+    }
+}
+
+// The message with a trailer more, which claims this and names a header of `base` segments.
+fn with_trailer(m: Message, claim: u64, base: usize) -> Message
+    requires { ⌜ (m .segments < 65536) × (m .pair .base < 4294967296) × (m .pair .own < 4294967296) ⌝ }
+    ensures { λ r. ⌜ r ≡ trailed m claim base ⌝ }
+{
+    let u = m.sums;
+    let p = m.pair;
+    let even = all_even(p);
+    Message {
+        group: Group::Trailer(false),
+        auto: m.auto,
+        segments: m.segments + 1,
+        headers: m.headers,
+        sums: u,
+        pair: Pair {
+            even: even,
+            claim: claim,
+            base: base,
+            own: 1,
+        },
+    }
+}
+
+// A UST: it names a header not yet named, and counts the pair's segments.
+pub fn on_ust(
+    s: &[u8],
+    at: usize,
+    y: Syntax,
+    m: Message,
+    marks: &[usize],
+    heads: &mut [usize; 36],
+) -> Moved
+    requires { ⌜ Marked (y .service) (now s) at (now marks) ⌝ }
+    requires { ⌜ Roomy m (now heads) ⌝ }
+    requires { ⌜ (m .segments < 65536) × (length (now heads) ≡ 36) ⌝ }
+    requires { ⌜ inRange (digits 1 6) (textAt (y .service) (now s) at 2 0) ≡ true ⌝ }
+    ensures { λ r. ⌜ ((u w : ℕ) → MovedIs (ustM (summaryIn (y .service .release) (now (s .entry)) m u w (now (heads .entry))) (askedAt (y .service) (now (s .entry)) at) (freeAt (textAt (y .service) (now (s .entry)) at 1 0) (headRefs (y .service .release) (now (s .entry)) (now (heads .entry)) (m .headers)) (headFlags (now (heads .entry)) (m .headers)))) r (y .service .release) (now (s .entry)) u w (now (heads .exit))) ⌝ }
+    ensures { λ r. ⌜ length (now (heads .exit)) ≡ 36 ⌝ }
+{
+    let v = y.service;
+    let n = m.headers;
+    let x = field(s, at, y, marks, 1, 0);
+    let i = free_header(s, v.release, heads, n, x);
+    if n <= i {
+        return Moved::Bad(9);
+    }
+    let base = heads[4 * i + 2];
+    name_header(heads, n, i);
+    Moved::To(with_trailer(m, number_in(s, at, y, marks, 2), base))
+}
+
+// A USY: it names a USH of its message.
+pub fn on_usy(
+    s: &[u8],
+    at: usize,
+    y: Syntax,
+    m: Message,
+    marks: &[usize],
+    heads: &[usize; 36],
+) -> Moved
+    requires { ⌜ Marked (y .service) (now s) at (now marks) ⌝ }
+    requires { ⌜ Roomy m (now heads) ⌝ }
+    requires { ⌜ m .segments < 65536 ⌝ }
+    ensures { λ r. ⌜ ((u w : ℕ) → MovedIs (usyM (summaryIn (y .service .release) (now (s .entry)) m u w (now (heads .entry))) (askedAt (y .service) (now (s .entry)) at)) r (y .service .release) (now (s .entry)) u w (now (heads .entry))) ⌝ }
+{
+    let v = y.service;
+    let x = field(s, at, y, marks, 1, 0);
+    if header_named(s, v.release, heads, m.headers, x) {
+        return Moved::To(grown_to(m, Group::Ack(true, true)));
+    }
+    Moved::Bad(9)
+}

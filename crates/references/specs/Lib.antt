@@ -1,0 +1,2 @@
+pub mod Refs
+pub mod RefsLaws
