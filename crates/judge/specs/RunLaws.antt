@@ -54,6 +54,9 @@ use Rattle.judge.specs.declared.walk.Phase.the-variants.{Start, Idle, Bu
 use Rattle.judge.specs.declared.walk.State.{State}
 use Rattle.judge.specs.declared.walk.Step.{Step}
 use Rattle.judge.specs.declared.walk.Step.the-variants.{On, Stop}
+use Rattle.judge.specs.declared.walk.Ahead.{Ahead}
+use Rattle.judge.specs.declared.walk.Advanced.{Advanced}
+use Rattle.judge.specs.declared.walk.Advanced.the-variants.{On as Further, Stop as Halt}
 use Rattle.judge.specs.declared.walk.Looked.{Looked}
 use Rattle.judge.specs.declared.walk.Looked.the-variants.{Seen, Bad}
 
@@ -113,6 +116,30 @@ pub record Looping (y : Syntax) (s : List ℕ) (answer : Answer) (x : State) (h 
   pub marks : length m ≡ 40
   pub links : length l ≡ length l₀
   pub buckets : length b ≡ length b₀
+
+-- what a turn of the walk asks: a place with octets left, before UNZ
+pub record Going (y : Syntax) (s : List ℕ) (x : State) (h l b : List ℕ) (i : ℕ) (m : List ℕ) : Type 0 where
+  pub fits : T (fit (y .service))
+  pub inside : i < length s
+  pub before : isDone (x .phase) ≡ false
+  pub held : Held (y .service .release) s x h l b i
+  pub first : x .phase ≡ Start → x .count ≡ 0
+  pub marks : length m ≡ 40
+
+-- a turn that goes on: the walk with one segment more, g, which stands from i to the next place
+pub record Onward {y : Syntax} {s : List ℕ} {answer : Answer} {x : State} {h l b : List ℕ} {i : ℕ} (w : Walking y s answer x h l b i) (a : Ahead) (h′ l′ b′ : List ℕ) : Type 0 where
+  pub walks : Walking y s answer (a .state) h′ l′ b′ (a .next)
+  pub g : Segment
+  pub passed : Passed y (w .tree) g (walks .tree)
+  pub view : askedAt (y .service) s i ≡ asked g
+  pub octets : printS (y .service) g ≡ slice i (a .next) s
+  pub size : i + length (printS (y .service) g) ≡ a .next
+  pub inside : a .next ≤ length s
+  pub kind : a .kind ≡ kindOf (asked g .tag)
+
+abbrev pub AdvancedIs : {y : Syntax} {s : List ℕ} {answer : Answer} {x : State} {h l b : List ℕ} {i : ℕ} → Walking y s answer x h l b i → Advanced → List ℕ → List ℕ → List ℕ → Type 0
+AdvancedIs w (Further a) h′ l′ b′ = Onward w a h′ l′ b′
+AdvancedIs {answer = answer} w (Halt f) h′ l′ b′ = answer ≡ refused (f .number) (f .place)
 
 -- nothing read yet
 pub walking-start : {y : Syntax} {s h l b : List ℕ} {x : State} {i : ℕ} → Fresh y s l b → length h ≡ 36 → x ≡ unreadAs
@@ -190,15 +217,15 @@ unlike h = let z : _≡_ {A = ℕ} 0 1 = cc in let w : ⊥ = omega arith in absu
 bad-same : {f g : Refusal} → Bad f ≡ Bad g → f ≡ g
 bad-same h = cc
 
-numbered : {n p : ℕ} {f : Refusal} {a : Answer} → Bad (record { number = n; place = p }) ≡ Bad f → a ≡ refused n p → walked a ≡ f .number ∷ f .place ∷ []
-numbered {n} {p} {f} {a} h e = ap walked e ∙ ap (λ (f : Refusal). f .number ∷ f .place ∷ []) (bad-same h)
+numbered : {n p : ℕ} {f : Refusal} {a : Answer} → Bad (record { number = n; place = p }) ≡ Bad f → a ≡ refused n p → a ≡ refused (f .number) (f .place)
+numbered {n} {p} {f} {a} h e = e ∙ ap (λ (f : Refusal). refused (f .number) (f .place)) (bad-same h)
 
 bad-look : (y : Syntax) → T (fit (y .service)) → (x : Reading) → over (stateOf x) ≡ false → (s : List ℕ) (i : ℕ) → i < length s → {f : Refusal} → lookedAt y s i ≡ Bad f
-    → walked (walk y x (chain (y .service) false (drop i s)) i) ≡ f .number ∷ f .place ∷ []
+    → walk y x (chain (y .service) false (drop i s)) i ≡ refused (f .number) (f .place)
 bad-look y d x o s i l {f} e = by (cutAt y s i) refl (tagOf (y .service) (drop i s)) refl e
   where
     by : (q : Cut) → cutAt y s i ≡ q → (t : Tag) → tagOf (y .service) (drop i s) ≡ t → seenBy q t i ≡ Bad f
-        → walked (walk y x (chain (y .service) false (drop i s)) i) ≡ f .number ∷ f .place ∷ []
+        → walk y x (chain (y .service) false (drop i s)) i ≡ refused (f .number) (f .place)
     by Open h NoTag k e = numbered e (walk-none y x s i l (cut-open y s i h) ∙ not-done x o i (refused 4 i))
     by (Ends q) h NoTag k e = numbered e (walk-bad y x s i d (cut-ends y s i h) k ∙ not-done x o i (refused 4 i))
     by (Spoilt q p) h NoTag k e = numbered e (walk-bad y x s i d (cut-spoilt y s i h) k ∙ not-done x o i (refused 4 i))
@@ -291,8 +318,8 @@ module _ {y : Syntax} {s : List ℕ} {answer : Answer} {x : State} {h l b : List
 
   module _ (f : T (fit (y .service))) (m : isDone (x .phase) ≡ false) where
     -- no segment, or one outside the repertoire
-    pub walking-bad : i < length s → {r : Refusal} → lookedAt y s i ≡ Bad r → walked answer ≡ r .number ∷ r .place ∷ []
-    walking-bad k e = ap walked (sym (w .goes)) ∙ bad-look y f (w .tree) (stands m) s i k e
+    pub walking-bad : i < length s → {r : Refusal} → lookedAt y s i ≡ Bad r → answer ≡ refused (r .number) (r .place)
+    walking-bad k e = sym (w .goes) ∙ bad-look y f (w .tree) (stands m) s i k e
 
     module _ {e : ℕ} {k : Kind} (v : lookedAt y s i ≡ Seen e k) where
       seen : Whole y s i e k
@@ -318,18 +345,18 @@ module _ {y : Syntax} {s : List ℕ} {answer : Answer} {x : State} {h l b : List
 
       stops : {r : Refusal} (h′ l′ b′ : List ℕ)
           → StepIs (decidedFrom (y .version) (stateIn (y .service .release) s x h l) (askedAt (y .service) s i) i) (Stop r) (y .service .release) s h′ l′ b′ (e + 1)
-          → walked answer ≡ r .number ∷ r .place ∷ []
+          → answer ≡ refused (r .number) (r .place)
       stops {r} h′ l′ b′ g =
           by decision goes-so (subst (λ (a : AnswerS). StepIs a (Stop r) (y .service .release) s h′ l′ b′ (e + 1)) tells g)
         where
-          by : (d : Answer) → answer ≡ then d onward → StepIs (told d) (Stop r) (y .service .release) s h′ l′ b′ (e + 1) → walked answer ≡ r .number ∷ r .place ∷ []
+          by : (d : Answer) → answer ≡ then d onward → StepIs (told d) (Stop r) (y .service .release) s h′ l′ b′ (e + 1) → answer ≡ refused (r .number) (r .place)
           by (read z) q g = absurd g
-          by (refused n p) q g = ap walked q ∙ rw (g .0, g .1)
+          by (refused n p) q g = q ∙ rw (g .0, g .1)
 
       -- the step stops
       pub walking-stop : (r : Step) {g : Refusal} (h′ l′ b′ : List ℕ) → r ≡ Stop g
           → StepIs (decidedFrom (y .version) (stateIn (y .service .release) s x h l) (askedAt (y .service) s i) i) r (y .service .release) s h′ l′ b′ (e + 1)
-          → walked answer ≡ g .number ∷ g .place ∷ []
+          → answer ≡ refused (g .number) (g .place)
       walking-stop r h′ l′ b′ q a =
           stops h′ l′ b′
           (subst (λ (r : Step). StepIs (decidedFrom (y .version) (stateIn (y .service .release) s x h l) (askedAt (y .service) s i) i) r (y .service .release) s h′ l′ b′ (e + 1))
@@ -337,31 +364,61 @@ module _ {y : Syntax} {s : List ℕ} {answer : Answer} {x : State} {h l b : List
 
       goes-on : {x′ : State} {h′ l′ b′ : List ℕ}
           → StepIs (decidedFrom (y .version) (stateIn (y .service .release) s x h l) (askedAt (y .service) s i) i) (On x′) (y .service .release) s h′ l′ b′ (e + 1)
-          → Walking y s answer x′ h′ l′ b′ (e + 1)
+          → Onward w (record { state = x′; next = e + 1; kind = k }) h′ l′ b′
       goes-on {x′} {h′} {l′} {b′} g =
           by decision refl goes-so (subst (λ (a : AnswerS). StepIs a (On x′) (y .service .release) s h′ l′ b′ (e + 1)) tells g)
         where
-          by : (d : Answer) → decision ≡ d → answer ≡ then d onward → StepIs (told d) (On x′) (y .service .release) s h′ l′ b′ (e + 1) → Walking y s answer x′ h′ l′ b′ (e + 1)
+          by : (d : Answer) → decision ≡ d → answer ≡ then d onward → StepIs (told d) (On x′) (y .service .release) s h′ l′ b′ (e + 1)
+              → Onward w (record { state = x′; next = e + 1; kind = k }) h′ l′ b′
           by (refused n p) u q g = absurd g
           by (read z) u q g =
               let a : Passed y (w .tree) (turned .g) z = step-passed y (w .tree) (turned .g) i u in
               record {
-                tree = z;
-                good = passed-good (w .good) a;
-                same = sym (g .0);
-                held = g .1;
-                first = λ n. absurd (never-start z a (sym (g .0) ∙ start-in (y .service .release) s x′ h′ l′ n));
-                goes = sym q;
+                walks = record {
+                  tree = z;
+                  good = passed-good (w .good) a;
+                  same = sym (g .0);
+                  held = g .1;
+                  first = λ n. absurd (never-start z a (sym (g .0) ∙ start-in (y .service .release) s x′ h′ l′ n));
+                  goes = sym q;
+                };
+                g = turned .g;
+                passed = a;
+                view = turned .asked;
+                octets = turned .octets;
+                size = turned .size;
+                inside = seen .inside;
+                kind = seen .kind ∙ ap kindOf (ap (λ (a : Asked). a .tag) (turned .asked));
               }
 
       -- the step goes on
       pub walking-on : (r : Step) {x′ : State} {h′ l′ b′ : List ℕ} → r ≡ On x′
           → StepIs (decidedFrom (y .version) (stateIn (y .service .release) s x h l) (askedAt (y .service) s i) i) r (y .service .release) s h′ l′ b′ (e + 1)
-          → Walking y s answer x′ h′ l′ b′ (e + 1)
+          → Onward w (record { state = x′; next = e + 1; kind = k }) h′ l′ b′
       walking-on r {x′} {h′} {l′} {b′} q a =
           goes-on
           (subst (λ (r : Step). StepIs (decidedFrom (y .version) (stateIn (y .service .release) s x h l) (askedAt (y .service) s i) i) r (y .service .release) s h′ l′ b′ (e + 1))
           q a)
+
+-- ---- what a caller of a turn has
+
+pub going : {y : Syntax} {s : List ℕ} {answer : Answer} {x : State} {h l b m : List ℕ} {i : ℕ} → Walking y s answer x h l b i → T (fit (y .service)) → i < length s
+    → isDone (x .phase) ≡ false → length m ≡ 40 → Going y s x h l b i m
+going w f n d k = record { fits = f; inside = n; before = d; held = w .held; first = w .first; marks = k }
+
+module _ {y : Syntax} {s : List ℕ} {answer : Answer} {x : State} {h l b : List ℕ} {i : ℕ} (w : Walking y s answer x h l b i) {h′ l′ b′ : List ℕ} where
+  pub further : (r : Advanced) {a : Ahead} → r ≡ Further a → AdvancedIs w r h′ l′ b′ → Onward w a h′ l′ b′
+  further r q a = subst (λ (r : Advanced). AdvancedIs w r h′ l′ b′) q a
+
+  pub onward-far : {a : Ahead} → Onward w a h′ l′ b′ → i + 4 ≤ a .next
+  onward-far o =
+      let n = long-print (y .service) (o .g) in
+      let z = o .size in
+      omega (arith, n, z)
+
+module _ {y : Syntax} {s : List ℕ} {answer : Answer} {x : State} {h l b : List ℕ} {i : ℕ} (w : Walking y s answer x h l b i) where
+  pub halted : (h′ l′ b′ : List ℕ) (r : Advanced) {f : Refusal} → r ≡ Halt f → AdvancedIs w r h′ l′ b′ → answer ≡ refused (f .number) (f .place)
+  halted h′ l′ b′ r q a = subst (λ (r : Advanced). AdvancedIs w r h′ l′ b′) q a
 
 -- ---- the verdict by what was begun
 

@@ -9,11 +9,13 @@ ghost use Rattle.syntax.specs.Service.{fit};
 ghost use Rattle.syntax.specs.Repertoire.{Table};
 ghost use Rattle.syntax.specs.Reader.{chain};
 ghost use Rattle.grammar.specs.Interchange.{start};
-ghost use Rattle.grammar.specs.Verdict.{verdictOf, numbers, walk};
+ghost use Rattle.grammar.specs.Verdict.{Answer, verdictOf, numbers, walk};
 ghost use Rattle.judge.specs.Held.{told, walked};
 ghost use Rattle.elements.specs.Formed.{looked};
 ghost use Rattle.elements.specs.Fields.{Fields};
-ghost use Rattle.judge.specs.RunLaws.{unreadAs, isDone, Fresh};
+ghost use Rattle.judge.specs.RunLaws.{unreadAs, isDone, Fresh, Walking, Going, AdvancedIs};
+use crate::walk::Advanced;
+use crate::walk::Ahead;
 use crate::walk::Looked;
 use crate::walk::Phase;
 use crate::walk::State;
@@ -105,6 +107,39 @@ fn noted(s: &[u8], at: usize, t: &[u8; 256], y: Syntax, k: Kind, marks: &mut [us
     }
 }
 
+// One segment further: the segment at `at` is looked at, read and stepped over.
+pub fn advance(
+    s: &[u8],
+    at: usize,
+    t: &[u8; 256],
+    y: Syntax,
+    st: State,
+    marks: &mut [usize],
+    heads: &mut [usize; 36],
+    links: &mut [u32],
+    buckets: &mut [u32],
+) -> Advanced
+    requires { ⌜ Table y (now t) ⌝ }
+    requires { ⌜ Going y (now s) st (now heads) (now links) (now buckets) at (now marks) ⌝ }
+    ensures { λ r. ⌜ ((a : Answer) (w : Walking y (now (s .entry)) a st (now (heads .entry)) (now (links .entry)) (now (buckets .entry)) at) → AdvancedIs w r (now (heads .exit)) (now (links .exit)) (now (buckets .exit))) ⌝ }
+    ensures { λ r. ⌜ length (now (marks .exit)) ≡ 40 ⌝ }
+{
+    match look(s, at, t, y) {
+        Looked::Bad(f) => Advanced::Stop(f),
+        Looked::Seen(e, k) => {
+            let f = noted(s, at, t, y, k, marks);
+            match turn(s, at, e + 1, y, st, k, f, marks, heads, links, buckets) {
+                Step::Stop(g) => Advanced::Stop(g),
+                Step::On(x) => Advanced::On(Ahead {
+                    state: x,
+                    next: e + 1,
+                    kind: k,
+                }),
+            }
+        }
+    }
+}
+
 // Every segment from `from` on; the first bad one decides. `links` has room for a message in each 8 octets.
 fn run(
     s: &[u8],
@@ -127,33 +162,14 @@ fn run(
         if is_done(p) {
             return refused(7, at);
         }
-        match look(s, at, t, y) {
-            Looked::Bad(f) => {
+        match advance(s, at, t, y, st, &mut marks, &mut heads, links, buckets) {
+            Advanced::Stop(f) => {
                 return Verdict::Refused(f);
             }
-            Looked::Seen(e, k) => {
-                let f = noted(s, at, t, y, k, &mut marks);
-                match turn(
-                    s,
-                    at,
-                    e + 1,
-                    y,
-                    st,
-                    k,
-                    f,
-                    &marks,
-                    &mut heads,
-                    &mut *links,
-                    &mut *buckets,
-                ) {
-                    Step::Stop(g) => {
-                        return Verdict::Refused(g);
-                    }
-                    Step::On(x) => {
-                        st = x;
-                    }
-                }
-                at = e + 1;
+            Advanced::On(a) => {
+                let x = a.state;
+                st = x;
+                at = a.next;
             }
         }
     }

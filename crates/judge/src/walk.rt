@@ -108,6 +108,18 @@ pub enum Looked {
     Bad(Refusal),
 }
 
+// After a segment: the state, the place of the next one, and what the segment was.
+pub struct Ahead {
+    pub state: State,
+    pub next: usize,
+    pub kind: Kind,
+}
+
+pub enum Advanced {
+    On(Ahead),
+    Stop(Refusal),
+}
+
 fn unseen(number: u8, place: usize) -> Looked
     ensures { λ r. ⌜ r ≡ unseenAs number place ⌝ }
 {
