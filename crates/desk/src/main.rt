@@ -3,8 +3,9 @@
 use judge::run::judge;
 use judge::walk::Verdict;
 use libc::STDIN_FILENO;
-use libc::STDOUT_FILENO;
-use syntax::Refusal;
+use printing::flush;
+use printing::print_refusal;
+use printing::text;
 use syntax::content::part;
 
 // How many octets a hex word stands for, or that it is no hex word.
@@ -19,47 +20,8 @@ enum Turn {
     Over,
 }
 
-// What is printed waits in `out`, of which `n` octets are taken. Each function that prints answers how many are taken after it.
-fn flush(out: &[u8; 4096], n: usize) {
-    io::write_all(STDOUT_FILENO, part(out, 0, n));
-}
-
-fn put(out: &mut [u8; 4096], n: usize, b: u8) -> usize {
-    if n < 4096 {
-        out[n] = b;
-        return n + 1;
-    }
-    flush(out, n);
-    out[0] = b;
-    1
-}
-
-fn text(out: &mut [u8; 4096], n: usize, t: &[u8]) -> usize {
-    let mut k = n;
-    let mut i: usize = 0;
-    while i < t.len() {
-        k = put(out, k, t[i]);
-        i += 1;
-    }
-    k
-}
-
-fn number(out: &mut [u8; 4096], n: usize, v: u64) -> usize {
-    let mut digits = [0u8; 20];
-    let k = io::decimal(v, &mut digits);
-    text(out, n, &digits[..k])
-}
-
 fn print_bad(out: &mut [u8; 4096], n: usize) -> usize {
     text(out, n, b"bad\n")
-}
-
-fn print_refusal(out: &mut [u8; 4096], n: usize, f: Refusal) -> usize {
-    let mut k = text(out, n, b"refused ");
-    k = number(out, k, f.number as u64);
-    k = put(out, k, 32);
-    k = number(out, k, f.place as u64);
-    put(out, k, 10)
 }
 
 fn print_verdict(out: &mut [u8; 4096], n: usize, v: Verdict) -> usize {

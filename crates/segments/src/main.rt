@@ -1,7 +1,11 @@
 // For an interchange on standard input: each segment's place and tag, and its components as content, or the refusal that the
 // syntax alone can tell (1, 2, 4, 5, 6, and 3 after them).
 use libc::STDIN_FILENO;
-use libc::STDOUT_FILENO;
+use printing::flush;
+use printing::number;
+use printing::print_refusal_at;
+use printing::put;
+use printing::text;
 use syntax::Refusal;
 use syntax::Syntax;
 use syntax::content::Next;
@@ -30,45 +34,6 @@ struct Place {
 enum Checked {
     Good(usize),
     Refused(Refusal),
-}
-
-// What is printed waits in `out`, of which `n` octets are taken. Each function that prints answers how many are taken after it.
-fn flush(out: &[u8], n: usize) {
-    io::write_all(STDOUT_FILENO, part(out, 0, n));
-}
-
-fn put(out: &mut [u8; 4096], n: usize, b: u8) -> usize {
-    if n < 4096 {
-        out[n] = b;
-        return n + 1;
-    }
-    flush(out, n);
-    out[0] = b;
-    1
-}
-
-fn text(out: &mut [u8; 4096], n: usize, t: &[u8]) -> usize {
-    let mut k = n;
-    let mut i: usize = 0;
-    while i < t.len() {
-        k = put(out, k, t[i]);
-        i += 1;
-    }
-    k
-}
-
-fn number(out: &mut [u8; 4096], n: usize, v: u64) -> usize {
-    let mut digits = [0u8; 20];
-    let k = io::decimal(v, &mut digits);
-    text(out, n, &digits[..k])
-}
-
-fn print_refusal(out: &mut [u8; 4096], n: usize, f: Refusal) -> usize {
-    let mut k = text(out, n, b"refused ");
-    k = number(out, k, f.number as u64);
-    k = text(out, k, b" at ");
-    k = number(out, k, f.place as u64);
-    put(out, k, 10)
 }
 
 fn print_content(out: &mut [u8; 4096], n: usize, x: &[u8], release: u8) -> usize {
@@ -287,10 +252,10 @@ fn list(out: &mut [u8; 4096], s: &[u8]) -> usize {
             let t = table(y);
             match first_bad(s, at, &t, y) {
                 Checked::Good(_) => print_segments(out, 0, s, at, &t, y),
-                Checked::Refused(f) => print_refusal(out, 0, f),
+                Checked::Refused(f) => print_refusal_at(out, 0, f),
             }
         }
-        Begun::Refused(f) => print_refusal(out, 0, f),
+        Begun::Refused(f) => print_refusal_at(out, 0, f),
     }
 }
 

@@ -1,8 +1,8 @@
 use Prim.Native.Nat.{_-_}
 use lib.ListN.{length}
 use borrow.Author.Needs.{needs}
-use Rattle.desk.proofs.text.Statement.{statement}
-use Rattle.desk.proofs.text.Tie as tie
+use Rattle.printing.proofs.text.Statement.{statement}
+use Rattle.printing.proofs.text.Tie as tie
 
 abbrev Inv-loop : tie.InvT-loop
 Inv-loop out₀ n t k₀ i₀ out k i = Unit {0}
