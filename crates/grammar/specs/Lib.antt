@@ -7,6 +7,7 @@ pub mod Elements
 pub mod Rules
 pub mod Valid
 pub mod Placing
+pub mod Places
 pub mod Verdict
 pub mod Counted
 pub mod Example
@@ -17,6 +18,7 @@ pub mod Running
 pub mod SnocLaws
 pub mod RuleLaws
 pub mod PlacingLaws
+pub mod PlacesLaws
 pub mod RunningLaws
 pub mod WalkLaws
 pub mod StartLaws
