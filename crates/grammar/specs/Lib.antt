@@ -23,3 +23,4 @@ pub mod RunningLaws
 pub mod WalkLaws
 pub mod StartLaws
 pub mod VerdictLaws
+pub mod PairLaws

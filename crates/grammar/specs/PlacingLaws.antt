@@ -56,6 +56,10 @@ kind-in (entry u k ∷ r) t n h e =
     by true f h ih e = named-entry u t n k h (f tt) e
     by false f h ih e = ih e
 
+-- a text of a name is that name's tag
+pub tag-named : (t : List ℕ) (n : Name) → kindIn tags t ≡ Named n → t ≡ textOf n
+tag-named t n e = kind-in tags t n tags-right e
+
 -- a segment of a name is its elements behind that name's tag
 pub kind-named : (g : Segment) (n : Name) → kindOf g ≡ Named n → g ≡ seg n (elementsOf g)
 kind-named (segment a b c es) n e = ap (λ (t : List ℕ). withTag t es) (kind-in tags (a ∷ b ∷ c ∷ []) n tags-right e)

@@ -4,3 +4,7 @@ pub mod TurnLaws
 pub mod WalkingLaws
 pub mod BusyLaws
 pub mod RunLaws
+pub mod Layout
+pub mod LayoutLaws
+pub mod Sections
+pub mod SectionLaws

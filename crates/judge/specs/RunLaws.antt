@@ -31,6 +31,7 @@ use Rattle.grammar.specs.Lists.{Snoc}
 use Rattle.grammar.specs.Segments.{Asked, asked}
 use Rattle.grammar.specs.Interchange.{Reading, start, idle, busy, done, shown}
 use Rattle.grammar.specs.Placing.{place}
+use Rattle.grammar.specs.Places.{wide}
 use Rattle.grammar.specs.PlacingLaws.{shows}
 use Rattle.grammar.specs.SnocLaws.{not-nil}
 use Rattle.grammar.specs.Running.{Passed, Good}
@@ -71,6 +72,13 @@ isDone Idle = false
 isDone Busy = false
 isDone Done = true
 
+-- a message is open
+abbrev pub isBusy : Phase → Bool
+isBusy Start = false
+isBusy Idle = false
+isBusy Busy = true
+isBusy Done = false
+
 abbrev over : StateS → Bool
 over startS = false
 over (idleS u rs) = false
@@ -101,34 +109,32 @@ pub record Fresh (y : Syntax) (s l b : List ℕ) : Type 0 where
   pub room : length s ≤ 2 * length l
   pub chained : Chained (y .service .release) s l b 0
 
--- a good tree was read up to i, the state x is what is kept of it, and the walk from there gives the answer
-pub record Walking (y : Syntax) (s : List ℕ) (answer : Answer) (x : State) (h l b : List ℕ) (i : ℕ) : Type 0 where
+-- what the walk makes of the octets from p on
+abbrev pub answerFrom : Syntax → List ℕ → ℕ → Answer
+answerFrom y s p = walk y start (chain (y .service) false (drop p s)) p
+
+-- a good tree was read from `from` up to i, the state x is what is kept of it, and the walk from there gives the answer
+pub record Walking (y : Syntax) (s : List ℕ) (from : ℕ) (x : State) (h l b : List ℕ) (i : ℕ) : Type 0 where
   pub tree : Reading
   pub good : Good y tree
   pub same : stateOf tree ≡ stateIn (y .service .release) s x h l
   pub held : Held (y .service .release) s x h l b i
   pub first : x .phase ≡ Start → x .count ≡ 0
-  pub goes : walk y tree (chain (y .service) false (drop i s)) i ≡ answer
-
--- with the marks m, and the lengths of l and b kept
-pub record Looping (y : Syntax) (s : List ℕ) (answer : Answer) (x : State) (h l b : List ℕ) (i : ℕ) (m l₀ b₀ : List ℕ) : Type 0 where
-  pub walks : Walking y s answer x h l b i
-  pub marks : length m ≡ 40
-  pub links : length l ≡ length l₀
-  pub buckets : length b ≡ length b₀
+  pub goes : walk y tree (chain (y .service) false (drop i s)) i ≡ answerFrom y s from
+  pub placed : i ≡ from + wide (y .service) (shown tree)
 
 -- what a turn of the walk asks: a place with octets left, before UNZ
 pub record Going (y : Syntax) (s : List ℕ) (x : State) (h l b : List ℕ) (i : ℕ) (m : List ℕ) : Type 0 where
   pub fits : T (fit (y .service))
   pub inside : i < length s
   pub before : isDone (x .phase) ≡ false
-  pub held : Held (y .service .release) s x h l b i
-  pub first : x .phase ≡ Start → x .count ≡ 0
+  pub begun : ℕ
+  pub walks : Walking y s begun x h l b i
   pub marks : length m ≡ 40
 
 -- a turn that goes on: the walk with one segment more, g, which stands from i to the next place
-pub record Onward {y : Syntax} {s : List ℕ} {answer : Answer} {x : State} {h l b : List ℕ} {i : ℕ} (w : Walking y s answer x h l b i) (a : Ahead) (h′ l′ b′ : List ℕ) : Type 0 where
-  pub walks : Walking y s answer (a .state) h′ l′ b′ (a .next)
+pub record Onward {y : Syntax} {s : List ℕ} {from : ℕ} {x : State} {h l b : List ℕ} {i : ℕ} (w : Walking y s from x h l b i) (a : Ahead) (h′ l′ b′ : List ℕ) : Type 0 where
+  pub walks : Walking y s from (a .state) h′ l′ b′ (a .next)
   pub g : Segment
   pub passed : Passed y (w .tree) g (walks .tree)
   pub view : askedAt (y .service) s i ≡ asked g
@@ -137,15 +143,15 @@ pub record Onward {y : Syntax} {s : List ℕ} {answer : Answer} {x : State} {h l
   pub inside : a .next ≤ length s
   pub kind : a .kind ≡ kindOf (asked g .tag)
 
-abbrev pub AdvancedIs : {y : Syntax} {s : List ℕ} {answer : Answer} {x : State} {h l b : List ℕ} {i : ℕ} → Walking y s answer x h l b i → Advanced → List ℕ → List ℕ → List ℕ → Type 0
+abbrev pub AdvancedIs : {y : Syntax} {s : List ℕ} {from : ℕ} {x : State} {h l b : List ℕ} {i : ℕ} → Walking y s from x h l b i → Advanced → List ℕ → List ℕ → List ℕ → Type 0
 AdvancedIs w (Further a) h′ l′ b′ = Onward w a h′ l′ b′
-AdvancedIs {answer = answer} w (Halt f) h′ l′ b′ = answer ≡ refused (f .number) (f .place)
+AdvancedIs {y = y} {s = s} {from = from} w (Halt f) h′ l′ b′ = answerFrom y s from ≡ refused (f .number) (f .place)
 
 -- nothing read yet
 pub walking-start : {y : Syntax} {s h l b : List ℕ} {x : State} {i : ℕ} → Fresh y s l b → length h ≡ 36 → x ≡ unreadAs
-    → Walking y s (walk y start (chain (y .service) false (drop i s)) i) x h l b i
+    → Walking y s i x h l b i
 walking-start {y} {s} {h} {l} {b} {x} {i} f n e =
-    subst (λ (x : State). Walking y s (walk y start (chain (y .service) false (drop i s)) i) x h l b i) (sym e)
+    subst (λ (x : State). Walking y s i x h l b i) (sym e)
     (record {
       tree = start;
       good = good-start y;
@@ -170,7 +176,11 @@ walking-start {y} {s} {h} {l} {b} {x} {i} f n e =
       };
       first = λ e. refl;
       goes = refl;
+      placed = omega arith;
     })
+
+pub unread-idle : {A : Type 0} {x : State} → x ≡ unreadAs → isBusy (x .phase) ≡ true → A
+unread-idle e t = absurd (false≢true (sym (ap (λ (x : State). isBusy (x .phase)) e) ∙ t))
 
 -- ---- by what the walk makes of octets that are left
 
@@ -237,7 +247,7 @@ bad-look y d x o s i l {f} e = by (cutAt y s i) refl (tagOf (y .service) (drop i
         ∙ ap (λ (a : Answer). then a (λ (z : Reading). walk y z (chain (y .service) false (drop (q + 1) s)) (q + 1))) (turned-three t h (place x (t .g))))
 
 -- a segment has a tag and a terminator
-long-print : (σ : Service) (g : Segment) → 4 ≤ length (printS σ g)
+pub long-print : (σ : Service) (g : Segment) → 4 ≤ length (printS σ g)
 long-print σ (segment a b c []) = omega arith
 long-print σ (segment a b c (e ∷ es)) = omega arith
 
@@ -299,26 +309,26 @@ never-start (idle u ms) p e = let z : _≡_ {A = ℕ} 0 1 = cc in omega arith
 never-start (busy u ms o) p e = let z : _≡_ {A = ℕ} 0 1 = cc in omega arith
 never-start (done u ms w) p e = let z : _≡_ {A = ℕ} 0 1 = cc in omega arith
 
-module _ {y : Syntax} {s : List ℕ} {answer : Answer} {x : State} {h l b : List ℕ} {i : ℕ} (w : Walking y s answer x h l b i) where
+module _ {y : Syntax} {s : List ℕ} {from : ℕ} {x : State} {h l b : List ℕ} {i : ℕ} (w : Walking y s from x h l b i) where
   stands : {t : Bool} → isDone (x .phase) ≡ t → over (stateOf (w .tree)) ≡ t
   stands e = ap over (w .same) ∙ over-in (y .service .release) s x h l ∙ e
 
   -- all is read, and octets are left
-  pub walking-more : T (fit (y .service)) → i < length s → isDone (x .phase) ≡ true → walked answer ≡ 7 ∷ i ∷ []
+  pub walking-more : T (fit (y .service)) → i < length s → isDone (x .phase) ≡ true → walked (answerFrom y s from) ≡ 7 ∷ i ∷ []
   walking-more f k e =
       let a = some-left y f (w .tree) s i k in
       ap walked (sym (w .goes) ∙ a .1 ∙ when-done (w .tree) (stands e) i (a .0))
 
   -- the octets are over
-  pub walking-done : length s ≤ i → isDone (x .phase) ≡ true → walked answer ≡ 0 ∷ 0 ∷ []
+  pub walking-done : length s ≤ i → isDone (x .phase) ≡ true → walked (answerFrom y s from) ≡ 0 ∷ 0 ∷ []
   walking-done k e = ap walked (sym (w .goes) ∙ walk-over y (w .tree) s i k) ∙ end-done (w .tree) (stands e) i
 
-  pub walking-early : length s ≤ i → isDone (x .phase) ≡ false → walked answer ≡ 7 ∷ i ∷ []
+  pub walking-early : length s ≤ i → isDone (x .phase) ≡ false → walked (answerFrom y s from) ≡ 7 ∷ i ∷ []
   walking-early k e = ap walked (sym (w .goes) ∙ walk-over y (w .tree) s i k) ∙ end-early (w .tree) (stands e) i
 
   module _ (f : T (fit (y .service))) (m : isDone (x .phase) ≡ false) where
     -- no segment, or one outside the repertoire
-    pub walking-bad : i < length s → {r : Refusal} → lookedAt y s i ≡ Bad r → answer ≡ refused (r .number) (r .place)
+    pub walking-bad : i < length s → {r : Refusal} → lookedAt y s i ≡ Bad r → answerFrom y s from ≡ refused (r .number) (r .place)
     walking-bad k e = sym (w .goes) ∙ bad-look y f (w .tree) (stands m) s i k e
 
     module _ {e : ℕ} {k : Kind} (v : lookedAt y s i ≡ Seen e k) where
@@ -334,7 +344,7 @@ module _ {y : Syntax} {s : List ℕ} {answer : Answer} {x : State} {h l b : List
       abbrev onward : Reading → Answer
       onward z = walk y z (chain (y .service) false (drop (e + 1) s)) (e + 1)
 
-      goes-so : answer ≡ then decision onward
+      goes-so : answerFrom y s from ≡ then decision onward
       goes-so = sym (w .goes) ∙ turned .goes ∙ not-done (w .tree) (stands m) i (then decision onward)
 
       tells : decidedFrom (y .version) (stateIn (y .service .release) s x h l) (askedAt (y .service) s i) i ≡ told decision
@@ -345,18 +355,18 @@ module _ {y : Syntax} {s : List ℕ} {answer : Answer} {x : State} {h l b : List
 
       stops : {r : Refusal} (h′ l′ b′ : List ℕ)
           → StepIs (decidedFrom (y .version) (stateIn (y .service .release) s x h l) (askedAt (y .service) s i) i) (Stop r) (y .service .release) s h′ l′ b′ (e + 1)
-          → answer ≡ refused (r .number) (r .place)
+          → answerFrom y s from ≡ refused (r .number) (r .place)
       stops {r} h′ l′ b′ g =
           by decision goes-so (subst (λ (a : AnswerS). StepIs a (Stop r) (y .service .release) s h′ l′ b′ (e + 1)) tells g)
         where
-          by : (d : Answer) → answer ≡ then d onward → StepIs (told d) (Stop r) (y .service .release) s h′ l′ b′ (e + 1) → answer ≡ refused (r .number) (r .place)
+          by : (d : Answer) → answerFrom y s from ≡ then d onward → StepIs (told d) (Stop r) (y .service .release) s h′ l′ b′ (e + 1) → answerFrom y s from ≡ refused (r .number) (r .place)
           by (read z) q g = absurd g
           by (refused n p) q g = q ∙ rw (g .0, g .1)
 
       -- the step stops
       pub walking-stop : (r : Step) {g : Refusal} (h′ l′ b′ : List ℕ) → r ≡ Stop g
           → StepIs (decidedFrom (y .version) (stateIn (y .service .release) s x h l) (askedAt (y .service) s i) i) r (y .service .release) s h′ l′ b′ (e + 1)
-          → answer ≡ refused (g .number) (g .place)
+          → answerFrom y s from ≡ refused (g .number) (g .place)
       walking-stop r h′ l′ b′ q a =
           stops h′ l′ b′
           (subst (λ (r : Step). StepIs (decidedFrom (y .version) (stateIn (y .service .release) s x h l) (askedAt (y .service) s i) i) r (y .service .release) s h′ l′ b′ (e + 1))
@@ -368,7 +378,7 @@ module _ {y : Syntax} {s : List ℕ} {answer : Answer} {x : State} {h l b : List
       goes-on {x′} {h′} {l′} {b′} g =
           by decision refl goes-so (subst (λ (a : AnswerS). StepIs a (On x′) (y .service .release) s h′ l′ b′ (e + 1)) tells g)
         where
-          by : (d : Answer) → decision ≡ d → answer ≡ then d onward → StepIs (told d) (On x′) (y .service .release) s h′ l′ b′ (e + 1)
+          by : (d : Answer) → decision ≡ d → answerFrom y s from ≡ then d onward → StepIs (told d) (On x′) (y .service .release) s h′ l′ b′ (e + 1)
               → Onward w (record { state = x′; next = e + 1; kind = k }) h′ l′ b′
           by (refused n p) u q g = absurd g
           by (read z) u q g =
@@ -381,6 +391,7 @@ module _ {y : Syntax} {s : List ℕ} {answer : Answer} {x : State} {h l b : List
                   held = g .1;
                   first = λ n. absurd (never-start z a (sym (g .0) ∙ start-in (y .service .release) s x′ h′ l′ n));
                   goes = sym q;
+                  placed = let n = turned .size in let m = w .placed in let k = ap (wide (y .service)) (shows (w .tree) (turned .g) (a .placed)) in omega (arith, n, m, k);
                 };
                 g = turned .g;
                 passed = a;
@@ -402,11 +413,11 @@ module _ {y : Syntax} {s : List ℕ} {answer : Answer} {x : State} {h l b : List
 
 -- ---- what a caller of a turn has
 
-pub going : {y : Syntax} {s : List ℕ} {answer : Answer} {x : State} {h l b m : List ℕ} {i : ℕ} → Walking y s answer x h l b i → T (fit (y .service)) → i < length s
+pub going : {y : Syntax} {s : List ℕ} {from : ℕ} {x : State} {h l b m : List ℕ} {i : ℕ} → Walking y s from x h l b i → T (fit (y .service)) → i < length s
     → isDone (x .phase) ≡ false → length m ≡ 40 → Going y s x h l b i m
-going w f n d k = record { fits = f; inside = n; before = d; held = w .held; first = w .first; marks = k }
+going {from = from} w f n d k = record { fits = f; inside = n; before = d; begun = from; walks = w; marks = k }
 
-module _ {y : Syntax} {s : List ℕ} {answer : Answer} {x : State} {h l b : List ℕ} {i : ℕ} (w : Walking y s answer x h l b i) {h′ l′ b′ : List ℕ} where
+module _ {y : Syntax} {s : List ℕ} {from : ℕ} {x : State} {h l b : List ℕ} {i : ℕ} (w : Walking y s from x h l b i) {h′ l′ b′ : List ℕ} where
   pub further : (r : Advanced) {a : Ahead} → r ≡ Further a → AdvancedIs w r h′ l′ b′ → Onward w a h′ l′ b′
   further r q a = subst (λ (r : Advanced). AdvancedIs w r h′ l′ b′) q a
 
@@ -416,8 +427,8 @@ module _ {y : Syntax} {s : List ℕ} {answer : Answer} {x : State} {h l b : List
       let z = o .size in
       omega (arith, n, z)
 
-module _ {y : Syntax} {s : List ℕ} {answer : Answer} {x : State} {h l b : List ℕ} {i : ℕ} (w : Walking y s answer x h l b i) where
-  pub halted : (h′ l′ b′ : List ℕ) (r : Advanced) {f : Refusal} → r ≡ Halt f → AdvancedIs w r h′ l′ b′ → answer ≡ refused (f .number) (f .place)
+module _ {y : Syntax} {s : List ℕ} {from : ℕ} {x : State} {h l b : List ℕ} {i : ℕ} (w : Walking y s from x h l b i) where
+  pub halted : (h′ l′ b′ : List ℕ) (r : Advanced) {f : Refusal} → r ≡ Halt f → AdvancedIs w r h′ l′ b′ → answerFrom y s from ≡ refused (f .number) (f .place)
   halted h′ l′ b′ r q a = subst (λ (r : Advanced). AdvancedIs w r h′ l′ b′) q a
 
 -- ---- the verdict by what was begun

@@ -1,3 +1,6 @@
 // The judge: one pass over the octets of an interchange with a small state.
+pub mod advance;
+pub mod layout;
 pub mod run;
+pub mod sections;
 pub mod walk;

@@ -9,54 +9,21 @@ ghost use Rattle.syntax.specs.Service.{fit};
 ghost use Rattle.syntax.specs.Repertoire.{Table};
 ghost use Rattle.syntax.specs.Reader.{chain};
 ghost use Rattle.grammar.specs.Interchange.{start};
-ghost use Rattle.grammar.specs.Verdict.{Answer, verdictOf, numbers, walk};
+ghost use Rattle.grammar.specs.Verdict.{verdictOf, numbers, walk};
 ghost use Rattle.judge.specs.Held.{told, walked};
-ghost use Rattle.elements.specs.Formed.{looked};
-ghost use Rattle.elements.specs.Fields.{Fields};
-ghost use Rattle.judge.specs.RunLaws.{unreadAs, isDone, Fresh, Walking, Going, AdvancedIs};
-use crate::walk::Advanced;
-use crate::walk::Ahead;
-use crate::walk::Looked;
+ghost use Rattle.judge.specs.RunLaws.{unreadAs, isDone, Fresh};
+use crate::sections::Reached;
+use crate::sections::next_section;
 use crate::walk::Phase;
 use crate::walk::State;
-use crate::walk::Step;
 use crate::walk::Stretch;
 use crate::walk::Verdict;
-use crate::walk::look;
-use crate::walk::turn;
-use elements::Kind;
-use elements::fields::Shape;
-use elements::fields::fields;
 use message::kept::fresh_message;
 use syntax::Refusal;
 use syntax::Syntax;
 use syntax::opening::Begun;
 use syntax::opening::begin;
 use syntax::repertoire::table;
-
-// Whether a segment of this kind is looked into.
-fn looked_into(k: Kind) -> bool
-    ensures { λ r. ⌜ r ≡ looked k ⌝ }
-{
-    match k {
-        Kind::Usa => false,
-        Kind::Usc => false,
-        Kind::Reserved => false,
-        Kind::Other => false,
-        Kind::Unb => true,
-        Kind::Unh => true,
-        Kind::Unt => true,
-        Kind::Unz => true,
-        Kind::Ush => true,
-        Kind::Usr => true,
-        Kind::Ust => true,
-        Kind::Usb => true,
-        Kind::Usx => true,
-        Kind::Usy => true,
-        Kind::Qty => true,
-        Kind::Cnt => true,
-    }
-}
 
 // Before UNB: nothing read.
 fn unread() -> State
@@ -92,55 +59,7 @@ fn refused(number: u8, place: usize) -> Verdict
     })
 }
 
-// The fields of a segment that is looked into.
-fn noted(s: &[u8], at: usize, t: &[u8; 256], y: Syntax, k: Kind, marks: &mut [usize]) -> Shape
-    requires { ⌜ Table y (now t) ⌝ }
-    requires { ⌜ length (now marks) ≡ 40 ⌝ }
-    ensures { λ r. ⌜ (looked k ≡ true → Fields (y .service) (now (s .entry)) at (r .size) (r .repeats) (now (marks .exit))) × (length (now (marks .exit)) ≡ 40) ⌝ }
-{
-    if looked_into(k) {
-        return fields(s, at, t, y, marks);
-    }
-    Shape {
-        size: 0,
-        repeats: false,
-    }
-}
-
-// One segment further: the segment at `at` is looked at, read and stepped over.
-pub fn advance(
-    s: &[u8],
-    at: usize,
-    t: &[u8; 256],
-    y: Syntax,
-    st: State,
-    marks: &mut [usize],
-    heads: &mut [usize; 36],
-    links: &mut [u32],
-    buckets: &mut [u32],
-) -> Advanced
-    requires { ⌜ Table y (now t) ⌝ }
-    requires { ⌜ Going y (now s) st (now heads) (now links) (now buckets) at (now marks) ⌝ }
-    ensures { λ r. ⌜ ((a : Answer) (w : Walking y (now (s .entry)) a st (now (heads .entry)) (now (links .entry)) (now (buckets .entry)) at) → AdvancedIs w r (now (heads .exit)) (now (links .exit)) (now (buckets .exit))) ⌝ }
-    ensures { λ r. ⌜ length (now (marks .exit)) ≡ 40 ⌝ }
-{
-    match look(s, at, t, y) {
-        Looked::Bad(f) => Advanced::Stop(f),
-        Looked::Seen(e, k) => {
-            let f = noted(s, at, t, y, k, marks);
-            match turn(s, at, e + 1, y, st, k, f, marks, heads, links, buckets) {
-                Step::Stop(g) => Advanced::Stop(g),
-                Step::On(x) => Advanced::On(Ahead {
-                    state: x,
-                    next: e + 1,
-                    kind: k,
-                }),
-            }
-        }
-    }
-}
-
-// Every segment from `from` on; the first bad one decides. `links` has room for a message in each 8 octets.
+// Every section from `from` on: UNB, the messages, UNZ; the first bad segment decides. `links` has room for a message in each 8 octets.
 fn run(
     s: &[u8],
     from: usize,
@@ -155,6 +74,7 @@ fn run(
 {
     let mut marks = [0usize; 40];
     let mut heads = [0usize; 36];
+    let mut rows = [0usize; 18];
     let mut st = unread();
     let mut at = from;
     while at < s.len() {
@@ -162,11 +82,22 @@ fn run(
         if is_done(p) {
             return refused(7, at);
         }
-        match advance(s, at, t, y, st, &mut marks, &mut heads, links, buckets) {
-            Advanced::Stop(f) => {
+        match next_section(
+            s,
+            at,
+            t,
+            y,
+            st,
+            &mut marks,
+            &mut heads,
+            links,
+            buckets,
+            &mut rows,
+        ) {
+            Reached::Stop(f) => {
                 return Verdict::Refused(f);
             }
-            Advanced::On(a) => {
+            Reached::On(a) => {
                 let x = a.state;
                 st = x;
                 at = a.next;

@@ -20,11 +20,11 @@ ghost use Rattle.elements.specs.Octets.{textAt, askedAt};
 ghost use Rattle.elements.specs.Fields.{Marked, Fields};
 ghost use Rattle.message.specs.Heads.{headFlags};
 ghost use Rattle.message.specs.Summary.{numberIn, evenAll, totalRight, allNamed, mayCome, atBusy};
-ghost use Rattle.message.specs.Steps.{stepM, summaryIn, Roomy, MovedIs};
+ghost use Rattle.message.specs.Steps.{stepM, summaryIn, Roomy, Sought, MovedIs};
 ghost use Rattle.judge.specs.Held.{unseenAs, seenAs, lookedAt, stateIn, Held, Ready, decidedFrom, StepIs, told, walked};
 ghost use Rattle.elements.specs.Formed.{looked};
 ghost use Rattle.judge.specs.declared.walk.Phase.the-variants.{Start, Idle, Busy, Done};
-ghost use Rattle.elements.specs.declared.Kind.the-variants.{Unb, Unh, Unt, Unz};
+ghost use Rattle.elements.specs.declared.Kind.the-variants.{Unb, Unh, Unt, Unz, Ust};
 use elements::Kind;
 use elements::fields::Shape;
 use elements::fields::field;
@@ -400,12 +400,14 @@ fn step_in(
     f: Shape,
     marks: &[usize],
     heads: &mut [usize; 36],
+    found: usize,
 ) -> Moved
     requires { ⌜ k ≡ kindOf (slice at (at + 3) (now s)) ⌝ }
     requires { ⌜ (looked k ≡ true → Fields (y .service) (now s) at (f .size) (f .repeats) (now marks)) ⌝ }
     requires { ⌜ Roomy m (now heads) ⌝ }
     requires { ⌜ (m .segments < 65536) × (length (now heads) ≡ 36) ⌝ }
     requires { ⌜ (mayCome k m ≡ true) × (formed (y .version) (askedAt (y .service) (now s) at) ≡ true) ⌝ }
+    requires { ⌜ (k ≡ Ust → Sought (y .service) (now s) at m (now heads) found) ⌝ }
     ensures { λ r. ⌜ ((u w : ℕ) → MovedIs (stepM k (summaryIn (y .service .release) (now (s .entry)) m u w (now (heads .entry))) (askedAt (y .service) (now (s .entry)) at)) r (y .service .release) (now (s .entry)) u w (now (heads .exit))) ⌝ }
     ensures { λ r. ⌜ length (now (heads .exit)) ≡ 36 ⌝ }
 {
@@ -415,7 +417,7 @@ fn step_in(
         Kind::Usa => in_header(m, usa_group(g), heads),
         Kind::Usc => in_header(m, usc_group(g), heads),
         Kind::Usr => on_usr(m, heads),
-        Kind::Ust => on_ust(s, at, y, m, marks, heads),
+        Kind::Ust => on_ust(s, at, y, m, marks, heads, found),
         Kind::Usb => on_usb(m),
         Kind::Usx => Moved::To(grown_to(m, Group::Ack(true, false))),
         Kind::Usy => on_usy(s, at, y, m, marks, heads),
@@ -443,9 +445,11 @@ fn on_busy(
     heads: &mut [usize; 36],
     links: &[u32],
     buckets: &[u32],
+    found: usize,
 ) -> Step
     requires { ⌜ Ready y (now s) st (now heads) (now links) (now buckets) at next k f (now marks) ⌝ }
     requires { ⌜ (st .phase ≡ Busy) × (atBusy false false false true false k ≡ false) ⌝ }
+    requires { ⌜ (k ≡ Ust → Sought (y .service) (now s) at (st .message) (now heads) found) ⌝ }
     ensures { λ r. ⌜ StepIs (decidedFrom (y .version) (stateIn (y .service .release) (now (s .entry)) st (now (heads .entry)) (now (links .entry))) (askedAt (y .service) (now (s .entry)) at) at) r (y .service .release) (now (s .entry)) (now (heads .exit)) (now (links .entry)) (now (buckets .entry)) next ⌝ }
 {
     let m = st.message;
@@ -455,7 +459,7 @@ fn on_busy(
     if !is_formed(s, at, y, marks, f, k) {
         return stopped(8, at);
     }
-    match step_in(s, at, y, m, k, f, marks, heads) {
+    match step_in(s, at, y, m, k, f, marks, heads, found) {
         Moved::Bad(n) => stopped(n, at),
         Moved::To(x) => {
             let u = st.unb;
@@ -509,9 +513,11 @@ pub fn turn(
     heads: &mut [usize; 36],
     links: &mut [u32],
     buckets: &mut [u32],
+    found: usize,
 ) -> Step
     requires { ⌜ Ready y (now s) st (now heads) (now links) (now buckets) at next k f (now marks) ⌝ }
     requires { ⌜ (st .phase ≡ Start → st .count ≡ 0) ⌝ }
+    requires { ⌜ (st .phase ≡ Busy → k ≡ Ust → Sought (y .service) (now s) at (st .message) (now heads) found) ⌝ }
     ensures { λ r. ⌜ StepIs (decidedFrom (y .version) (stateIn (y .service .release) (now (s .entry)) st (now (heads .entry)) (now (links .entry))) (askedAt (y .service) (now (s .entry)) at) at) r (y .service .release) (now (s .entry)) (now (heads .exit)) (now (links .exit)) (now (buckets .exit)) next ⌝ }
 {
     let p = st.phase;
@@ -523,7 +529,20 @@ pub fn turn(
         Phase::Idle => on_idle(s, at, next, y, st, k, f, marks, heads, links, buckets),
         Phase::Busy => match k {
             Kind::Unt => on_unt(s, at, next, y, st, f, marks, heads, links, buckets),
-            _ => on_busy(s, at, next, y, st, k, f, marks, heads, links, buckets),
+            _ => on_busy(
+                s,
+                at,
+                next,
+                y,
+                st,
+                k,
+                f,
+                marks,
+                heads,
+                links,
+                buckets,
+                found,
+            ),
         },
         Phase::Done => stopped(7, at),
     }

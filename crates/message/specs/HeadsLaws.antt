@@ -72,30 +72,38 @@ free-hit r f g i n e t l =
 
 pub record Seeking (ρ : ℕ) (s h x : List ℕ) (n i : ℕ) : Type 0 where
   pub most : i ≤ n
-  pub none : freeAt (content ρ x) (headRefs ρ s h i) (headFlags h i) ≡ none
+  pub none : freeAt x (headRefs ρ s h i) (headFlags h i) ≡ none
+
+pub seeking-start : {ρ : ℕ} {s h x : List ℕ} {n : ℕ} → Seeking ρ s h x n 0
+seeking-start = record { most = omega arith; none = refl }
 
 module _ {ρ : ℕ} {s h x : List ℕ} {n i : ℕ} (g : Seeking ρ s h x n i) where
-  pub seeking-end : n ≤ i → n ≡ posOr n (freeAt (content ρ x) (headRefs ρ s h n) (headFlags h n))
-  seeking-end l = let e : n ≡ i = omega (arith, g .most, l) in ap (posOr n) (sym (g .none) ∙ ap (λ (k : ℕ). freeAt (content ρ x) (headRefs ρ s h k) (headFlags h k)) (sym e))
+  pub seeking-end : n ≤ i → n ≡ posOr n (freeAt x (headRefs ρ s h n) (headFlags h n))
+  seeking-end l = let e : n ≡ i = omega (arith, g .most, l) in ap (posOr n) (sym (g .none) ∙ ap (λ (k : ℕ). freeAt x (headRefs ρ s h k) (headFlags h k)) (sym e))
 
-  pub seeking-used : i < n → (getD h (4 * i + 3) 0 ≡ 0 → ⊥) → Seeking ρ s h x n (i + 1)
-  seeking-used l u = record { most = omega (arith, l); none = rw add-one (free-on (content ρ x) (headRef ρ s h) (headFlag h) i (g .none) (off (same (headRef ρ s h i) (content ρ x)))) }
+  module _ {b : Bool} (l : i < n) (e : b ≡ (same (headRef ρ s h i) x && not (headFlag h i))) where
+    pub seeking-hit : b ≡ true → i ≡ posOr n (freeAt x (headRefs ρ s h n) (headFlags h n))
+    seeking-hit t = ap (posOr n) (sym (free-hit x (headRef ρ s h) (headFlag h) i n (g .none) (sym e ∙ t) l))
+
+    pub seeking-on : b ≡ false → Seeking ρ s h x n (i + 1)
+    seeking-on t = record { most = omega (arith, l); none = rw add-one (free-on x (headRef ρ s h) (headFlag h) i (g .none) (sym e ∙ t)) }
+
+-- a header's test: its flag, then its content
+module _ (ρ : ℕ) (s h x : List ℕ) (i : ℕ) where
+  pub free-named : (getD h (4 * i + 3) 0 ≡ 0 → ⊥) → false ≡ (same (headRef ρ s h i) x && not (headFlag h i))
+  free-named u = sym (off (same (headRef ρ s h i) x))
     where
       off : (b : Bool) → b && not (not (eqb (getD h (4 * i + 3) 0) 0)) ≡ false
       off true = rw (ne-eqb _ _ u)
       off false = refl
 
-  module _ {p : List ℕ} {b : Bool} (l : i < n) (u : getD h (4 * i + 3) 0 ≡ 0) (q : p ≡ slice (getD h (4 * i) 0) (getD h (4 * i + 1) 0) s)
-      (e : b ≡ same (content ρ p) (content ρ x)) where
-    free-here : (c : Bool) → b ≡ c → same (headRef ρ s h i) (content ρ x) && not (headFlag h i) ≡ c
-    free-here true t = rw (← q, ← e, t, eq-eqb _ _ u)
-    free-here false t = rw (← q, ← e, t)
-
-    pub seeking-hit : b ≡ true → i ≡ posOr n (freeAt (content ρ x) (headRefs ρ s h n) (headFlags h n))
-    seeking-hit t = ap (posOr n) (sym (free-hit (content ρ x) (headRef ρ s h) (headFlag h) i n (g .none) (free-here true t) l))
-
-    pub seeking-on : b ≡ false → Seeking ρ s h x n (i + 1)
-    seeking-on t = record { most = omega (arith, l); none = rw add-one (free-on (content ρ x) (headRef ρ s h) (headFlag h) i (g .none) (free-here false t)) }
+  pub free-by : {p : List ℕ} {b : Bool} → getD h (4 * i + 3) 0 ≡ 0 → p ≡ slice (getD h (4 * i) 0) (getD h (4 * i + 1) 0) s → b ≡ same (content ρ p) x
+      → b ≡ (same (headRef ρ s h i) x && not (headFlag h i))
+  free-by {p} {b} u q e = rw (← q, ← e, eq-eqb _ _ u) (by b)
+    where
+      by : (c : Bool) → c ≡ (c && true)
+      by true = refl
+      by false = refl
 
 -- the place is below n where there is one
 abbrev Below : ℕ → Option ℕ → Type 0

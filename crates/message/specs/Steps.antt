@@ -11,7 +11,9 @@ use Rattle.grammar.specs.Lists.{among}
 use Rattle.grammar.specs.Segments.{Asked}
 use Rattle.grammar.specs.Loads.{loadIn, controlIn, loadRight}
 use Rattle.message.specs.Summary.{Summary, scopeIn, freeAt, evenAll, bump, usaGroup, uscGroup, grownBy, ownMore, ushNext, usrNext, ustNext, itemNext, usbNext, loaded, controlled}
-use Rattle.message.specs.Heads.{headRefs, headSizes, headFlags}
+use Rattle.message.specs.Heads.{headRefs, headSizes, headFlags, posOr}
+use Rattle.elements.specs.Octets.{textAt}
+use Rattle.syntax.specs.declared.Service.{Service}
 use Rattle.elements.specs.declared.Kind.{Kind}
 use Rattle.elements.specs.declared.Kind.the-variants.{Unb, Unh, Unt, Unz, Ush, Usa, Usc, Usr, Ust, Usb, Usx, Usy, Reserved, Qty, Cnt, Other}
 use Rattle.message.specs.declared.Group.the-variants.{Header, Ack, Trailer}
@@ -86,6 +88,11 @@ pub record Roomy (m : Message) (h : List ℕ) : Type 0 where
   pub base : m .pair .base ≤ m .segments
   pub own : m .pair .own ≤ m .segments
   pub sizes : (i : ℕ) → i < m .headers → getD h (4 * i + 2) 0 ≤ m .segments
+
+-- "Each UST names a header not yet named": of the UST at a, the first header of its reference that no trailer has named, or as many as there are headers
+pub record Sought (σ : Service) (s : List ℕ) (a : ℕ) (m : Message) (h : List ℕ) (i : ℕ) : Type 0 where
+  pub found : i ≡ posOr (m .headers) (freeAt (textAt σ s a 1 0) (headRefs (σ .release) s h (m .headers)) (headFlags h (m .headers)))
+  pub most : i ≤ m .headers
 
 -- the answer of the code, with the headers' array as it is left
 abbrev pub MovedIs : AnswerM → Moved → ℕ → List ℕ → ℕ → ℕ → List ℕ → Type 0

@@ -262,11 +262,7 @@ module _ (σ : Service) (s : List ℕ) (a : ℕ) (m : Message) (h : List ℕ) wh
   abbrev free : List ℕ → Option ℕ
   free x = freeAt x (headRefs (σ .release) s h (m .headers)) (headFlags h (m .headers))
 
-  module _ {x : List ℕ} {i : ℕ} (e : x ≡ partOf s (componentAt σ s a 1 0))
-      (d : i ≡ posOr (m .headers) (freeAt (content (σ .release) x) (headRefs (σ .release) s h (m .headers)) (headFlags h (m .headers)))) where
-    ust-place : i ≡ posOr (m .headers) (free (textAt σ s a 1 0))
-    ust-place = d ∙ ap (λ (z : List ℕ). posOr (m .headers) (free (content (σ .release) z))) e
-
+  module _ {i : ℕ} (ust-place : i ≡ posOr (m .headers) (freeAt (textAt σ s a 1 0) (headRefs (σ .release) s h (m .headers)) (headFlags h (m .headers)))) where
     pub ust-bad : (h′ : List ℕ) → m .headers ≤ i → (u w : ℕ)
         → MovedIs (ustM (summaryIn (σ .release) s m u w h) (askedAt σ s a) (freeAt (textAt σ s a 1 0) (headRefs (σ .release) s h (m .headers)) (headFlags h (m .headers)))) (Bad 9) (σ .release) s u w h′
     ust-bad h′ l u w =

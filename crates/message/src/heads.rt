@@ -3,12 +3,14 @@
 use syntax::content::part;
 use syntax::content::same_content;
 ghost use mathlib.Core.Path.{_≡_};
+ghost use mathlib.Core.Bool.{_&&_, not};
 ghost use Prim.Native.Nat.{_+_, _*_, _-_, _^_, _≤_, _<_};
 ghost use lib.ListN.{length, getD};
+ghost use Rattle.syntax.specs.Octets.{same};
 ghost use Rattle.syntax.specs.Content.{content};
 ghost use Rattle.grammar.specs.Lists.{among};
-ghost use Rattle.message.specs.Summary.{freeAt, allNamed};
-ghost use Rattle.message.specs.Heads.{headRefs, headFlags, posOr, Pushed, Bumped, Named};
+ghost use Rattle.message.specs.Summary.{allNamed};
+ghost use Rattle.message.specs.Heads.{headRef, headRefs, headFlag, headFlags, Pushed, Bumped, Named};
 
 // Whether one of the first `n` headers has the content of `x`.
 pub fn header_named(s: &[u8], release: u8, heads: &[usize; 36], n: usize, x: &[u8]) -> bool
@@ -27,26 +29,17 @@ pub fn header_named(s: &[u8], release: u8, heads: &[usize; 36], n: usize, x: &[u
     false
 }
 
-// The first of them that no trailer has named: its position, or `n`.
-pub fn free_header(s: &[u8], release: u8, heads: &[usize; 36], n: usize, x: &[u8]) -> usize
-    requires { ⌜ n ≤ 9 ⌝ }
-    ensures { λ r. ⌜ r ≡ posOr n (freeAt (content release (now (x .entry))) (headRefs release (now (s .entry)) (now (heads .entry)) n) (headFlags (now (heads .entry)) n)) ⌝ }
-    ensures { λ r. ⌜ r ≤ n ⌝ }
+// Whether no trailer has named header `i` yet, and its 0534 has the content of `x`.
+pub fn is_free(s: &[u8], release: u8, heads: &[usize; 36], i: usize, x: &[u8]) -> bool
+    requires { ⌜ i < 9 ⌝ }
+    ensures { λ r. ⌜ r ≡ (same (headRef release (now (s .entry)) (now (heads .entry)) i) (content release (now (x .entry))) && not (headFlag (now (heads .entry)) i)) ⌝ }
 {
-    let mut found = n;
-    let mut i: usize = 0;
-    while i < n {
-        if heads[4 * i + 3] == 0 {
-            let a = heads[4 * i];
-            let e = heads[4 * i + 1];
-            if same_content(part(s, a, e), release, x, release) {
-                found = i;
-                break;
-            }
-        }
-        i += 1;
+    if heads[4 * i + 3] != 0 {
+        return false;
     }
-    found
+    let a = heads[4 * i];
+    let e = heads[4 * i + 1];
+    same_content(part(s, a, e), release, x, release)
 }
 
 // Whether each is named.

@@ -10,12 +10,11 @@ ghost use Rattle.elements.specs.Octets.{textAt, askedAt};
 ghost use Rattle.elements.specs.Fields.{Marked};
 ghost use Rattle.message.specs.Heads.{headRefs, headSizes, headFlags};
 ghost use Rattle.message.specs.Summary.{scopeIn, freeAt, bump, grownBy, usrNext};
-ghost use Rattle.message.specs.Steps.{toM, ushM, ustM, usyM, headed, trailed, ownGrown, summaryIn, Roomy, MovedIs};
+ghost use Rattle.message.specs.Steps.{toM, ushM, ustM, usyM, headed, trailed, ownGrown, summaryIn, Roomy, Sought, MovedIs};
 use crate::Group;
 use crate::Message;
 use crate::Pair;
 use crate::heads::bump_header;
-use crate::heads::free_header;
 use crate::heads::header_named;
 use crate::heads::name_header;
 use crate::heads::push_header;
@@ -185,7 +184,7 @@ fn with_trailer(m: Message, claim: u64, base: usize) -> Message
     }
 }
 
-// A UST: it names a header not yet named, and counts the pair's segments.
+// A UST: it names a header not yet named, `i` of them (as many as there are: none), and counts the pair's segments.
 pub fn on_ust(
     s: &[u8],
     at: usize,
@@ -193,18 +192,17 @@ pub fn on_ust(
     m: Message,
     marks: &[usize],
     heads: &mut [usize; 36],
+    i: usize,
 ) -> Moved
     requires { ⌜ Marked (y .service) (now s) at (now marks) ⌝ }
     requires { ⌜ Roomy m (now heads) ⌝ }
     requires { ⌜ (m .segments < 65536) × (length (now heads) ≡ 36) ⌝ }
     requires { ⌜ inRange (digits 1 6) (textAt (y .service) (now s) at 2 0) ≡ true ⌝ }
+    requires { ⌜ Sought (y .service) (now s) at m (now heads) i ⌝ }
     ensures { λ r. ⌜ ((u w : ℕ) → MovedIs (ustM (summaryIn (y .service .release) (now (s .entry)) m u w (now (heads .entry))) (askedAt (y .service) (now (s .entry)) at) (freeAt (textAt (y .service) (now (s .entry)) at 1 0) (headRefs (y .service .release) (now (s .entry)) (now (heads .entry)) (m .headers)) (headFlags (now (heads .entry)) (m .headers)))) r (y .service .release) (now (s .entry)) u w (now (heads .exit))) ⌝ }
     ensures { λ r. ⌜ length (now (heads .exit)) ≡ 36 ⌝ }
 {
-    let v = y.service;
     let n = m.headers;
-    let x = field(s, at, y, marks, 1, 0);
-    let i = free_header(s, v.release, heads, n, x);
     if n <= i {
         return Moved::Bad(9);
     }

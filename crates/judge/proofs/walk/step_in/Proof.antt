@@ -14,7 +14,7 @@ enum-told c = search needs
 on-ush-requires : tie.Need-on-ush-requires
 on-ush-requires c κs =
     let g = c .before .before .before .before .before in
-    (g .pre .1 .0 (rw (c .before .enum-told .given .1)) .marks, (g .pre .1 .1 .0, (ush-room (g .args .m) (may-to (g .args .m) Ush (c .before .enum-told .given .1) (g .pre .1 .1 .1 .1 .0)), g .pre .1 .1 .1 .0 .0, g .pre .1 .1 .1 .0 .1)))
+    (g .pre .1 .0 (rw (c .before .enum-told .given .1)) .marks, (g .pre .1 .1 .0, (ush-room (g .args .m) (may-to (g .args .m) Ush (c .before .enum-told .given .1) (g .pre .1 .1 .1 .1 .0 .0)), g .pre .1 .1 .1 .0 .0, g .pre .1 .1 .1 .0 .1)))
 
 enum-told-2 : tie.Need-enum-told-2
 enum-told-2 c = search needs
@@ -22,7 +22,7 @@ enum-told-2 c = search needs
 usa-group-requires : tie.Need-usa-group-requires
 usa-group-requires c κs =
     let g = c .before .before .before .before in
-    may-to (g .args .m) Usa (c .enum-told2 .given .1) (g .pre .1 .1 .1 .1 .0)
+    may-to (g .args .m) Usa (c .enum-told2 .given .1) (g .pre .1 .1 .1 .1 .0 .0)
 
 in-header-requires : tie.Need-in-header-requires
 in-header-requires c κs = search needs
@@ -33,7 +33,7 @@ enum-told-3 c = search needs
 usc-group-requires : tie.Need-usc-group-requires
 usc-group-requires c κs =
     let g = c .before .before .before .before in
-    may-to (g .args .m) Usc (c .enum-told3 .given .1) (g .pre .1 .1 .1 .1 .0)
+    may-to (g .args .m) Usc (c .enum-told3 .given .1) (g .pre .1 .1 .1 .1 .0 .0)
 
 in-header-requires-2 : tie.Need-in-header-requires-2
 in-header-requires-2 c κs = search needs
@@ -50,7 +50,7 @@ enum-told-5 c = search needs
 on-ust-requires : tie.Need-on-ust-requires
 on-ust-requires c κs =
     let g = c .before .before .before .before .before in
-    (g .pre .1 .0 (rw (c .before .enum-told5 .given .1)) .marks, (g .pre .1 .1 .0, (g .pre .1 .1 .1 .0, ust-count (g .args .y .version) (askedAt (g .args .y .service) (g .args .s .now) (g .args .at)) (g .pre .0) (c .before .enum-told5 .given .1) (g .pre .1 .1 .1 .1 .1))))
+    (g .pre .1 .0 (rw (c .before .enum-told5 .given .1)) .marks, (g .pre .1 .1 .0, (g .pre .1 .1 .1 .0, (ust-count (g .args .y .version) (askedAt (g .args .y .service) (g .args .s .now) (g .args .at)) (g .pre .0) (c .before .enum-told5 .given .1) (g .pre .1 .1 .1 .1 .0 .1), g .pre .1 .1 .1 .1 .1 (c .before .enum-told5 .given .1)))))
 
 enum-told-6 : tie.Need-enum-told-6
 enum-told-6 c = search needs
@@ -86,7 +86,7 @@ enum-told-10 c = search needs
 on-cnt-requires : tie.Need-on-cnt-requires
 on-cnt-requires c κs =
     let g = c .before .before .before .before in
-    (g .pre .1 .0 (rw (c .enum-told10 .given .1)) .marks, ((sym (g .pre .0) ∙ c .enum-told10 .given .1, cnt-right (g .args .y .version) (askedAt (g .args .y .service) (g .args .s .now) (g .args .at)) (g .pre .0) (c .enum-told10 .given .1) (g .pre .1 .1 .1 .1 .1)), g .pre .1 .1 .1 .0 .0))
+    (g .pre .1 .0 (rw (c .enum-told10 .given .1)) .marks, ((sym (g .pre .0) ∙ c .enum-told10 .given .1, cnt-right (g .args .y .version) (askedAt (g .args .y .service) (g .args .s .now) (g .args .at)) (g .pre .0) (c .enum-told10 .given .1) (g .pre .1 .1 .1 .1 .0 .1)), g .pre .1 .1 .1 .0 .0))
 
 enum-told-11 : tie.Need-enum-told-11
 enum-told-11 c = search needs

@@ -15,7 +15,7 @@ enum-told-2 c = search needs
 on-unb-requires : tie.Need-on-unb-requires
 on-unb-requires c κs =
     let g = c .before .before .before .before .before .before .before .before .before .before .before in
-    (ready-at (g .pre .0) (c .before .before .before .enum-told2 .given .1), (c .before .before .before .before .before .enum-told .given .1, g .pre .1 (c .before .before .before .before .before .enum-told .given .1)))
+    (ready-at (g .pre .0) (c .before .before .before .enum-told2 .given .1), (c .before .before .before .before .before .enum-told .given .1, g .pre .1 .0 (c .before .before .before .before .before .enum-told .given .1)))
 
 stopped-requires : tie.Need-stopped-requires
 stopped-requires c κs = search needs
@@ -38,7 +38,7 @@ on-unt-requires c κs = (ready-at (c .before .before .before .before .before .be
 on-busy-requires : tie.Need-on-busy-requires
 on-busy-requires c κs =
     let g = c .before .before .before .before .before .before .before .before .before .before in
-    (g .pre .0, (c .before .before .before .before .enum-told4 .given .1, (⊎-elim (λ e. rw (lives-at enum (g .args .k) 0 e .1)) (⊎-elim (λ e. rw (lives-at enum (g .args .k) 1 e .1)) (⊎-elim (λ e. rw (lives-at enum (g .args .k) 3 e .1)) (⊎-elim (λ e. rw (lives-at enum (g .args .k) 4 e .1)) (⊎-elim (λ e. rw (lives-at enum (g .args .k) 5 e .1)) (⊎-elim (λ e. rw (lives-at enum (g .args .k) 6 e .1)) (⊎-elim (λ e. rw (lives-at enum (g .args .k) 7 e .1)) (⊎-elim (λ e. rw (lives-at enum (g .args .k) 8 e .1)) (⊎-elim (λ e. rw (lives-at enum (g .args .k) 9 e .1)) (⊎-elim (λ e. rw (lives-at enum (g .args .k) 10 e .1)) (⊎-elim (λ e. rw (lives-at enum (g .args .k) 11 e .1)) (⊎-elim (λ e. rw (lives-at enum (g .args .k) 12 e .1)) (⊎-elim (λ e. rw (lives-at enum (g .args .k) 13 e .1)) (⊎-elim (λ e. rw (lives-at enum (g .args .k) 14 e .1)) (λ e. rw (lives-at enum (g .args .k) 15 e .1)))))))))))))))) (c .before .before .before .match3 .keys2)))
+    (g .pre .0, ((c .before .before .before .before .enum-told4 .given .1, (⊎-elim (λ e. rw (lives-at enum (g .args .k) 0 e .1)) (⊎-elim (λ e. rw (lives-at enum (g .args .k) 1 e .1)) (⊎-elim (λ e. rw (lives-at enum (g .args .k) 3 e .1)) (⊎-elim (λ e. rw (lives-at enum (g .args .k) 4 e .1)) (⊎-elim (λ e. rw (lives-at enum (g .args .k) 5 e .1)) (⊎-elim (λ e. rw (lives-at enum (g .args .k) 6 e .1)) (⊎-elim (λ e. rw (lives-at enum (g .args .k) 7 e .1)) (⊎-elim (λ e. rw (lives-at enum (g .args .k) 8 e .1)) (⊎-elim (λ e. rw (lives-at enum (g .args .k) 9 e .1)) (⊎-elim (λ e. rw (lives-at enum (g .args .k) 10 e .1)) (⊎-elim (λ e. rw (lives-at enum (g .args .k) 11 e .1)) (⊎-elim (λ e. rw (lives-at enum (g .args .k) 12 e .1)) (⊎-elim (λ e. rw (lives-at enum (g .args .k) 13 e .1)) (⊎-elim (λ e. rw (lives-at enum (g .args .k) 14 e .1)) (λ e. rw (lives-at enum (g .args .k) 15 e .1)))))))))))))))) (c .before .before .before .match3 .keys2)), g .pre .1 .1 (c .before .before .before .before .enum-told4 .given .1)))
 
 enum-told-6 : tie.Need-enum-told-6
 enum-told-6 c = search needs

@@ -1,27 +1,17 @@
-use mathlib.Core.Path.{_∙_}
+use mathlib.Core.Path.{refl, _∙_}
 use Rattle.message.specs.StepsLaws.{ust-bad, ust-moved}
 use borrow.Author.Needs.{needs}
 use Rattle.message.proofs.steps.on_ust.Statement.{statement}
 use Rattle.message.proofs.steps.on_ust.Tie as tie
 use Rattle.message.proofs.steps.on_ust.Reads as reads
 use Rattle.message.proofs.steps.on_ust.Lts as lts
-use Rattle.elements.proofs.fields.field.Reads as field-reads
-use Rattle.message.proofs.heads.free_header.Reads as free-header-reads
 use Rattle.message.proofs.heads.name_header.Reads as name-header-reads
 use Rattle.message.proofs.steps.number_in.Reads as number-in-reads
 use Rattle.message.proofs.steps.with_trailer.Reads as with-trailer-reads
 
--- src/steps.rt:180:9
-field-requires : tie.Need-field-requires
-field-requires c κs = search needs
-
--- src/steps.rt:181:9
-free-header-requires : tie.Need-free-header-requires
-free-header-requires c κs = search needs
-
 -- src/steps.rt:183:9
 returns : tie.Need-returns
-returns c = (ust-bad (c .before .before .before .before .before .before .before .args .y .service) (c .before .before .before .before .before .before .before .args .s .now) (c .before .before .before .before .before .before .before .args .at) (c .before .before .before .before .before .before .before .args .m) (c .before .before .before .before .before .before .before .args .heads .now) (c .before .before .before .field .ensures) (c .before .free-header .ensures .0) _ (c .if1 .taken), c .before .before .before .before .before .before .before .pre .1 .1 .0 .1)
+returns c = (ust-bad (c .before .before .before .args .y .service) (c .before .before .before .args .s .now) (c .before .before .before .args .at) (c .before .before .before .args .m) (c .before .before .before .args .heads .now) (c .before .before .before .pre .1 .1 .1 .1 .found) _ (c .if1 .taken), c .before .before .before .pre .1 .1 .0 .1)
 
 -- src/steps.rt:185:22
 mul-base : tie.Need-mul-base
@@ -53,14 +43,12 @@ with-trailer-requires c κs = search needs
 
 -- src/steps.rt:170:1
 returns-2 : tie.Need-returns-2
-returns-2 c = (ust-moved (c .before .before .before .before .before .before .before .before .before .before .before .before .args .y .service) (c .before .before .before .before .before .before .before .before .before .before .before .before .args .s .now) (c .before .before .before .before .before .before .before .before .before .before .before .before .args .at) (c .before .before .before .before .before .before .before .before .before .before .before .before .args .m) (c .before .before .before .before .before .before .before .before .before .before .before .before .args .heads .now) (c .before .before .before .before .before .before .before .before .field .ensures) (c .before .before .before .before .before .before .free-header .ensures .0) (c .before .before .before .before .before .if1 .left) (c .before .before .before .before .before .before .before .before .before .before .before .before .pre .1 .0) (c .before .before .name-header .ensures) (c .before .number-in .ensures .0) (c .with-trailer .ensures), c .before .before .name-header .ensures .long ∙ c .before .before .before .before .before .before .before .before .before .before .before .before .pre .1 .1 .0 .1)
+returns-2 c = (ust-moved (c .before .before .before .before .before .before .before .before .args .y .service) (c .before .before .before .before .before .before .before .before .args .s .now) (c .before .before .before .before .before .before .before .before .args .at) (c .before .before .before .before .before .before .before .before .args .m) (c .before .before .before .before .before .before .before .before .args .heads .now) (c .before .before .before .before .before .before .before .before .pre .1 .1 .1 .1 .found) (c .before .before .before .before .before .if1 .left) (c .before .before .before .before .before .before .before .before .pre .1 .0) (c .before .before .name-header .ensures) (c .before .number-in .ensures .0) (c .with-trailer .ensures), c .before .before .name-header .ensures .long ∙ c .before .before .before .before .before .before .before .before .pre .1 .1 .0 .1)
 
 pub on-ust-spec : {M : Type 1} → statement M
 on-ust-spec =
     tie.close
     (tie.spec
-    field-requires
-    free-header-requires
     returns
     mul-base
     add-base

@@ -1,8 +1,8 @@
 use mathlib.Core.Path.{sym, _∙_}
 use mathlib.Core.Bool.{false≢true}
 use borrow.Author.Needs.{needs}
-use Rattle.judge.proofs.run.noted.Statement.{statement}
-use Rattle.judge.proofs.run.noted.Tie as tie
+use Rattle.judge.proofs.advance.noted.Statement.{statement}
+use Rattle.judge.proofs.advance.noted.Tie as tie
 
 looked-into-requires : tie.Need-looked-into-requires
 looked-into-requires c κs = search needs
