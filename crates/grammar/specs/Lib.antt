@@ -24,3 +24,4 @@ pub mod WalkLaws
 pub mod StartLaws
 pub mod VerdictLaws
 pub mod PairLaws
+pub mod Named

@@ -8,3 +8,5 @@ pub mod Layout
 pub mod LayoutLaws
 pub mod Sections
 pub mod SectionLaws
+pub mod Finding
+pub mod FindingLaws

@@ -29,7 +29,7 @@ use Rattle.syntax.specs.declared.opening.Begun.{Begun}
 use Rattle.syntax.specs.declared.opening.Begun.the-variants.{Ready as Begins, Refused as Refuses}
 use Rattle.grammar.specs.Lists.{Snoc}
 use Rattle.grammar.specs.Segments.{Asked, asked}
-use Rattle.grammar.specs.Interchange.{Reading, start, idle, busy, done, shown}
+use Rattle.grammar.specs.Interchange.{Leaf, Message, Reading, start, idle, busy, done, shown}
 use Rattle.grammar.specs.Placing.{place}
 use Rattle.grammar.specs.Places.{wide}
 use Rattle.grammar.specs.PlacingLaws.{shows}
@@ -318,6 +318,33 @@ module _ {y : Syntax} {s : List ℕ} {from : ℕ} {x : State} {h l b : List ℕ}
   walking-more f k e =
       let a = some-left y f (w .tree) s i k in
       ap walked (sym (w .goes) ∙ a .1 ∙ when-done (w .tree) (stands e) i (a .0))
+
+  -- the whole was read
+  pub walking-read : length s ≤ i → isDone (x .phase) ≡ true
+      → (answerFrom y s from ≡ read (w .tree)) × ((u : Leaf) × (ms : Snoc Message) × (z : Leaf) × (w .tree ≡ done u ms z))
+  walking-read k e = by (w .tree) (stands e) refl
+    where
+      by : (t : Reading) → over (stateOf t) ≡ true → w .tree ≡ t
+          → (answerFrom y s from ≡ read (w .tree)) × ((u : Leaf) × (ms : Snoc Message) × (z : Leaf) × (w .tree ≡ done u ms z))
+      by start a d = absurd (false≢true a)
+      by (idle u ms) a d = absurd (false≢true a)
+      by (busy u ms o) a d = absurd (false≢true a)
+      by (done u ms z) a d = (sym (w .goes) ∙ walk-over y (w .tree) s i k ∙ ap (λ (t : Reading). atEnd t i) d ∙ ap read (sym d), (u, ms, z, d))
+
+  -- the octets are over, and not all was read; or all is read, and octets are left
+  pub walking-short : length s ≤ i → isDone (x .phase) ≡ false → answerFrom y s from ≡ refused 7 i
+  walking-short k e = sym (w .goes) ∙ walk-over y (w .tree) s i k ∙ by (w .tree) (stands e)
+    where
+      by : (t : Reading) → over (stateOf t) ≡ false → atEnd t i ≡ refused 7 i
+      by start a = refl
+      by (idle u ms) a = refl
+      by (busy u ms o) a = refl
+      by (done u ms z) a = absurd (false≢true (sym a))
+
+  pub walking-over : T (fit (y .service)) → i < length s → isDone (x .phase) ≡ true → answerFrom y s from ≡ refused 7 i
+  walking-over f k e =
+      let a = some-left y f (w .tree) s i k in
+      sym (w .goes) ∙ a .1 ∙ when-done (w .tree) (stands e) i (a .0)
 
   -- the octets are over
   pub walking-done : length s ≤ i → isDone (x .phase) ≡ true → walked (answerFrom y s from) ≡ 0 ∷ 0 ∷ []

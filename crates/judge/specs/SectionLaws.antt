@@ -42,7 +42,7 @@ use Rattle.judge.specs.Held.{phased, stateIn}
 use Rattle.judge.specs.Layout.{spotsOf, spotStep, rowStep, RowRoom, Rows}
 use Rattle.judge.specs.LayoutLaws.{place-on, spots-on, spots-open, rows-on, rows-open, room-on}
 use Rattle.judge.specs.RunLaws.{isDone, isBusy, answerFrom, Walking, Onward, Going, going, long-print}
-use Rattle.judge.specs.Sections.{nameableIn, laidOut, autoO, messagesIn, Laid, Within, Inside, UntBy, AtUnt, SectionBy, Passing, SectionIs, UntIs, Starting}
+use Rattle.judge.specs.Sections.{nameableIn, laidOut, autoO, Stays, begins, ends, breaks, Laid, Within, Inside, UntBy, AtUnt, SectionBy, Passing, SectionIs, UntIs, Starting}
 use Rattle.judge.specs.declared.layout.Spots.{Spots}
 use Rattle.judge.specs.declared.sections.Layout.{Layout}
 use Rattle.judge.specs.declared.sections.Section.{Section}
@@ -390,18 +390,23 @@ module _ {y : Syntax} {s : List ℕ} {from : ℕ} {x : State} {h l b : List ℕ}
             };
           }
 
+  stays-as : {r z : Reading} → w .tree ≡ r → f .walks .tree ≡ z → Stays r z → Stays (w .tree) (f .walks .tree)
+  stays-as {r} {z} e d q = subst (λ (v : Reading). Stays v (f .walks .tree)) (sym e) (subst (λ (v : Reading). Stays r v) (sym d) q)
+
   -- UNB or UNZ: no message more
-  pub section-other : isBusy (a .state .phase) ≡ false → messagesIn (f .walks .tree) ≡ messagesIn (w .tree)
+  pub section-other : isBusy (a .state .phase) ≡ false → Stays (w .tree) (f .walks .tree)
   section-other t = by (w .tree) refl (f .walks .tree) refl
     where
-      by : (r : Reading) → w .tree ≡ r → (z : Reading) → f .walks .tree ≡ z → messagesIn (f .walks .tree) ≡ messagesIn (w .tree)
-      by start e z d = let j = begin-placed (f .g) (from-tree start e) in ap messagesIn (j .fresh) ∙ sym (ap messagesIn e)
+      by : (r : Reading) → w .tree ≡ r → (z : Reading) → f .walks .tree ≡ z → Stays (w .tree) (f .walks .tree)
+      by start e z d = stays-as e (begin-placed (f .g) (from-tree start e) .fresh) (begins (elementsOf (f .g)))
       by (busy v ns o) e z d = was-open v ns o e
       by (done v ns r) e z d = absurd (leads-placed (done v ns r) (f .g) (from-tree (done v ns r) e))
       by (idle u ms) e start d = absurd (leads-placed (idle u ms) (f .g) (from-tree (idle u ms) e ∙ ap some d))
       by (idle u ms) e (idle v ns) d = absurd (leads-placed (idle u ms) (f .g) (from-tree (idle u ms) e ∙ ap some d))
       by (idle u ms) e (done v ns r) d =
-          let j = end-placed (f .g) (from-tree (idle u ms) e ∙ ap some d) in ap messagesIn d ∙ j .messages ∙ sym (ap messagesIn e)
+          let j = end-placed (f .g) (from-tree (idle u ms) e ∙ ap some d) in
+          let k : done v ns r ≡ done u ms r = rw (j .unb, j .messages) in
+          stays-as e (d ∙ k) (ends u ms r)
       by (idle u ms) e (busy v ns o) d =
           absurd (false≢true (sym t ∙ ap isBusy (opened (y .service) s (a .state) h′ l′ v ns o (ap stateOf (sym d) ∙ f .walks .same) .phase)))
 
@@ -437,7 +442,7 @@ module _ {y : Syntax} {s : List ℕ} {from : ℕ} {x : State} {h l b : List ℕ}
     (h′ l′ b′ rows : List ℕ) where
   section-by : (d : Bool) (z : Reading) (c : Layout) (n : ℕ) → UntBy d y s i u ms z c n rows → SectionBy d y s i (w .tree) z c rows
   section-by true z c n q = (u, ms, q .0, q .1, (e, q .2 .0, q .2 .1))
-  section-by false z c n q = ap messagesIn (q .1 .0) ∙ sym (ap messagesIn e)
+  section-by false z c n q = subst (λ (v : Reading). Stays v z) (sym e) (subst (λ (v : Reading). Stays (idle u ms) v) (sym (q .1 .0)) (breaks u ms (q .0)))
 
   section-between : (d : Bool) (c : Layout) (n : ℕ) {v : State} (g : Walking y s from v h′ l′ b′ n) → UntBy d y s i u ms (g .tree) c n rows → isBusy (v .phase) ≡ true → length s ≤ n
   section-between true c n {v} g q t = absurd (false≢true (sym (idle-phased (v .phase) _ _ _ (ap stateOf (sym (q .2 .0)) ∙ g .same)) ∙ t))

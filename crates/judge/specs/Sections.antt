@@ -47,13 +47,6 @@ laidOut x q at next = record {
   reference = x .unh;
 }
 
--- the messages that were closed so far
-abbrev pub messagesIn : Reading → Snoc Message
-messagesIn start = nil
-messagesIn (idle u ms) = ms
-messagesIn (busy u ms o) = ms
-messagesIn (done u ms z) = ms
-
 abbrev pub autoO : Open → Bool
 autoO (msg h hs b ts) = auto h
 
@@ -127,11 +120,17 @@ pub record Starting (y : Syntax) (s : List ℕ) (x : State) (h l b : List ℕ) (
   pub room : length rows ≡ 18
   pub marks : length m ≡ 40
 
+-- no message more: UNB, UNZ, or a message that the octets do not close
+pub data Stays : Reading → Reading → Type 0 where
+  begins : (u : Leaf) → Stays start (idle u nil)
+  ends : (u : Leaf) (ms : Snoc Message) (z : Leaf) → Stays (idle u ms) (done u ms z)
+  breaks : (u : Leaf) (ms : Snoc Message) (o : Open) → Stays (idle u ms) (busy u ms o)
+
 -- a message more, with its layout; or none
 abbrev pub SectionBy : Bool → (y : Syntax) → List ℕ → ℕ → Reading → Reading → Layout → List ℕ → Type 0
 SectionBy true y s p x z c rows =
     (u : Leaf) × (ms : Snoc Message) × (o : Open) × (t : Leaf) × ((x ≡ idle u ms) × (z ≡ idle u (ms ▷ message o t)) × Laid (y .service) s p o t c rows)
-SectionBy false y s p x z c rows = messagesIn z ≡ messagesIn x
+SectionBy false y s p x z c rows = Stays x z
 
 pub record Passing {y : Syntax} {s : List ℕ} {from : ℕ} {x : State} {h l b : List ℕ} {i : ℕ} (w : Walking y s from x h l b i) (c : Section) (h′ l′ b′ rows : List ℕ) : Type 0 where
   pub walks : Walking y s from (c .state) h′ l′ b′ (c .next)

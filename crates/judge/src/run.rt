@@ -26,7 +26,7 @@ use syntax::opening::begin;
 use syntax::repertoire::table;
 
 // Before UNB: nothing read.
-fn unread() -> State
+pub fn unread() -> State
     ensures { λ r. ⌜ r ≡ unreadAs ⌝ }
 {
     let m = fresh_message(false);
@@ -39,7 +39,7 @@ fn unread() -> State
     }
 }
 
-fn is_done(p: Phase) -> bool
+pub fn is_done(p: Phase) -> bool
     ensures { λ r. ⌜ r ≡ isDone p ⌝ }
 {
     match p {

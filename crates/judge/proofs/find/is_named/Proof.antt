@@ -1,0 +1,27 @@
+use Rattle.judge.specs.FindingLaws.{named-closed, named-open}
+use borrow.Author.Needs.{needs}
+use Rattle.judge.proofs.find.is_named.Statement.{statement}
+use Rattle.judge.proofs.find.is_named.Tie as tie
+use Rattle.judge.proofs.find.is_named.Reads as reads
+use Rattle.judge.proofs.find.is_named.Lts as lts
+use Rattle.syntax.proofs.content.content_is.Reads as content-is-reads
+use Rattle.syntax.proofs.content.part.Reads as part-reads
+
+-- src/find.rt:64:27
+part-requires : tie.Need-part-requires
+part-requires c κs = search needs
+
+-- src/find.rt:64:9
+content-is-requires : tie.Need-content-is-requires
+content-is-requires c κs = search needs
+
+-- src/find.rt:64:9
+returns : tie.Need-returns
+returns c = named-closed (c .before .before .before .before .before .before .args .release) (c .before .before .before .before .before .before .args .s .now) (c .before .before .before .before .before .before .args .reference .now) (c .before .before .before .before .before .before .args .c) (c .before .before .before .if1 .taken) (c .before .part .ensures) (c .content-is .ensures)
+
+-- src/find.rt:59:1
+returns-2 : tie.Need-returns-2
+returns-2 c = named-open (c .before .before .before .args .release) (c .before .before .before .args .s .now) (c .before .before .before .args .reference .now) (c .before .before .before .args .c) (c .if1 .left)
+
+pub is-named-spec : {M : Type 1} → statement M
+is-named-spec = tie.close (tie.spec part-requires content-is-requires returns returns-2)

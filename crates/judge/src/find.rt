@@ -1,0 +1,200 @@
+// The message that a call names by its 0062: the interchange is judged, and of that message it is told where its parts stand.
+ghost use mathlib.Core.Path.{_≡_};
+ghost use Prim.Native.Nat.{_≤_};
+ghost use lib.Dec.{T};
+ghost use lib.ListN.{length};
+ghost use Rattle.syntax.specs.Service.{fit};
+ghost use Rattle.syntax.specs.Repertoire.{Table};
+ghost use Rattle.judge.specs.RunLaws.{Fresh};
+ghost use Rattle.judge.specs.Finding.{noLayout, namedBy, earlyAs, FoundIs};
+use crate::run::is_done;
+use crate::run::unread;
+use crate::sections::Layout;
+use crate::sections::Reached;
+use crate::sections::next_section;
+use crate::walk::Stretch;
+use syntax::Refusal;
+use syntax::Syntax;
+use syntax::content::content_is;
+use syntax::content::part;
+
+// The message's layout; or that no message has that 0062; or why the interchange is refused.
+pub enum Found {
+    Message(Layout),
+    Missing,
+    Refused(Refusal),
+}
+
+fn no_layout() -> Layout
+    ensures { λ r. ⌜ r ≡ noLayout ⌝ }
+{
+    Layout {
+        unh: 0,
+        heads: 0,
+        body: 0,
+        tail: 0,
+        unt: 0,
+        end: 0,
+        headers: 0,
+        trailers: 0,
+        auto: false,
+        loads: 0,
+        grams: 0,
+        reference: Stretch { start: 0, end: 0 },
+    }
+}
+
+// Where the groups of the message found start: the rows are kept.
+fn keep(rows: &mut [usize; 18], here: &[usize; 18])
+    requires { ⌜ (length (now rows) ≡ 18) × (length (now here) ≡ 18) ⌝ }
+    ensures { λ r. ⌜ now (rows .exit) ≡ now (here .entry) ⌝ }
+{
+    let mut i: usize = 0;
+    while i < 18 {
+        rows[i] = here[i];
+        i += 1;
+    }
+}
+
+// Whether the section closed the message with this 0062.
+fn is_named(s: &[u8], release: u8, closed: bool, c: Layout, reference: &[u8]) -> bool
+    ensures { λ r. ⌜ r ≡ namedBy release (now (s .entry)) closed c (now (reference .entry)) ⌝ }
+{
+    if closed {
+        let w = c.reference;
+        return content_is(part(s, w.start, w.end), release, reference);
+    }
+    false
+}
+
+fn early(at: usize) -> Found
+    ensures { λ r. ⌜ r ≡ earlyAs at ⌝ }
+{
+    Found::Refused(Refusal {
+        number: 7,
+        place: at,
+    })
+}
+
+// Every section from `from` on; of the message with the 0062 `reference` the layout, and in `rows` where its groups start.
+fn find_among(
+    s: &[u8],
+    from: usize,
+    t: &[u8; 256],
+    y: Syntax,
+    reference: &[u8],
+    links: &mut [u32],
+    buckets: &mut [u32],
+    rows: &mut [usize; 18],
+) -> Found
+    requires { ⌜ Table y (now t) ⌝ }
+    requires { ⌜ Fresh y (now s) (now links) (now buckets) ⌝ }
+    requires { ⌜ length (now rows) ≡ 18 ⌝ }
+    ensures { λ r. ⌜ FoundIs y (now (s .entry)) from (now (reference .entry)) r (now (rows .exit)) ⌝ }
+{
+    let mut marks = [0usize; 40];
+    let mut heads = [0usize; 36];
+    let mut here = [0usize; 18];
+    let mut st = unread();
+    let mut at = from;
+    let mut found = false;
+    let mut c = no_layout();
+    let v = y.service;
+    while at < s.len() {
+        let p = st.phase;
+        if is_done(p) {
+            return early(at);
+        }
+        match next_section(
+            s,
+            at,
+            t,
+            y,
+            st,
+            &mut marks,
+            &mut heads,
+            links,
+            buckets,
+            &mut here,
+        ) {
+            Reached::Stop(f) => {
+                return Found::Refused(f);
+            }
+            Reached::On(a) => {
+                let l = a.layout;
+                if is_named(s, v.release, a.closed, l, reference) {
+                    keep(rows, &here);
+                    found = true;
+                    c = l;
+                }
+                let x = a.state;
+                st = x;
+                at = a.next;
+            }
+        }
+    }
+    let p = st.phase;
+    if !is_done(p) {
+        return early(at);
+    }
+    if found {
+        return Found::Message(c);
+    }
+    Found::Missing
+}
+
+fn find_small(
+    s: &[u8],
+    from: usize,
+    t: &[u8; 256],
+    y: Syntax,
+    reference: &[u8],
+    rows: &mut [usize; 18],
+) -> Found
+    requires { ⌜ Table y (now t) ⌝ }
+    requires { ⌜ T (fit (y .service)) ⌝ }
+    requires { ⌜ (length (now s) ≤ 2048) × (length (now rows) ≡ 18) ⌝ }
+    ensures { λ r. ⌜ FoundIs y (now (s .entry)) from (now (reference .entry)) r (now (rows .exit)) ⌝ }
+{
+    let mut links = [0u32; 1024];
+    let mut buckets = [0u32; 64];
+    find_among(s, from, t, y, reference, &mut links, &mut buckets, rows)
+}
+
+fn find_large(
+    s: &[u8],
+    from: usize,
+    t: &[u8; 256],
+    y: Syntax,
+    reference: &[u8],
+    rows: &mut [usize; 18],
+) -> Found
+    requires { ⌜ Table y (now t) ⌝ }
+    requires { ⌜ T (fit (y .service)) ⌝ }
+    requires { ⌜ (length (now s) ≤ 65535) × (length (now rows) ≡ 18) ⌝ }
+    ensures { λ r. ⌜ FoundIs y (now (s .entry)) from (now (reference .entry)) r (now (rows .exit)) ⌝ }
+{
+    let mut links = [0u32; 32768];
+    let mut buckets = [0u32; 2048];
+    find_among(s, from, t, y, reference, &mut links, &mut buckets, rows)
+}
+
+// The message with the 0062 `reference`, of an interchange whose UNB stands at `from`.
+pub fn find(
+    s: &[u8],
+    from: usize,
+    t: &[u8; 256],
+    y: Syntax,
+    reference: &[u8],
+    rows: &mut [usize; 18],
+) -> Found
+    requires { ⌜ Table y (now t) ⌝ }
+    requires { ⌜ T (fit (y .service)) ⌝ }
+    requires { ⌜ (length (now s) ≤ 65535) × (length (now rows) ≡ 18) ⌝ }
+    ensures { λ r. ⌜ FoundIs y (now (s .entry)) from (now (reference .entry)) r (now (rows .exit)) ⌝ }
+{
+    if s.len() <= 2048 {
+        return find_small(s, from, t, y, reference, rows);
+    }
+    find_large(s, from, t, y, reference, rows)
+}

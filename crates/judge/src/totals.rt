@@ -1,0 +1,52 @@
+// The loads of a message, and their grams.
+ghost use mathlib.Core.Path.{_≡_};
+ghost use Rattle.grammar.specs.Verdict.{totalsOf, totalNumbers};
+ghost use Rattle.judge.specs.Finding.{toldTotals, totalledBy};
+use crate::find::Found;
+use crate::find::find;
+use syntax::Refusal;
+use syntax::opening::Begun;
+use syntax::opening::begin;
+use syntax::repertoire::table;
+
+pub struct Loads {
+    pub loads: usize,
+    pub grams: u64,
+}
+
+pub enum Totals {
+    Of(Loads),
+    Refused(Refusal),
+}
+
+fn totalled(f: Found) -> Totals
+    ensures { λ r. ⌜ r ≡ totalledBy f ⌝ }
+{
+    match f {
+        Found::Message(c) => Totals::Of(Loads {
+            loads: c.loads,
+            grams: c.grams,
+        }),
+        Found::Missing => Totals::Refused(Refusal {
+            number: 13,
+            place: 0,
+        }),
+        Found::Refused(g) => Totals::Refused(g),
+    }
+}
+
+// How many loads the message with the 0062 `reference` has, and their grams: for any octets, and any reference.
+pub fn message_totals(s: &[u8], reference: &[u8]) -> Totals
+    ensures { λ r. ⌜ toldTotals r ≡ totalNumbers (totalsOf (now (s .entry)) (now (reference .entry))) ⌝ }
+{
+    match begin(s) {
+        Begun::Refused(f) => Totals::Refused(f),
+        Begun::Ready(b) => {
+            let y = b.syntax;
+            let at = b.at;
+            let t = table(y);
+            let mut rows = [0usize; 18];
+            totalled(find(s, at, &t, y, reference, &mut rows))
+        }
+    }
+}
