@@ -1,16 +1,28 @@
-// The desk: a command a line on standard input, an answer line to each, in order. Only `judge I` is built, with I in lower-case
-// hex or `-` for none: `ok` or `refused NUMBER PLACE`. The answer to every other line is `bad`.
+// The desk: a command a line on standard input, an answer line to each, in order. A line is words parted by exactly one space:
+// the command, then its arguments. Octets are lower-case hex, and `-` is the empty string.
+//
+//     judge I          ok
+//     totals I MREF    ok LOADS GRAMS
+//
+// Either may answer `refused NUMBER PLACE`. The answer to every other line is `bad`.
+ghost use Prim.Native.Nat.{_≤_, _<_};
+ghost use lib.ListN.{length};
 use judge::run::judge;
+use judge::totals::Totals;
+use judge::totals::message_totals;
 use judge::walk::Verdict;
 use libc::STDIN_FILENO;
 use printing::flush;
+use printing::number;
 use printing::print_refusal;
+use printing::put;
 use printing::text;
+use syntax::content::content_is;
 use syntax::content::part;
 
-// How many octets a hex word stands for, or that it is no hex word.
+// Where the octets of a hex word end in the room, or that it is no hex word.
 enum Decoded {
-    Octets(usize),
+    To(usize),
     Bad,
 }
 
@@ -28,6 +40,19 @@ fn print_verdict(out: &mut [u8; 4096], n: usize, v: Verdict) -> usize {
     match v {
         Verdict::Accepted => text(out, n, b"ok\n"),
         Verdict::Refused(f) => print_refusal(out, n, f),
+    }
+}
+
+fn print_totals(out: &mut [u8; 4096], n: usize, t: Totals) -> usize {
+    match t {
+        Totals::Of(l) => {
+            let mut k = text(out, n, b"ok ");
+            k = number(out, k, l.loads as u64);
+            k = put(out, k, b' ');
+            k = number(out, k, l.grams);
+            put(out, k, b'\n')
+        }
+        Totals::Refused(f) => print_refusal(out, n, f),
     }
 }
 
@@ -63,7 +88,7 @@ fn octet(a: u8, b: u8) -> u8 {
 // `-` is the empty string, so that each argument is a word.
 fn is_none(h: &[u8]) -> bool {
     if h.len() == 1 {
-        return h[0] == 45;
+        return h[0] == b'-';
     }
     false
 }
@@ -76,62 +101,129 @@ fn has_pairs(h: &[u8]) -> bool {
     h.len() % 2 == 0
 }
 
-// Puts the octets of a hex word at the start of `room`.
-fn decode(h: &[u8], room: &mut [u8; 150000]) -> Decoded {
+// Puts the octets of a hex word into `room` from `at` on.
+fn decode(h: &[u8], room: &mut [u8; 150000], at: usize) -> Decoded {
     if is_none(h) {
-        return Decoded::Octets(0);
+        return Decoded::To(at);
     }
     if has_pairs(h) {
-        return decode_pairs(h, room);
+        return decode_pairs(h, room, at);
     }
     Decoded::Bad
 }
 
-// A line has fewer digits than fill `room`, so the test of `k` only shows that each octet has its place.
-fn decode_pairs(h: &[u8], room: &mut [u8; 150000]) -> Decoded {
+// A line has fewer digits than fill `room`, so the test of `e` only shows that each octet has its place.
+fn decode_pairs(h: &[u8], room: &mut [u8; 150000], at: usize) -> Decoded {
     let n = h.len() / 2;
     let mut k: usize = 0;
+    let mut e = at;
     while k < n {
-        if 150000 <= k {
+        if 150000 <= e {
             return Decoded::Bad;
         }
         let a = h[k * 2];
         let b = h[k * 2 + 1];
         if is_pair(a, b) {
-            room[k] = octet(a, b);
+            room[e] = octet(a, b);
+            e += 1;
             k += 1;
         } else {
             return Decoded::Bad;
         }
     }
-    Decoded::Octets(k)
+    Decoded::To(e)
 }
 
-fn answer_judge(out: &mut [u8; 4096], n: usize, h: &[u8], room: &mut [u8; 150000]) -> usize {
-    match decode(h, room) {
-        Decoded::Octets(k) => print_verdict(out, n, judge(part(room, 0, k))),
-        Decoded::Bad => print_bad(out, n),
-    }
-}
-
-fn starts(s: &[u8], t: &[u8]) -> bool {
-    if s.len() < t.len() {
-        return false;
-    }
-    let mut i: usize = 0;
-    while i < t.len() {
-        if s[i] != t[i] {
-            return false;
+// Where the word at `from` ends: at the next space, or with the line.
+fn word_end(s: &[u8], from: usize) -> usize {
+    let mut i = from;
+    while i < s.len() {
+        if s[i] == b' ' {
+            return i;
         }
         i += 1;
     }
-    true
+    i
 }
 
-// All that is behind the first space is taken as the hex word. A second space is no digit, so a line of three words is bad.
+// Reads one argument as its letter says: `h` is octets in hex. No command has an argument of another kind yet.
+fn read_argument(w: &[u8], letter: u8, room: &mut [u8; 150000], at: usize) -> Decoded {
+    if letter == b'h' {
+        return decode(w, room, at);
+    }
+    Decoded::Bad
+}
+
+// Reads the arguments in `s`, the line behind its command. `form` has a letter for each. They come to stand in `room` one after
+// the other; `bounds` has 0, and then where each ends. The answer is false where a word is bad, missing or too many. `end` is the
+// end of the word before, so that a space stands there, or the line is over.
+fn arguments(s: &[u8], form: &[u8], room: &mut [u8; 150000], bounds: &mut [usize; 7]) -> bool
+    requires { ⌜ length (now form) ≤ 6 ⌝ }
+{
+    let mut at: usize = 0;
+    let mut end: usize = 0;
+    let mut i: usize = 0;
+    bounds[0] = 0;
+    while i < form.len() {
+        if s.len() <= end {
+            return false;
+        }
+        let e = word_end(s, end + 1);
+        match read_argument(part(s, end + 1, e), form[i], room, at) {
+            Decoded::To(k) => {
+                at = k;
+            }
+            Decoded::Bad => {
+                return false;
+            }
+        }
+        i += 1;
+        bounds[i] = at;
+        end = e;
+    }
+    end == s.len()
+}
+
+// Argument `i`, counted from 0.
+fn argument<'a>(room: &'a [u8; 150000], bounds: &[usize; 7], i: usize) -> &'a [u8]
+    requires { ⌜ i < 6 ⌝ }
+{
+    part(room, bounds[i], bounds[i + 1])
+}
+
+fn answer_judge(out: &mut [u8; 4096], n: usize, s: &[u8], room: &mut [u8; 150000]) -> usize {
+    let mut bounds = [0usize; 7];
+    if arguments(s, b"h", room, &mut bounds) {
+        let interchange = argument(room, &bounds, 0);
+        return print_verdict(out, n, judge(interchange));
+    }
+    print_bad(out, n)
+}
+
+fn answer_totals(out: &mut [u8; 4096], n: usize, s: &[u8], room: &mut [u8; 150000]) -> usize {
+    let mut bounds = [0usize; 7];
+    if arguments(s, b"hh", room, &mut bounds) {
+        let interchange = argument(room, &bounds, 0);
+        let reference = argument(room, &bounds, 1);
+        return print_totals(out, n, message_totals(interchange, reference));
+    }
+    print_bad(out, n)
+}
+
+// With a space as release nothing is released, so that the octets are compared as they are.
+fn is_word(w: &[u8], t: &[u8]) -> bool {
+    content_is(w, b' ', t)
+}
+
 fn answer(out: &mut [u8; 4096], n: usize, s: &[u8], room: &mut [u8; 150000]) -> usize {
-    if starts(s, b"judge ") {
-        return answer_judge(out, n, part(s, 6, s.len()), room);
+    let e = word_end(s, 0);
+    let command = part(s, 0, e);
+    let rest = part(s, e, s.len());
+    if is_word(command, b"judge") {
+        return answer_judge(out, n, rest, room);
+    }
+    if is_word(command, b"totals") {
+        return answer_totals(out, n, rest, room);
     }
     print_bad(out, n)
 }

@@ -4,10 +4,10 @@ use Rattle.desk.proofs.decode_pairs.Statement.{statement}
 use Rattle.desk.proofs.decode_pairs.Tie as tie
 
 abbrev Inv-loop : tie.InvT-loop
-Inv-loop h room₀ n k₀ room k = Unit {0}
+Inv-loop h room₀ at n k₀ e₀ room k e = Unit {0}
 
 abbrev μ-loop : tie.MeasureT-loop
-μ-loop h room₀ n k₀ room k = n - k
+μ-loop h room₀ at n k₀ e₀ room k e = n - k
 
 loop-holds : tie.Need-loop-holds Inv-loop μ-loop
 loop-holds c = search needs
@@ -38,6 +38,9 @@ octet-requires c κs = search needs
 
 element-write-room : tie.Need-element-write-room Inv-loop μ-loop
 element-write-room c = search needs
+
+add-e : tie.Need-add-e Inv-loop μ-loop
+add-e c = search needs
 
 add-k : tie.Need-add-k Inv-loop μ-loop
 add-k c = search needs
@@ -70,6 +73,7 @@ decode-pairs-spec =
     is-pair-requires
     octet-requires
     element-write-room
+    add-e
     add-k
     loop-less
     loop-again
