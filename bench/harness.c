@@ -17,7 +17,7 @@ static uint64_t ours(const uint8_t *s, size_t n) { return rattle_judge(&(slice){
 
 static double now(void) {
     struct timespec t;
-    clock_gettime(CLOCK_MONOTONIC, &t);
+    clock_gettime(CLOCK_PROCESS_CPUTIME_ID, &t);    // others use the machine too
     return t.tv_sec * 1e9 + t.tv_nsec;
 }
 
