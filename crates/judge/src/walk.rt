@@ -90,11 +90,11 @@ pub struct Stretch {
 
 // What was read so far. References are kept by place: UNB's 0020, the open message's 0062.
 pub struct State {
-    pub phase: Phase,
-    pub count: usize,
+    pub message: Message,
     pub unb: Stretch,
     pub unh: Stretch,
-    pub message: Message,
+    pub count: usize,
+    pub phase: Phase,
 }
 
 pub enum Step {

@@ -24,25 +24,25 @@ pub enum Group {
 pub struct Sums {
     pub loads: usize,
     pub grams: u64,
-    pub controlled: bool,
     pub control: u64,
+    pub controlled: bool,
     pub agree: bool,
 }
 
 // A message's trailers so far: whether all but the last count right; of the last what it claims, the segments of its header, and its own.
 pub struct Pair {
-    pub even: bool,
     pub claim: u64,
     pub base: usize,
     pub own: usize,
+    pub even: bool,
 }
 
-// A message as far as it was read.
+// A message as far as it was read. Large fields first, so that little padding is copied with every segment.
 pub struct Message {
-    pub group: Group,
-    pub auto: bool,
-    pub segments: usize,
-    pub headers: usize,
     pub sums: Sums,
     pub pair: Pair,
+    pub segments: usize,
+    pub headers: usize,
+    pub group: Group,
+    pub auto: bool,
 }
