@@ -7,10 +7,10 @@
 // Either may answer `refused NUMBER PLACE`. The answer to every other line is `bad`.
 ghost use Prim.Native.Nat.{_≤_, _<_};
 ghost use lib.ListN.{length};
+use judge::run::Verdict;
 use judge::run::judge;
 use judge::totals::Totals;
 use judge::totals::message_totals;
-use judge::walk::Verdict;
 use libc::STDIN_FILENO;
 use printing::flush;
 use printing::number;

@@ -13,9 +13,9 @@ use Rattle.grammar.specs.Lists.{Snoc}
 use Rattle.grammar.specs.Interchange.{Leaf, Open, Message, message, Reading, done}
 use Rattle.grammar.specs.Named.{placed, placedAt}
 use Rattle.grammar.specs.Verdict.{read, refused}
-use Rattle.judge.specs.RunLaws.{answerFrom}
-use Rattle.judge.specs.Sections.{Laid}
-use Rattle.judge.specs.declared.sections.Layout.{Layout}
+use Rattle.walk.specs.RunLaws.{answerFrom}
+use Rattle.walk.specs.Sections.{Laid}
+use Rattle.walk.specs.declared.sections.Layout.{Layout}
 use Rattle.judge.specs.declared.find.Found.{Found}
 use Rattle.judge.specs.declared.find.Found.the-variants.{Message as Here, Missing, Refused as NotRead}
 use Rattle.judge.specs.declared.totals.Totals.{Totals}

@@ -5,18 +5,18 @@ ghost use lib.Dec.{T};
 ghost use lib.ListN.{length};
 ghost use Rattle.syntax.specs.Service.{fit};
 ghost use Rattle.syntax.specs.Repertoire.{Table};
-ghost use Rattle.judge.specs.RunLaws.{Fresh};
+ghost use Rattle.walk.specs.RunLaws.{Fresh};
 ghost use Rattle.judge.specs.Finding.{noLayout, namedBy, earlyAs, FoundIs};
 use crate::run::is_done;
 use crate::run::unread;
-use crate::sections::Layout;
-use crate::sections::Reached;
-use crate::sections::next_section;
-use crate::walk::Stretch;
 use syntax::Refusal;
 use syntax::Syntax;
 use syntax::content::content_is;
 use syntax::content::part;
+use walk::sections::Layout;
+use walk::sections::Reached;
+use walk::sections::next_section;
+use walk::turns::Stretch;
 
 // The message's layout; or that no message has that 0062; or why the interchange is refused.
 pub enum Found {

@@ -1,8 +1,4 @@
-// The judge: one pass over the octets of an interchange with a small state.
-pub mod advance;
+// The judge: the verdict on an interchange, the message that a call names, and its totals.
 pub mod find;
-pub mod layout;
 pub mod run;
-pub mod sections;
 pub mod totals;
-pub mod walk;

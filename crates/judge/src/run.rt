@@ -10,20 +10,25 @@ ghost use Rattle.syntax.specs.Repertoire.{Table};
 ghost use Rattle.syntax.specs.Reader.{chain};
 ghost use Rattle.grammar.specs.Interchange.{start};
 ghost use Rattle.grammar.specs.Verdict.{verdictOf, numbers, walk};
-ghost use Rattle.judge.specs.Held.{told, walked};
-ghost use Rattle.judge.specs.RunLaws.{unreadAs, isDone, Fresh};
-use crate::sections::Reached;
-use crate::sections::next_section;
-use crate::walk::Phase;
-use crate::walk::State;
-use crate::walk::Stretch;
-use crate::walk::Verdict;
+ghost use Rattle.walk.specs.Held.{walked};
+ghost use Rattle.judge.specs.Told.{told};
+ghost use Rattle.walk.specs.RunLaws.{unreadAs, isDone, Fresh};
 use message::kept::fresh_message;
 use syntax::Refusal;
 use syntax::Syntax;
 use syntax::opening::Begun;
 use syntax::opening::begin;
 use syntax::repertoire::table;
+use walk::sections::Reached;
+use walk::sections::next_section;
+use walk::turns::Phase;
+use walk::turns::State;
+use walk::turns::Stretch;
+
+pub enum Verdict {
+    Accepted,
+    Refused(Refusal),
+}
 
 // Before UNB: nothing read.
 pub fn unread() -> State

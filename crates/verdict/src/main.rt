@@ -1,6 +1,6 @@
 // For an interchange on standard input: `accepted`, or the refusal with its place.
+use judge::run::Verdict;
 use judge::run::judge;
-use judge::walk::Verdict;
 use libc::STDIN_FILENO;
 use printing::flush;
 use printing::print_refusal_at;

@@ -6,8 +6,8 @@ use mathlib.Core.Bool.{true, false}
 use borrow.Author.Needs.{needs}
 use lib.ListN.{length}
 use Rattle.message.specs.ItemsLaws.{not-true, not-false}
-use Rattle.judge.specs.RunLaws.{walking-start, walking-over, walking-short, walking-read, unread-idle}
-use Rattle.judge.specs.SectionLaws.{starting, passed, stopped}
+use Rattle.walk.specs.RunLaws.{walking-start, walking-over, walking-short, walking-read, unread-idle}
+use Rattle.walk.specs.SectionLaws.{starting, passed, stopped}
 use Rattle.judge.specs.Finding.{noLayout}
 use Rattle.judge.specs.FindingLaws.{Sifting, seeks-on, seeks-hit, seeks-start, seeks-eq, found-early, whole-read}
 use Rattle.judge.proofs.find.find_among.Statement.{statement}
@@ -20,7 +20,7 @@ use Rattle.judge.proofs.find.keep.Reads as keep-reads
 use Rattle.judge.proofs.find.no_layout.Reads as no-layout-reads
 use Rattle.judge.proofs.run.is_done.Reads as is-done-reads
 use Rattle.judge.proofs.run.unread.Reads as unread-reads
-use Rattle.judge.proofs.sections.next_section.Reads as next-section-reads
+use Rattle.walk.proofs.sections.next_section.Reads as next-section-reads
 
 abbrev Inv-loop : tie.InvT-loop
 Inv-loop s from t y reference links₀ buckets₀ rows₀ marks₀ heads₀ here₀ st₀ at₀ found₀ c₀ v links buckets rows marks heads here st at found c = Sifting y s from reference st heads links buckets at marks here links₀ buckets₀ found c rows

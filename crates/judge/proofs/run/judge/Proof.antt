@@ -1,5 +1,5 @@
 use mathlib.Core.Path.{sym, _∙_}
-use Rattle.judge.specs.RunLaws.{begun-refused, begun-ready, begun-fits}
+use Rattle.walk.specs.RunLaws.{begun-refused, begun-ready, begun-fits}
 use borrow.Author.Needs.{needs}
 use Rattle.judge.proofs.run.judge.Statement.{statement}
 use Rattle.judge.proofs.run.judge.Tie as tie

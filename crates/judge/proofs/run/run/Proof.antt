@@ -4,9 +4,9 @@ use mathlib.Core.Path.{refl, sym, ap, _∙_}
 use mathlib.Core.Bool.{false≢true}
 use borrow.Author.Needs.{needs}
 use lib.ListN.{length}
-use Rattle.judge.specs.Held.{walked}
-use Rattle.judge.specs.RunLaws.{walking-start, walking-more, walking-done, walking-early, unread-idle}
-use Rattle.judge.specs.SectionLaws.{Looping, starting, passed, stopped}
+use Rattle.walk.specs.Held.{walked}
+use Rattle.walk.specs.RunLaws.{walking-start, walking-more, walking-done, walking-early, unread-idle}
+use Rattle.walk.specs.SectionLaws.{Looping, starting, passed, stopped}
 use Rattle.judge.proofs.run.run.Statement.{statement}
 use Rattle.judge.proofs.run.run.Tie as tie
 use Rattle.judge.proofs.run.run.Reads as reads
@@ -14,7 +14,7 @@ use Rattle.judge.proofs.run.run.Lts as lts
 use Rattle.judge.proofs.run.is_done.Reads as is-done-reads
 use Rattle.judge.proofs.run.refused.Reads as refused-reads
 use Rattle.judge.proofs.run.unread.Reads as unread-reads
-use Rattle.judge.proofs.sections.next_section.Reads as next-section-reads
+use Rattle.walk.proofs.sections.next_section.Reads as next-section-reads
 
 abbrev Inv-loop : tie.InvT-loop
 Inv-loop s from t y links₀ buckets₀ marks₀ heads₀ rows₀ st₀ at₀ links buckets marks heads rows st at = Looping y s from st heads links buckets at marks rows links₀ buckets₀

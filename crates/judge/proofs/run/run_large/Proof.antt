@@ -1,6 +1,6 @@
 use native.Mathlib.Omega.{arith}
 use mathlib.Core.Path.{refl}
-use Rattle.judge.specs.RunLaws.{fresh-tables}
+use Rattle.walk.specs.RunLaws.{fresh-tables}
 use borrow.Author.Needs.{needs}
 use Rattle.judge.proofs.run.run_large.Statement.{statement}
 use Rattle.judge.proofs.run.run_large.Tie as tie

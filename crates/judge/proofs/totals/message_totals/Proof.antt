@@ -1,5 +1,5 @@
 use mathlib.Core.Path.{refl, ap, _∙_}
-use Rattle.judge.specs.RunLaws.{begun-fits}
+use Rattle.walk.specs.RunLaws.{begun-fits}
 use Rattle.judge.specs.Finding.{toldTotals}
 use Rattle.judge.specs.FindingLaws.{totals-refused, totals-found}
 use borrow.Author.Needs.{needs}

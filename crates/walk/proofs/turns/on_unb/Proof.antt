@@ -1,0 +1,37 @@
+use Rattle.walk.specs.WalkingLaws.{unb-bad, unb-read}
+use borrow.Author.Needs.{needs}
+use Rattle.walk.proofs.turns.on_unb.Statement.{statement}
+use Rattle.walk.proofs.turns.on_unb.Tie as tie
+
+is-formed-requires : tie.Need-is-formed-requires
+is-formed-requires c κs = search needs
+
+stopped-requires : tie.Need-stopped-requires
+stopped-requires c κs = search needs
+
+returns : tie.Need-returns
+returns c =
+    let g = c .before .before .before .before .before .before .before in
+    unb-bad (g .args .y) (g .args .s .now) (g .args .st) (g .args .heads .now) (g .args .links .now) (g .args .buckets .now) (g .args .at) (g .args .next) (g .args .f) (g .args .marks .now) (g .pre .0) (g .pre .1) (c .before .before .is-formed .ensures) (c .before .if1 .taken) (c .stopped .ensures)
+
+field-start-requires : tie.Need-field-start-requires
+field-start-requires c κs = search needs
+
+field-end-requires : tie.Need-field-end-requires
+field-end-requires c κs = search needs
+
+returns-2 : tie.Need-returns-2
+returns-2 c =
+    let g = c .before .before .before .before .before .before .before .before .before .before in
+    unb-read (g .args .y) (g .args .s .now) (g .args .st) (g .args .heads .now) (g .args .links .now) (g .args .buckets .now) (g .args .at) (g .args .next) (g .args .f) (g .args .marks .now) (g .pre .0) (g .pre .1) (c .before .before .before .before .before .is-formed .ensures) (c .before .field-start .ensures) (c .field-end .ensures) (c .before .before .before .before .if1 .left)
+
+pub on-unb-spec : {M : Type 1} → statement M
+on-unb-spec =
+    tie.close
+    (tie.spec
+    is-formed-requires
+    stopped-requires
+    returns
+    field-start-requires
+    field-end-requires
+    returns-2)

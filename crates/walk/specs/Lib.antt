@@ -1,0 +1,10 @@
+pub mod Held
+pub mod FollowLaws
+pub mod TurnLaws
+pub mod WalkingLaws
+pub mod BusyLaws
+pub mod RunLaws
+pub mod Layout
+pub mod LayoutLaws
+pub mod Sections
+pub mod SectionLaws

@@ -1,0 +1,220 @@
+// The walk by sections: UNB, a whole message, or UNZ; of a message where its parts stand.
+ghost use mathlib.Core.Path.{_≡_};
+ghost use mathlib.Core.Bool.{_&&_, not};
+ghost use Prim.Native.Nat.{ℕ, _<_};
+ghost use lib.ListN.{length};
+ghost use Rattle.syntax.specs.Octets.{same};
+ghost use Rattle.syntax.specs.Repertoire.{Table};
+ghost use Rattle.grammar.specs.Lists.{Snoc};
+ghost use Rattle.grammar.specs.Interchange.{Leaf, Message as Whole};
+ghost use Rattle.elements.specs.Octets.{textAt};
+ghost use Rattle.message.specs.Heads.{headRef, headFlag};
+ghost use Rattle.walk.specs.RunLaws.{isBusy, Walking};
+ghost use Rattle.walk.specs.Sections.{nameableIn, laidOut, Inside, Within, Starting, UntIs, SectionIs};
+use crate::advance::advance;
+use crate::layout::Spots;
+use crate::layout::opened;
+use crate::layout::spotted;
+use crate::turns::Advanced;
+use crate::turns::Phase;
+use crate::turns::State;
+use crate::turns::Stretch;
+use message::heads::is_free;
+use syntax::Refusal;
+use syntax::Syntax;
+use syntax::content::content_is;
+use syntax::content::part;
+use syntax::reading::component_part;
+
+// Where the parts of a message stand: its UNH, its header groups, its body, its trailer groups, its UNT, and what comes behind it; how many headers and
+// trailers it has; whether it is an AUTACK; its loads and their grams; its 0062.
+pub struct Layout {
+    pub unh: usize,
+    pub heads: usize,
+    pub body: usize,
+    pub tail: usize,
+    pub unt: usize,
+    pub end: usize,
+    pub headers: usize,
+    pub trailers: usize,
+    pub auto: bool,
+    pub loads: usize,
+    pub grams: u64,
+    pub reference: Stretch,
+}
+
+// After a section: the state, the place of what comes next, whether a message was closed, and then its layout.
+pub struct Section {
+    pub state: State,
+    pub next: usize,
+    pub closed: bool,
+    pub layout: Layout,
+}
+
+pub enum Reached {
+    On(Section),
+    Stop(Refusal),
+}
+
+// Whether a message is open.
+fn is_busy(p: Phase) -> bool
+    ensures { λ r. ⌜ r ≡ isBusy p ⌝ }
+{
+    match p {
+        Phase::Busy => true,
+        Phase::Start => false,
+        Phase::Idle => false,
+        Phase::Done => false,
+    }
+}
+
+// How many headers a trailer at `at` chooses from: all `n` of them, none where no UST stands there.
+fn nameable(s: &[u8], at: usize, n: usize) -> usize
+    requires { ⌜ at < 65536 ⌝ }
+    ensures { λ r. ⌜ r ≡ nameableIn (now (s .entry)) at n ⌝ }
+{
+    if n == 0 {
+        return 0;
+    }
+    if content_is(part(s, at, at + 3), 32, b"UST") {
+        return n;
+    }
+    0
+}
+
+// Whether the trailer at `at` names header `i`, which no trailer has named yet.
+fn names_free(s: &[u8], at: usize, t: &[u8; 256], y: Syntax, heads: &[usize; 36], i: usize) -> bool
+    requires { ⌜ Table y (now t) ⌝ }
+    requires { ⌜ i < 9 ⌝ }
+    ensures { λ r. ⌜ r ≡ (same (headRef (y .service .release) (now (s .entry)) (now (heads .entry)) i) (textAt (y .service) (now (s .entry)) at 1 0) && not (headFlag (now (heads .entry)) i)) ⌝ }
+{
+    let v = y.service;
+    is_free(s, v.release, heads, i, component_part(s, at, t, y, 1, 0))
+}
+
+// The layout of the message `st` whose UNT stands from `at` to `next`.
+fn laid_out(st: State, x: Spots, at: usize, next: usize) -> Layout
+    ensures { λ r. ⌜ r ≡ laidOut st x at next ⌝ }
+{
+    let m = st.message;
+    let u = m.sums;
+    let w = st.unh;
+    Layout {
+        unh: x.unh,
+        heads: x.heads,
+        body: x.body,
+        tail: x.tail,
+        unt: at,
+        end: next,
+        headers: m.headers,
+        trailers: x.trailers,
+        auto: m.auto,
+        loads: u.loads,
+        grams: u.grams,
+        reference: w,
+    }
+}
+
+// From behind the UNH of an open message to behind its UNT. Each UST names a header not yet named: that is searched for here.
+fn to_unt(
+    s: &[u8],
+    from: usize,
+    t: &[u8; 256],
+    y: Syntax,
+    begun: State,
+    spots: Spots,
+    marks: &mut [usize],
+    heads: &mut [usize; 36],
+    links: &mut [u32],
+    buckets: &mut [u32],
+    rows: &mut [usize; 18],
+) -> Reached
+    requires { ⌜ Table y (now t) ⌝ }
+    requires { ⌜ Inside y (now s) begun (now heads) (now links) (now buckets) from spots (now rows) (now marks) ⌝ }
+    ensures { λ r. ⌜
+        ((b p : ℕ) (u : Leaf) (ms : Snoc Whole) → Within y (now (s .entry)) b p u ms begun (now (heads .entry)) (now (links .entry)) (now (buckets .entry)) from spots (now (rows .entry))
+        → UntIs y (now (s .entry)) b p u ms r (now (heads .exit)) (now (links .exit)) (now (buckets .exit)) (now (rows .exit))) ⌝ }
+    ensures { λ r. ⌜ length (now (marks .exit)) ≡ 40 ⌝ }
+{
+    let mut st = begun;
+    let mut x = spots;
+    let mut at = from;
+    while at < s.len() {
+        let m = st.message;
+        let n = nameable(s, at, m.headers);
+        let mut found = n;
+        let mut i: usize = 0;
+        while i < n {
+            if names_free(s, at, t, y, heads, i) {
+                found = i;
+                break;
+            }
+            i += 1;
+        }
+        match advance(s, at, t, y, st, marks, heads, links, buckets, found) {
+            Advanced::Stop(f) => {
+                return Reached::Stop(f);
+            }
+            Advanced::On(a) => {
+                let z = a.state;
+                let p = z.phase;
+                let k = z.message;
+                if !is_busy(p) {
+                    return Reached::On(Section {
+                        state: z,
+                        next: a.next,
+                        closed: true,
+                        layout: laid_out(st, x, at, a.next),
+                    });
+                }
+                x = spotted(x, rows, k, at, a.next);
+                st = z;
+                at = a.next;
+            }
+        }
+    }
+    Reached::On(Section {
+        state: st,
+        next: at,
+        closed: false,
+        layout: laid_out(st, x, at, at),
+    })
+}
+
+// What stands at `from`, between messages or before UNB: UNB, a whole message, or UNZ.
+pub fn next_section(
+    s: &[u8],
+    from: usize,
+    t: &[u8; 256],
+    y: Syntax,
+    st: State,
+    marks: &mut [usize],
+    heads: &mut [usize; 36],
+    links: &mut [u32],
+    buckets: &mut [u32],
+    rows: &mut [usize; 18],
+) -> Reached
+    requires { ⌜ Table y (now t) ⌝ }
+    requires { ⌜ Starting y (now s) st (now heads) (now links) (now buckets) from (now rows) (now marks) ⌝ }
+    ensures { λ r. ⌜ ((b : ℕ) (w : Walking y (now (s .entry)) b st (now (heads .entry)) (now (links .entry)) (now (buckets .entry)) from) → SectionIs w r (now (heads .exit)) (now (links .exit)) (now (buckets .exit)) (now (rows .exit))) ⌝ }
+    ensures { λ r. ⌜ length (now (marks .exit)) ≡ 40 ⌝ }
+{
+    match advance(s, from, t, y, st, marks, heads, links, buckets, 0) {
+        Advanced::Stop(f) => Reached::Stop(f),
+        Advanced::On(a) => {
+            let z = a.state;
+            let p = z.phase;
+            let next = a.next;
+            let x = opened(from, next);
+            if is_busy(p) {
+                return to_unt(s, next, t, y, z, x, marks, heads, links, buckets, rows);
+            }
+            Reached::On(Section {
+                state: z,
+                next: next,
+                closed: false,
+                layout: laid_out(z, x, from, next),
+            })
+        }
+    }
+}
