@@ -34,12 +34,17 @@ pub record Noted (ps : List Piece) (m : List ℕ) (b : ℕ) : Type 0 where
 abbrev pub Kept : ℕ → List ℕ → List ℕ → Type 0
 Kept b m₀ m = (x : ℕ) → x < b → getD m x 0 ≡ getD m₀ x 0
 
--- the element at i noted in the marks from b on; those below are as they were
+-- the marks behind the eight from b on
+abbrev pub Spared : ℕ → List ℕ → List ℕ → Type 0
+Spared b m₀ m = (x : ℕ) → b + 8 ≤ x → getD m x 0 ≡ getD m₀ x 0
+
+-- the element at i noted in the eight marks from b on; the others are as they were
 pub record Taken (σ : Service) (s : List ℕ) (i : ℕ) (at : ℕ) (ends : Bool) (repeated : Bool) (m₀ m : List ℕ) (b : ℕ) : Type 0 where
   pub pass : Passed σ s i at ends repeated
   pub long : length m ≡ 40
   pub noted : Noted (piecesAt σ s i) m b
   pub kept : Kept b m₀ m
+  pub spared : Spared b m₀ m
 
 -- the same for the element with n before it, noted if it is one of the first five
 pub record TakenOne (σ : Service) (s : List ℕ) (i : ℕ) (at : ℕ) (ends : Bool) (repeated : Bool) (m₀ m : List ℕ) (n : ℕ) : Type 0 where
@@ -47,11 +52,11 @@ pub record TakenOne (σ : Service) (s : List ℕ) (i : ℕ) (at : ℕ) (ends : B
   pub long : length m ≡ 40
   pub noted : n < 5 → Noted (piecesAt σ s i) m (8 * n)
   pub kept : Kept (8 * n) m₀ m
+  pub spared : Spared (8 * n) m₀ m
 
--- no element from n on below p; the marks below are as they were
-pub record Cleared (m₀ m : List ℕ) (n p : ℕ) : Type 0 where
+-- no element from n on below p
+pub record Cleared (m : List ℕ) (n p : ℕ) : Type 0 where
   pub room : length m ≡ 40
-  pub kept : Kept (8 * n) m₀ m
   pub none : (k : ℕ) → n ≤ k → k < p → (getD m (8 * k) 0 ≡ 0) × (getD m (8 * k + 1) 0 ≡ 0)
 
 -- the marks tell of the first five elements after the tag

@@ -17,7 +17,7 @@ use Rattle.syntax.specs.declared.reading.Edge.{Edge}
 use Rattle.syntax.specs.declared.reading.Edge.the-variants.{On, Off}
 use Rattle.syntax.specs.declared.reading.Span.{Span}
 use Rattle.syntax.specs.declared.reading.Span.the-variants.{Part, Absent}
-use Rattle.elements.specs.Fields.{rest, Passed, placed, Noted, Kept, Taken, TakenOne, Cleared, Marked, Fields}
+use Rattle.elements.specs.Fields.{rest, Passed, placed, Noted, Kept, Spared, Taken, TakenOne, Cleared, Marked, Fields}
 
 -- ---- elements and components of a list of pieces
 
@@ -228,6 +228,16 @@ module _ (m : List ℕ) (b n x z : ℕ) (h : length m ≡ 40) (room : b + 8 ≤ 
           getD-set-other m (b + 2 + 2 * n) i x 0 (λ u. omega arith)
       pick false = refl
 
+  pub placed-past : (i : ℕ) → b + 8 ≤ i → getD (placed m b n x z) i 0 ≡ getD m i 0
+  placed-past i l = pick (ltb n 3) refl
+    where
+      pick : (t : Bool) → ltb n 3 ≡ t → getD (cond t (set (set m (b + 2 + 2 * n) x) (b + 2 + 2 * n + 1) z) m) i 0 ≡ getD m i 0
+      pick true e =
+          let o = ltb-true n 3 e in
+          getD-set-other (set m (b + 2 + 2 * n) x) (b + 2 + 2 * n + 1) i z 0 (λ u. omega arith) ∙
+          getD-set-other m (b + 2 + 2 * n) i x 0 (λ u. omega arith)
+      pick false e = refl
+
   module _ (l : n ≤ 2) where
     pub placed-start : getD (placed m b n x z) (b + 2 + 2 * n) 0 ≡ x
     placed-start =
@@ -267,6 +277,9 @@ module _ (ps : List Piece) (m : List ℕ) (b n v : ℕ) (h : length m ≡ 40) (r
   done-kept : (m₀ : List ℕ) → Kept b m₀ m → Kept b m₀ (set (set m b n) (b + 1) v)
   done-kept m₀ k x l = done-other x (λ u. omega arith) (λ u. omega arith) ∙ k x l
 
+  done-spared : (m₀ : List ℕ) → Spared b m₀ m → Spared b m₀ (set (set m b n) (b + 1) v)
+  done-spared m₀ k x l = done-other x (λ u. omega arith) (λ u. omega arith) ∙ k x l
+
 -- n components noted of the element that starts at a, which goes on at j
 pub record Noting (y : Syntax) (s : List ℕ) (a : ℕ) (m₀ m : List ℕ) (b j n : ℕ) : Type 0 where
   pub inside : Inside y s a false j
@@ -277,6 +290,7 @@ pub record Noting (y : Syntax) (s : List ℕ) (a : ℕ) (m₀ m : List ℕ) (b j
   pub ahead : (c : ℕ) → atComponent (n + c) (piecesAt (y .service) s a) ≡ atComponent c (piecesAt (y .service) s j)
   pub behind : Behind (piecesAt (y .service) s a) m b n
   pub kept : Kept b m₀ m
+  pub spared : Spared b m₀ m
 
 zero-add : (c : ℕ) → 0 + c ≡ c
 zero-add c = omega arith
@@ -292,6 +306,7 @@ noting-start y s a m b h =
       ahead = λ c. ap (λ (x : ℕ). atComponent x (piecesAt (y .service) s a)) (zero-add c);
       behind = λ c l k. let w : ⊥ = omega arith in absurd w;
       kept = λ x l. refl;
+      spared = λ x l. refl;
     }
 
 module _ {y : Syntax} {s : List ℕ} {a : ℕ} {m₀ m : List ℕ} {b j n : ℕ} (g : Noting y s a m₀ m b j n) (room : b + 8 ≤ 40)
@@ -305,6 +320,7 @@ module _ {y : Syntax} {s : List ℕ} {a : ℕ} {m₀ m : List ℕ} {b j n : ℕ}
         long = done-long m b n 0 (g .long);
         noted = done-noted (piecesAt (y .service) s a) m b n 0 (g .long) room (omega arith) (sym (g .repeating ∙ ap repeats w)) (g .behind);
         kept = done-kept (piecesAt (y .service) s a) m b n 0 (g .long) room m₀ (g .kept);
+        spared = done-spared (piecesAt (y .service) s a) m b n 0 (g .long) room m₀ (g .spared);
       }
 
   module _ {q k : ℕ} (d : r ≡ On q k) where
@@ -317,6 +333,9 @@ module _ {y : Syntax} {s : List ℕ} {a : ℕ} {m₀ m : List ℕ} {b j n : ℕ}
 
       kept-on : Kept b m₀ m′
       kept-on x l = ap (λ (u : List ℕ). getD u x 0) p ∙ placed-below m b n j q (g .long) room x (omega arith) ∙ g .kept x l
+
+      spared-on : Spared b m₀ m′
+      spared-on x l = ap (λ (u : List ℕ). getD u x 0) p ∙ placed-past m b n j q (g .long) room x l ∙ g .spared x l
 
       parts-on : components (piecesAt (y .service) s a) ≡ n + components (piece j q k ∷ after k (piecesAt (y .service) s (q + 1)))
       parts-on = g .parts ∙ ap (λ (ps : List Piece). n + components ps) (edge-steps (y .service) s j e d .first)
@@ -361,6 +380,7 @@ module _ {y : Syntax} {s : List ℕ} {a : ℕ} {m₀ m : List ℕ} {b j n : ℕ}
                 ap (λ (x : ℕ). atComponent x (piecesAt (y .service) s a)) z ∙ g .ahead (suc c) ∙ ap (atComponent (suc c)) (w .first) ∙ rw t;
             behind = behind-on;
             kept = kept-on;
+            spared = spared-on;
           }
 
       module _ (t : k ≡ 2 → ⊥) where
@@ -375,6 +395,7 @@ module _ {y : Syntax} {s : List ℕ} {a : ℕ} {m₀ m : List ℕ} {b j n : ℕ}
               long = done-long m′ b (n + 1) 1 noting-long;
               noted = done-noted (piecesAt (y .service) s a) m′ b (n + 1) 1 noting-long room last (sym (repeating-on ∙ rw o)) behind-on;
               kept = done-kept (piecesAt (y .service) s a) m′ b (n + 1) 1 noting-long room m₀ kept-on;
+              spared = done-spared (piecesAt (y .service) s a) m′ b (n + 1) 1 noting-long room m₀ spared-on;
             }
 
         module _ (o : k ≡ 3 → ⊥) where
@@ -388,6 +409,7 @@ module _ {y : Syntax} {s : List ℕ} {a : ℕ} {m₀ m : List ℕ} {b j n : ℕ}
                 long = done-long m′ b (n + 1) 0 noting-long;
                 noted = done-noted (piecesAt (y .service) s a) m′ b (n + 1) 0 noting-long room last once behind-on;
                 kept = done-kept (piecesAt (y .service) s a) m′ b (n + 1) 0 noting-long room m₀ kept-on;
+                spared = done-spared (piecesAt (y .service) s a) m′ b (n + 1) 0 noting-long room m₀ spared-on;
               }
 
           pub noting-last : (k ≡ 4 → ⊥) → Taken (y .service) s a (q + 1) true false m₀ (set (set m′ b (n + 1)) (b + 1) 0) b
@@ -399,33 +421,23 @@ module _ {y : Syntax} {s : List ℕ} {a : ℕ} {m₀ m : List ℕ} {b j n : ℕ}
                 long = done-long m′ b (n + 1) 0 noting-long;
                 noted = done-noted (piecesAt (y .service) s a) m′ b (n + 1) 0 noting-long room last once behind-on;
                 kept = done-kept (piecesAt (y .service) s a) m′ b (n + 1) 0 noting-long room m₀ kept-on;
+                spared = done-spared (piecesAt (y .service) s a) m′ b (n + 1) 0 noting-long room m₀ spared-on;
               }
 
 -- ---- no element any more
 
-pub record Clearing (m₀ m : List ℕ) (n p : ℕ) : Type 0 where
-  pub low : n ≤ p
-  pub all : Cleared m₀ m n p
+pub clearing-start : {m : List ℕ} → length m ≡ 40 → Cleared m 0 0
+clearing-start h = record { room = h; none = λ k l u. let w : ⊥ = omega arith in absurd w }
 
-pub clearing-start : {m : List ℕ} {n : ℕ} → length m ≡ 40 → Clearing m m n n
-clearing-start h = record { low = omega arith; all = record { room = h; kept = λ x l. refl; none = λ k l u. let w : ⊥ = omega arith in absurd w } }
+module _ {m : List ℕ} {n p : ℕ} (g : Cleared m n p) where
+  pub clearing-end : 5 ≤ p → Cleared m n 5
+  clearing-end h = record { room = g .room; none = λ k l u. g .none k l (omega arith) }
 
-module _ {m₀ m : List ℕ} {n p : ℕ} (g : Clearing m₀ m n p) where
-  pub clearing-end : 5 ≤ p → Cleared m₀ m n 5
-  clearing-end h = record { room = g .all .room; kept = g .all .kept; none = λ k l u. g .all .none k l (omega arith) }
-
-  pub clearing-on : p < 5 → Clearing m₀ (set (set m (8 * p) 0) (8 * p + 1) 0) n (p + 1)
+  pub clearing-on : p < 5 → Cleared (set (set m (8 * p) 0) (8 * p + 1) 0) n (p + 1)
   clearing-on h =
-      let o = g .low in
-      let a = g .all .room in
-      let w = length-set m (8 * p) 0 in
       record {
-        low = omega arith;
-        all = record {
-          room = length-set (set m (8 * p) 0) (8 * p + 1) 0 ∙ w ∙ a;
-          kept = λ x l. other x (λ u. omega arith) (λ u. omega arith) ∙ g .all .kept x l;
-          none = λ k l u. pick k l u (ltb k p) refl;
-        };
+        room = length-set (set m (8 * p) 0) (8 * p + 1) 0 ∙ length-set m (8 * p) 0 ∙ g .room;
+        none = λ k l u. pick k l u (ltb k p) refl;
       }
     where
       other : (i : ℕ) → (i ≡ 8 * p → ⊥) → (i ≡ 8 * p + 1 → ⊥) → getD (set (set m (8 * p) 0) (8 * p + 1) 0) i 0 ≡ getD m i 0
@@ -435,11 +447,11 @@ module _ {m₀ m : List ℕ} {n p : ℕ} (g : Clearing m₀ m n p) where
           (getD (set (set m (8 * p) 0) (8 * p + 1) 0) (8 * k) 0 ≡ 0) × (getD (set (set m (8 * p) 0) (8 * p + 1) 0) (8 * k + 1) 0 ≡ 0)
       pick k l u true e =
           let v = ltb-true k p e in
-          let x = g .all .none k l v in
+          let x = g .none k l v in
           (other (8 * k) (λ z. omega arith) (λ z. omega arith) ∙ x .0, other (8 * k + 1) (λ z. omega arith) (λ z. omega arith) ∙ x .1)
       pick k l u false e =
           let v = ltb-false k p e in
-          let a = g .all .room in
+          let a = g .room in
           let w = length-set m (8 * p) 0 in
           let z : k ≡ p = omega arith in
           rw z (
@@ -482,48 +494,48 @@ noted-kept {ps} {m} {m′} {b} g k =
 
 pub one-past : {σ : Service} {s : List ℕ} {i at : ℕ} {ends c : Bool} {m : List ℕ} {n : ℕ} → Passed σ s i at ends c → length m ≡ 40 → 5 ≤ n →
     TakenOne σ s i at ends c m m n
-one-past w h l = record { pass = w; long = h; noted = λ u. let z : ⊥ = omega arith in absurd z; kept = λ x u. refl }
+one-past w h l = record { pass = w; long = h; noted = λ u. let z : ⊥ = omega arith in absurd z; kept = λ x u. refl; spared = λ x u. refl }
 
 -- n elements of the segment at a taken; the next starts at i, unless it ends. b: something before repeats
 pub record Fielding (y : Syntax) (s : List ℕ) (a : ℕ) (m : List ℕ) (i : ℕ) (ends : Bool) (b : Bool) (n : ℕ) : Type 0 where
-  pub long : length m ≡ 40
   pub few : ends ≡ false → (n < i) × (i ≤ length s)
   pub next : atElement (suc n) (piecesAt (y .service) s a) ≡ rest (y .service) s ends i
   pub count : elements (piecesAt (y .service) s a) ≡ n + cond ends 0 (suc (elements (rest (y .service) s ends i)))
   pub any : anyRepeats (piecesAt (y .service) s a) ≡ (b || anyRepeats (rest (y .service) s ends i))
   pub done : (p : ℕ) → p < n → p < 5 → Noted (atElement (suc p) (piecesAt (y .service) s a)) m (8 * p)
+  pub free : Cleared m n 5
 
-pub fielding-start : {y : Syntax} {s : List ℕ} {a : ℕ} {m : List ℕ} {i : ℕ} {ends b : Bool} → Passed (y .service) s a i ends b → length m ≡ 40 →
+pub fielding-start : {y : Syntax} {s : List ℕ} {a : ℕ} {m : List ℕ} {i : ℕ} {ends b : Bool} → Passed (y .service) s a i ends b → Cleared m 0 5 →
     Fielding y s a m i ends b 0
 fielding-start w h =
     record {
-      long = h;
       few = λ u. let o = w .on u in (omega arith, o .1);
       next = w .next;
       count = w .count ∙ sym (zero-add _);
       any = w .any;
       done = λ p l u. let z : ⊥ = omega arith in absurd z;
+      free = h;
     }
 
 module _ {y : Syntax} {s : List ℕ} {a : ℕ} {m : List ℕ} {i : ℕ} {ends b : Bool} {n : ℕ} (g : Fielding y s a m i ends b n) where
-  pub fielding-end : ends ≡ true → {m′ : List ℕ} → Cleared m m′ n 5 → Fields (y .service) s a n b m′
-  fielding-end t {m′} w =
+  pub fielding-end : ends ≡ true → Fields (y .service) s a n b m
+  fielding-end t =
       let c = g .count in let z = count-off ends (elements (rest (y .service) s ends i)) t in
       record {
         sizes = omega arith;
         any = sym (g .any ∙ ap (λ (ps : List Piece). b || anyRepeats ps) (rest-off (y .service) s i ends t) ∙ or-false b);
-        marks = record { room = w .room; each = λ p h. pick p h (ltb p n) refl };
+        marks = record { room = g .free .room; each = λ p h. pick p h (ltb p n) refl };
       }
     where
       gone : atElement (suc n) (piecesAt (y .service) s a) ≡ []
       gone = g .next ∙ rest-off (y .service) s i ends t
 
-      pick : (p : ℕ) → p < 5 → (t : Bool) → ltb p n ≡ t → Noted (atElement (suc p) (piecesAt (y .service) s a)) m′ (8 * p)
-      pick p h true e = let v = ltb-true p n e in noted-kept (g .done p v h) (λ x l. w .kept x (omega arith))
+      pick : (p : ℕ) → p < 5 → (t : Bool) → ltb p n ≡ t → Noted (atElement (suc p) (piecesAt (y .service) s a)) m (8 * p)
+      pick p h true e = g .done p (ltb-true p n e) h
       pick p h false e =
           let v = ltb-false p n e in
-          let o = w .none p v h in
-          subst (λ (ps : List Piece). Noted ps m′ (8 * p)) (sym (no-element (piecesAt (y .service) s a) (suc n) (suc p) gone (omega arith)))
+          let o = g .free .none p v h in
+          subst (λ (ps : List Piece). Noted ps m (8 * p)) (sym (no-element (piecesAt (y .service) s a) (suc n) (suc p) gone (omega arith)))
           (record { parts = o .0; repeated = rw (o .1); spans = λ c l k. let z : ⊥ = omega arith in absurd z })
 
   module _ (t : ends ≡ false) where
@@ -544,13 +556,17 @@ module _ {y : Syntax} {s : List ℕ} {a : ℕ} {m : List ℕ} {i : ℕ} {ends b 
           let r = ap elements (rest-on (y .service) s i ends t) in
           let v = w .pass .count in
           record {
-            long = w .long;
             few = λ u. let x = g .few t in let o = w .pass .on u in (omega arith, o .1);
             next = at-next (n + 1) (piecesAt (y .service) s a) ∙ ap (atElement 1) (ap (λ (x : ℕ). atElement x (piecesAt (y .service) s a)) (one-more n) ∙ here) ∙ w .pass .next;
             count = omega arith;
             any = g .any ∙ ap (λ (ps : List Piece). b || anyRepeats ps) (rest-on (y .service) s i ends t) ∙ ap (λ (x : Bool). b || x) (w .pass .any) ∙
                 or-assoc b c _ ∙ ap (λ (x : Bool). x || anyRepeats (rest (y .service) s ends′ at)) (sym e);
             done = λ p l u. pick p l u (ltb p n) refl;
+            free = record {
+              room = w .long;
+              none = λ k l u. let o = g .free .none k (omega arith) u in
+                  (w .spared (8 * k) (omega arith) ∙ o .0, w .spared (8 * k + 1) (omega arith) ∙ o .1);
+            };
           }
         where
           here : atElement (suc n) (piecesAt (y .service) s a) ≡ piecesAt (y .service) s i

@@ -153,12 +153,12 @@ fn take_one(s: &[u8], from: usize, t: &[u8; 256], y: Syntax, marks: &mut [usize]
     skip(s, from, t, y)
 }
 
-// After `n` elements there are none.
-fn clear(marks: &mut [usize], n: usize)
+// No element is noted yet.
+fn clear(marks: &mut [usize])
     requires { ⌜ length (now marks) ≡ 40 ⌝ }
-    ensures { λ r. ⌜ Cleared (now (marks .entry)) (now (marks .exit)) n 5 ⌝ }
+    ensures { λ r. ⌜ Cleared (now (marks .exit)) 0 5 ⌝ }
 {
-    let mut p = n;
+    let mut p: usize = 0;
     while p < 5 {
         marks[8 * p] = 0;
         marks[8 * p + 1] = 0;
@@ -173,6 +173,8 @@ pub fn fields(s: &[u8], at: usize, t: &[u8; 256], y: Syntax, marks: &mut [usize]
     requires { ⌜ length (now marks) ≡ 40 ⌝ }
     ensures { λ r. ⌜ Fields (y .service) (now (s .entry)) at (r .size) (r .repeats) (now (marks .exit)) ⌝ }
 {
+    // Before the elements: the number of stores is known here, so no branch is guessed wrong as behind the last one.
+    clear(marks);
     let tag = skip(s, at, t, y);
     let mut i = tag.at;
     let mut ends = tag.ends;
@@ -185,7 +187,6 @@ pub fn fields(s: &[u8], at: usize, t: &[u8; 256], y: Syntax, marks: &mut [usize]
         ends = w.ends;
         b = either(b, w.repeats);
     }
-    clear(marks, n);
     Shape {
         size: n,
         repeats: b,

@@ -16,45 +16,35 @@ Inv-loop s at t y marks₀ i₀ ends₀ b₀ n₀ marks i ends b n = Fielding y 
 abbrev μ-loop : tie.MeasureT-loop
 μ-loop s at t y marks₀ i₀ ends₀ b₀ n₀ marks i ends b n = left s ends i
 
--- src/fields.rt:190:9
-skip-requires : tie.Need-skip-requires Inv-loop μ-loop
-skip-requires c κs = search needs
-
--- src/fields.rt:195:5
-loop-holds : tie.Need-loop-holds Inv-loop μ-loop
-loop-holds c = fielding-start (c .skip .ensures) (c .before .before .before .pre .1)
-
--- src/fields.rt:196:13
-take-one-requires : tie.Need-take-one-requires Inv-loop μ-loop
-take-one-requires c κs = search needs
-
--- src/fields.rt:197:9
-add-n : tie.Need-add-n Inv-loop μ-loop
-add-n c = let w = fielding-fits (c .before .before .before .before .before .loop .inv) (not-true _ (c .before .before .before .before .loop-test .taken)) in search needs
-
--- src/fields.rt:200:9
-either-requires : tie.Need-either-requires Inv-loop μ-loop
-either-requires c κs = search needs
-
--- src/fields.rt:195:5
-loop-less : tie.Need-loop-less Inv-loop μ-loop
-loop-less c = fielding-less (c .before .before .before .before .before .before .loop .inv) (not-true _ (c .before .before .before .before .before .loop-test .taken)) (c .before .before .before .take-one .ensures)
-
--- src/fields.rt:195:5
-loop-again : tie.Need-loop-again Inv-loop μ-loop
-loop-again c = fielding-on (c .before .before .before .before .before .before .loop .inv) (not-true _ (c .before .before .before .before .before .loop-test .taken)) (c .before .before .before .take-one .ensures) (c .either .ensures)
-
--- src/fields.rt:202:5
 clear-requires : tie.Need-clear-requires Inv-loop μ-loop
 clear-requires c κs = search needs
 
--- src/fields.rt:185:1
+skip-requires : tie.Need-skip-requires Inv-loop μ-loop
+skip-requires c κs = search needs
+
+loop-holds : tie.Need-loop-holds Inv-loop μ-loop
+loop-holds c = fielding-start (c .skip .ensures) (c .before .before .before .clear .ensures)
+
+take-one-requires : tie.Need-take-one-requires Inv-loop μ-loop
+take-one-requires c κs = search needs
+
+add-n : tie.Need-add-n Inv-loop μ-loop
+add-n c = let w = fielding-fits (c .before .before .before .before .before .loop .inv) (not-true _ (c .before .before .before .before .loop-test .taken)) in search needs
+
+either-requires : tie.Need-either-requires Inv-loop μ-loop
+either-requires c κs = search needs
+
+loop-less : tie.Need-loop-less Inv-loop μ-loop
+loop-less c = fielding-less (c .before .before .before .before .before .before .loop .inv) (not-true _ (c .before .before .before .before .before .loop-test .taken)) (c .before .before .before .take-one .ensures)
+
+loop-again : tie.Need-loop-again Inv-loop μ-loop
+loop-again c = fielding-on (c .before .before .before .before .before .before .loop .inv) (not-true _ (c .before .before .before .before .before .loop-test .taken)) (c .before .before .before .take-one .ensures) (c .either .ensures)
+
 same-length : tie.Need-same-length Inv-loop μ-loop
 same-length c = search needs
 
--- src/fields.rt:185:1
 returns : tie.Need-returns Inv-loop μ-loop
-returns c = fielding-end (c .before .before .before .before .before .loop .inv) (not-false _ (c .before .before .before .before .loop-test .left)) (c .before .before .clear .ensures)
+returns c = fielding-end (c .before .loop .inv) (not-false _ (c .loop-test .left))
 
 pub fields-spec : {M : Type 1} → statement M
 fields-spec =
@@ -62,6 +52,7 @@ fields-spec =
     (tie.spec
     Inv-loop
     μ-loop
+    clear-requires
     skip-requires
     loop-holds
     take-one-requires
@@ -69,6 +60,5 @@ fields-spec =
     either-requires
     loop-less
     loop-again
-    clear-requires
     same-length
     returns)
