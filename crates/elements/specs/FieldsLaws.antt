@@ -6,9 +6,10 @@ use mathlib.Core.Path.{_≡_, refl, ap, sym, _∙_, subst}
 use mathlib.Core.Bool.{Bool, true, false, cond, _||_}
 use borrow.Author.Tests.{ltb-true, ltb-false, ne-eqb, lt-ltb}
 use lib.Dec.{eqb, ltb}
-use lib.ListN.{length, getD, drop, set, length-set, length-drop, drop-of-length-le}
+use lib.ListN.{length, getD, take, drop, set, length-set, length-drop, drop-of-length-le}
 use lib.Seq.{getD-set-same, getD-set-other}
-use Rattle.syntax.specs.Segment.{Piece, piece, pieces, piecesAt, edgeAt, atElement, atComponent, componentAt, components, repeats, elements, anyRepeats}
+use Rattle.syntax.specs.Segment.{Piece, piece, pieces, piecesAt, edgeAt, atElement, atComponent, componentAt, partOf, components, repeats, elements, anyRepeats}
+use Rattle.syntax.specs.ContentLaws.{part-inside}
 use Rattle.syntax.specs.Service.{kind}
 use Rattle.syntax.specs.SegmentLaws.{edge-steps, edge-over, after}
 use Rattle.syntax.specs.declared.Service.{Service}
@@ -424,7 +425,7 @@ module _ {y : Syntax} {s : List ℕ} {a : ℕ} {m₀ m : List ℕ} {b j n : ℕ}
                 spared = done-spared (piecesAt (y .service) s a) m′ b (n + 1) 0 noting-long room m₀ spared-on;
               }
 
--- ---- no element any more
+-- ---- no element yet
 
 pub clearing-start : {m : List ℕ} → length m ≡ 40 → Cleared m 0 0
 clearing-start h = record { room = h; none = λ k l u. let w : ⊥ = omega arith in absurd w }
@@ -603,3 +604,12 @@ module _ {σ : Service} {s : List ℕ} {a : ℕ} {m : List ℕ} (g : Marked σ s
 
     pub marked-in : c ≤ 2 → c < getD m (8 * (p - 1)) 0 → In (length s) (getD m (8 * (p - 1) + 2 + 2 * c) 0) (getD m (8 * (p - 1) + 2 + 2 * c + 1) 0)
     marked-in u v = part-in σ s a p c (marked-part u v)
+
+    -- the octets between two marks, and none
+    pub marked-octets : c ≤ 2 → c < getD m (8 * (p - 1)) 0 →
+        take (getD m (8 * (p - 1) + 2 + 2 * c + 1) 0 - getD m (8 * (p - 1) + 2 + 2 * c) 0) (drop (getD m (8 * (p - 1) + 2 + 2 * c) 0) s) ≡
+        partOf s (componentAt σ s a p c)
+    marked-octets u v = part-inside _ _ s (marked-in u v .order) ∙ ap (partOf s) (marked-part u v)
+
+    pub marked-none : getD m (8 * (p - 1)) 0 ≤ c → take 0 s ≡ partOf s (componentAt σ s a p c)
+    marked-none u = ap (partOf s) (sym (marked-absent u))

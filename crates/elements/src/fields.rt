@@ -7,7 +7,6 @@ ghost use Rattle.syntax.specs.Repertoire.{Table};
 ghost use Rattle.syntax.specs.Segment.{piecesAt, atElement, components, repeats, componentAt, partOf};
 ghost use Rattle.elements.specs.Fields.{Passed, placed, Taken, TakenOne, Cleared, Marked, Fields, startIn, endIn};
 use syntax::Syntax;
-use syntax::content::part;
 use syntax::reading::Edge;
 use syntax::reading::piece_end;
 
@@ -194,6 +193,7 @@ pub fn fields(s: &[u8], at: usize, t: &[u8; 256], y: Syntax, marks: &mut [usize]
 }
 
 // What `fields` noted of the segment at `at`: the octets of component `c` of element `p`, empty if it is not there.
+// The marks lie in the input, so its bounds are not tested again.
 pub fn field<'a>(s: &'a [u8], at: usize, y: Syntax, marks: &[usize], p: usize, c: usize) -> &'a [u8]
     requires { ⌜ Marked (y .service) (now s) at (now marks) ⌝ }
     requires { ⌜ (1 ≤ p) × (p ≤ 5) × (c ≤ 2) ⌝ }
@@ -201,10 +201,12 @@ pub fn field<'a>(s: &'a [u8], at: usize, y: Syntax, marks: &[usize], p: usize, c
 {
     let b = 8 * (p - 1);
     if marks[b] <= c {
-        return part(s, 0, 0);
+        return &s[0..0];
     }
     let e = b + 2 + 2 * c;
-    part(s, marks[e], marks[e + 1])
+    let x = marks[e];
+    let z = marks[e + 1];
+    &s[x..z]
 }
 
 // How many components element `p` has, in its first repeat.
