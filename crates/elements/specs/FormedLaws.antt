@@ -1,5 +1,5 @@
 -- Checked elements: from what the code asks, one test after the other, to what the grammar says.
-use Prim.Native.Nat.{ℕ, zero, suc, _≤_, _<_}
+use Prim.Native.Nat.{ℕ, zero, suc, _+_, _-_, _≤_, _<_}
 use native.Mathlib.Omega.{arith}
 use mathlib.Core.Path.{_≡_, refl, ap, sym, _∙_}
 use mathlib.Core.Bool.{Bool, true, false, cond, not, _&&_, false≢true}
@@ -7,10 +7,13 @@ use mathlib.Core.List.{List, [], _∷_}
 use mathlib.Core.Option.{Option}
 use borrow.Author.Tests.{le-leb, lt-leb, eq-eqb, ne-eqb}
 use lib.Dec.{leb}
-use lib.ListN.{length}
+use lib.ListN.{length, drop}
 use Rattle.syntax.specs.Octets.{octets, same, within}
-use Rattle.syntax.specs.Content.{content, allDigits}
+use Rattle.syntax.specs.Content.{content, nextOf, allDigits}
+use Rattle.syntax.specs.ContentLaws.{Digital, digital-end, digital-below, digital-above, digital-on, Lengthening, lengthening-end, lengthening-less, lengthening-fits, lengthening-on}
 use Rattle.syntax.specs.Segment.{piecesAt, atElement, componentAt, partOf, components, repeats, anyRepeats}
+use Rattle.syntax.specs.declared.content.Next.{Next}
+use Rattle.syntax.specs.declared.content.Next.the-variants.{Octet, Over}
 use Rattle.syntax.specs.declared.Service.{Service}
 use Rattle.syntax.specs.declared.Version.{Version}
 use Rattle.grammar.specs.Segments as named
@@ -65,16 +68,15 @@ first-so true true h = refl
 first-so true false h = absurd (false≢true h)
 first-so false x h = absurd (false≢true h)
 
--- w its length, z how many components: d, that it is digits, besides
-digits-no : (n d w z : Bool) → ((n && (w && true)) && z) ≡ false → ((n && ((d && w) && true)) && z) ≡ false
-digits-no true true w z h = h
-digits-no true false w z h = refl
-digits-no false d w z h = refl
+-- n not repeated, x what the only component is: there are more, or just this one
+closed-no : (n x : Bool) → false ≡ ((n && (x && true)) && false)
+closed-no true true = refl
+closed-no true false = refl
+closed-no false x = refl
 
-digits-so : (n d w z : Bool) → ((n && (w && true)) && z) ≡ true → ((n && ((d && w) && true)) && z) ≡ d
-digits-so true true w z h = h
-digits-so true false w z h = refl
-digits-so false d w z h = absurd (false≢true h)
+closed-so : (x : Bool) → x ≡ ((x && true) && true)
+closed-so true = refl
+closed-so false = refl
 
 module _ (a : Asked) (p : ℕ) where
   module _ (k : Range) {r : Bool} (e : r ≡ formedAs (composite (k ∷ [])) a p) where
@@ -85,13 +87,17 @@ module _ (a : Asked) (p : ℕ) where
     pub more-go : (j : Range) {q : Bool} → r ≡ true → q ≡ inRange j (a .text p 1) → q ≡ formedAs (composite (k ∷ j ∷ [])) a p
     more-go j t g = and-end g ∙ sym (first-so (not (a .repeated p)) (inRange k (a .text p 0)) (sym e ∙ t))
 
-  -- digits
-  module _ (least most : ℕ) {r : Bool} (e : r ≡ formedAs (closed (text least most ∷ [])) a p) where
-    pub digits-stop : r ≡ false → false ≡ formedAs (closed (digits least most ∷ [])) a p
-    digits-stop f = sym (digits-no (not (a .repeated p)) (allDigits (a .text p 0)) (within least most (length (a .text p 0))) (leb (a .parts p) 1) (sym e ∙ f))
+  -- a single component, which is looked at last
+  module _ (k : Range) {r : Bool} (e : r ≡ a .repeated p) where
+    pub closed-repeats : r ≡ true → false ≡ formedAs (closed (k ∷ [])) a p
+    closed-repeats t = rw (← e, t)
 
-    pub digits-go : {q : Bool} → r ≡ true → q ≡ allDigits (a .text p 0) → q ≡ formedAs (closed (digits least most ∷ [])) a p
-    digits-go t g = g ∙ sym (digits-so (not (a .repeated p)) (allDigits (a .text p 0)) (within least most (length (a .text p 0))) (leb (a .parts p) 1) (sym e ∙ t))
+    module _ {n : ℕ} (d : n ≡ a .parts p) where
+      pub closed-many : 1 < n → false ≡ formedAs (closed (k ∷ [])) a p
+      closed-many h = rw (← d, lt-leb n 1 h) (closed-no (not (a .repeated p)) (inRange k (a .text p 0)))
+
+      pub closed-go : r ≡ false → n ≤ 1 → {q : Bool} → q ≡ inRange k (a .text p 0) → q ≡ formedAs (closed (k ∷ [])) a p
+      closed-go f h g = g ∙ rw (← e, f, ← d, le-leb n 1 h) (closed-so (inRange k (a .text p 0)))
 
 -- ---- what is asked at a position from 1 on
 
@@ -113,8 +119,8 @@ module _ (σ : Service) (s : List ℕ) (a : ℕ) where
     pub text-read : content (σ .release) x ≡ textAt σ s a p c
     text-read = ap (content (σ .release)) e ∙ sym (text-at p c l)
 
-    pub digits-read : {r : Bool} → r ≡ allDigits (content (σ .release) x) → r ≡ allDigits (textAt σ s a p c)
-    digits-read q = q ∙ ap allDigits text-read
+    pub digits-read : (least most : ℕ) {r : Bool} → r ≡ inRange (digits least most) (content (σ .release) x) → r ≡ inRange (digits least most) (textAt σ s a p c)
+    digits-read least most q = q ∙ ap (inRange (digits least most)) text-read
 
     module _ {n : ℕ} (q : n ≡ length (content (σ .release) x)) (least most : ℕ) where
       size-read : n ≡ length (textAt σ s a p c)
@@ -125,6 +131,41 @@ module _ (σ : Service) (s : List ℕ) (a : ℕ) where
 
       pub text-fits : least ≤ n → leb n most ≡ within least most (length (textAt σ s a p c))
       text-fits h = sym (ap (within least most) (sym size-read) ∙ rw (le-leb least n h))
+
+-- digits and their number in one pass: n of them before i
+pub record Tallying (ρ : ℕ) (x : List ℕ) (i n : ℕ) : Type 0 where
+  pub are : Digital ρ (allDigits (content ρ x)) x i
+  pub size : Lengthening ρ (length (content ρ x)) x i n
+
+pub tallying-start : (ρ : ℕ) (x : List ℕ) → Tallying ρ x 0 0
+tallying-start ρ x = record { are = record { are = refl }; size = record { few = omega arith; sums = omega arith } }
+
+module _ {ρ : ℕ} {x : List ℕ} {i n : ℕ} (g : Tallying ρ x i n) {r : Next} (e : r ≡ nextOf ρ (drop i x) i) where
+  module _ (d : r ≡ Over) (least most : ℕ) where
+    ended : {q : Bool} → q ≡ within least most n → q ≡ inRange (digits least most) (content ρ x)
+    ended u = and-go (digital-end (g .are) e d) refl (u ∙ ap (within least most) (lengthening-end (g .size) e d))
+
+    pub tallying-few : n < least → false ≡ inRange (digits least most) (content ρ x)
+    tallying-few h = ended (rw (lt-leb least n h))
+
+    pub tallying-end : least ≤ n → leb n most ≡ inRange (digits least most) (content ρ x)
+    tallying-end h = ended (rw (le-leb least n h))
+
+  module _ {b j : ℕ} (d : r ≡ Octet b j) where
+    pub tallying-fits : n < length x
+    tallying-fits = lengthening-fits (g .size) e d
+
+    pub tallying-less : length x - j < length x - i
+    tallying-less = lengthening-less (g .size) e d
+
+    pub tallying-below : (least most : ℕ) → b < 48 → false ≡ inRange (digits least most) (content ρ x)
+    tallying-below least most h = and-stop (digital-below (g .are) e d h) _ refl
+
+    pub tallying-above : (least most : ℕ) → 48 ≤ b → 57 < b → false ≡ inRange (digits least most) (content ρ x)
+    tallying-above least most l h = and-stop (digital-above (g .are) e d l h) _ refl
+
+    pub tallying-on : 48 ≤ b → b ≤ 57 → Tallying ρ x j (n + 1)
+    tallying-on l h = record { are = digital-on (g .are) e d l h; size = lengthening-on (g .size) e d }
 
 -- two components of digits of as many as the version says
 pub date-is : {n m : ℕ} → n ≡ m → (a : Asked) {r : Bool} → r ≡ formedAs (composite (digits n n ∷ digits 4 4 ∷ [])) a 4 →

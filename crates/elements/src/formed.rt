@@ -10,15 +10,17 @@ use crate::fields::parts;
 use crate::fields::repeated;
 use syntax::Syntax;
 use syntax::Version;
-use syntax::content::all_digits;
+use syntax::content::Next;
 use syntax::content::content_is;
 use syntax::content::content_length;
+use syntax::content::next_octet;
 ghost use mathlib.Core.Path.{_≡_};
 ghost use mathlib.Core.Bool.{true, not, _&&_};
 ghost use mathlib.Core.List.{[], _∷_};
 ghost use Prim.Native.Nat.{_≤_, _+_};
 ghost use lib.ListN.{length};
 ghost use lib.Seq.{slice};
+ghost use Rattle.syntax.specs.Content.{content};
 ghost use Rattle.syntax.specs.Octets.{within};
 ghost use Rattle.syntax.specs.Segment.{piecesAt, anyRepeats};
 ghost use Rattle.grammar.specs.Segments as named;
@@ -29,6 +31,34 @@ ghost use Rattle.elements.specs.Octets.{textAt, askedAt};
 ghost use Rattle.elements.specs.Kinds.{kindOf};
 ghost use Rattle.elements.specs.Fields.{Marked, Fields};
 ghost use Rattle.elements.specs.Formed.{controlOf, looked};
+
+// Whether the content is digits, and so many: one pass for both.
+fn digits_within(x: &[u8], release: u8, least: usize, most: usize) -> bool
+    ensures { λ r. ⌜ r ≡ inRange (checked.digits least most) (content release (now (x .entry))) ⌝ }
+{
+    let mut i = 0;
+    let mut n: usize = 0;
+    loop {
+        match next_octet(x, i, release) {
+            Next::Octet(b, j) => {
+                if b < 48 {
+                    return false;
+                }
+                if 57 < b {
+                    return false;
+                }
+                n += 1;
+                i = j;
+            }
+            Next::Over => {
+                if n < least {
+                    return false;
+                }
+                return n <= most;
+            }
+        }
+    }
+}
 
 // A component's length is within bounds.
 fn text(
@@ -53,7 +83,7 @@ fn text(
     n <= most
 }
 
-// .. and it is digits.
+// A component is digits, and so many.
 fn digits(
     s: &[u8],
     at: usize,
@@ -69,10 +99,7 @@ fn digits(
     ensures { λ r. ⌜ r ≡ inRange (checked.digits least most) (textAt (y .service) (now (s .entry)) at p c) ⌝ }
 {
     let v = y.service;
-    if all_digits(field(s, at, y, marks, p, c), v.release) {
-        return text(s, at, y, marks, p, c, least, most);
-    }
-    false
+    digits_within(field(s, at, y, marks, p, c), v.release, least, most)
 }
 
 // An element whose first component has a length; further ones may follow.
@@ -128,11 +155,13 @@ fn single_digits(
     requires { ⌜ (1 ≤ p) × (p ≤ 5) ⌝ }
     ensures { λ r. ⌜ r ≡ formedAs (checked.closed (checked.digits least most ∷ [])) (askedAt (y .service) (now (s .entry)) at) p ⌝ }
 {
-    if single(s, at, y, marks, p, least, most) {
-        let v = y.service;
-        return all_digits(field(s, at, y, marks, p, 0), v.release);
+    if repeated(s, at, y, marks, p) {
+        return false;
     }
-    false
+    if 1 < parts(s, at, y, marks, p) {
+        return false;
+    }
+    digits(s, at, y, marks, p, 0, least, most)
 }
 
 // 0563 1..3 : 0560 0..512

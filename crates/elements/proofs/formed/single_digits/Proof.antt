@@ -1,24 +1,30 @@
+use mathlib.Core.Path.{sym, _∙_}
+use Rattle.grammar.specs.Elements.{digits}
 use Rattle.elements.specs.Octets.{askedAt}
-use Rattle.elements.specs.FormedLaws.{digits-read, digits-go, digits-stop}
+use Rattle.elements.specs.FormedLaws.{repeated-at, parts-at, closed-repeats, closed-many, closed-go}
 use borrow.Author.Needs.{needs}
 use Rattle.elements.proofs.formed.single_digits.Statement.{statement}
 use Rattle.elements.proofs.formed.single_digits.Tie as tie
 
-single-requires : tie.Need-single-requires
-single-requires c κs = search needs
-
-field-requires : tie.Need-field-requires
-field-requires c κs = search needs
-
-all-digits-requires : tie.Need-all-digits-requires
-all-digits-requires c κs = search needs
+repeated-requires : tie.Need-repeated-requires
+repeated-requires c κs = search needs
 
 returns : tie.Need-returns
-returns c = digits-go (askedAt (c .before .before .before .before .before .before .before .args .y .service) (c .before .before .before .before .before .before .before .args .s .now) (c .before .before .before .before .before .before .before .args .at)) (c .before .before .before .before .before .before .before .args .p) (c .before .before .before .before .before .before .before .args .least) (c .before .before .before .before .before .before .before .args .most) (c .before .before .before .before .single .ensures) (c .before .before .before .if1 .taken) (digits-read (c .before .before .before .before .before .before .before .args .y .service) (c .before .before .before .before .before .before .before .args .s .now) (c .before .before .before .before .before .before .before .args .at) (c .before .before .before .before .before .before .before .args .p) 0 (c .before .before .before .before .before .before .before .pre .1 .0) (c .before .field .ensures) (c .all-digits .ensures))
+returns c = closed-repeats (askedAt (c .before .before .before .before .args .y .service) (c .before .before .before .before .args .s .now) (c .before .before .before .before .args .at)) (c .before .before .before .before .args .p) (digits (c .before .before .before .before .args .least) (c .before .before .before .before .args .most)) (c .before .repeated .ensures ∙ sym (repeated-at _ _ _ _ (c .before .before .before .before .pre .1 .0))) (c .if1 .taken)
+
+parts-requires : tie.Need-parts-requires
+parts-requires c κs = search needs
 
 returns-2 : tie.Need-returns-2
-returns-2 c = digits-stop (askedAt (c .before .before .before .before .args .y .service) (c .before .before .before .before .args .s .now) (c .before .before .before .before .args .at)) (c .before .before .before .before .args .p) (c .before .before .before .before .args .least) (c .before .before .before .before .args .most) (c .before .single .ensures) (c .if1 .left)
+returns-2 c = closed-many (askedAt (c .before .before .before .before .before .before .args .y .service) (c .before .before .before .before .before .before .args .s .now) (c .before .before .before .before .before .before .args .at)) (c .before .before .before .before .before .before .args .p) (digits (c .before .before .before .before .before .before .args .least) (c .before .before .before .before .before .before .args .most)) (c .before .before .before .repeated .ensures ∙ sym (repeated-at _ _ _ _ (c .before .before .before .before .before .before .pre .1 .0))) (c .before .parts .ensures ∙ sym (parts-at _ _ _ _ (c .before .before .before .before .before .before .pre .1 .0))) (c .if2 .taken)
+
+digits-requires : tie.Need-digits-requires
+digits-requires c κs = search needs
+
+returns-3 : tie.Need-returns-3
+returns-3 c = closed-go (askedAt (c .before .before .before .before .before .before .before .args .y .service) (c .before .before .before .before .before .before .before .args .s .now) (c .before .before .before .before .before .before .before .args .at)) (c .before .before .before .before .before .before .before .args .p) (digits (c .before .before .before .before .before .before .before .args .least) (c .before .before .before .before .before .before .before .args .most)) (c .before .before .before .before .repeated .ensures ∙ sym (repeated-at _ _ _ _ (c .before .before .before .before .before .before .before .pre .1 .0))) (c .before .before .parts .ensures ∙ sym (parts-at _ _ _ _ (c .before .before .before .before .before .before .before .pre .1 .0))) (c .before .before .before .if1 .left) (c .before .if2 .left) (c .digits .ensures)
 
 pub single-digits-spec : {M : Type 1} → statement M
 single-digits-spec =
-    tie.close (tie.spec single-requires field-requires all-digits-requires returns returns-2)
+    tie.close
+    (tie.spec repeated-requires returns parts-requires returns-2 digits-requires returns-3)
