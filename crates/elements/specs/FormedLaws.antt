@@ -9,7 +9,7 @@ use borrow.Author.Tests.{le-leb, lt-leb, eq-eqb, ne-eqb}
 use lib.Dec.{leb}
 use lib.ListN.{length, drop}
 use Rattle.syntax.specs.Octets.{octets, same, within}
-use Rattle.syntax.specs.Content.{content, nextOf, allDigits}
+use Rattle.syntax.specs.Content.{releases, contentFrom, content, nextOf, allDigits}
 use Rattle.syntax.specs.ContentLaws.{Digital, digital-end, digital-below, digital-above, digital-on, Lengthening, lengthening-end, lengthening-less, lengthening-fits, lengthening-on}
 use Rattle.syntax.specs.Segment.{piecesAt, atElement, componentAt, partOf, components, repeats, anyRepeats}
 use Rattle.syntax.specs.declared.content.Next.{Next}
@@ -119,18 +119,49 @@ module _ (σ : Service) (s : List ℕ) (a : ℕ) where
     pub text-read : content (σ .release) x ≡ textAt σ s a p c
     text-read = ap (content (σ .release)) e ∙ sym (text-at p c l)
 
-    pub digits-read : (least most : ℕ) {r : Bool} → r ≡ inRange (digits least most) (content (σ .release) x) → r ≡ inRange (digits least most) (textAt σ s a p c)
-    digits-read least most q = q ∙ ap (inRange (digits least most)) text-read
+    pub range-read : (k : Range) {r : Bool} → r ≡ inRange k (content (σ .release) x) → r ≡ inRange k (textAt σ s a p c)
+    range-read k q = q ∙ ap (inRange k) text-read
 
-    module _ {n : ℕ} (q : n ≡ length (content (σ .release) x)) (least most : ℕ) where
-      size-read : n ≡ length (textAt σ s a p c)
-      size-read = q ∙ ap length text-read
+-- ---- content and its length
 
-      pub text-few : n < least → false ≡ within least most (length (textAt σ s a p c))
-      text-few h = sym (ap (within least most) (sym size-read) ∙ rw (lt-leb least n h))
+-- no more octets of content than octets
+content-most : (ρ : ℕ) (f : Bool) (x : List ℕ) → length (contentFrom ρ f x) ≤ length x
+content-most ρ f [] = omega arith
+content-most ρ f (b ∷ x) = pick f (releases ρ b) (content-most ρ true x) (content-most ρ false x)
+  where
+    pick : (f t : Bool) → length (contentFrom ρ true x) ≤ length x → length (contentFrom ρ false x) ≤ length x →
+        length (cond f (b ∷ contentFrom ρ false x) (cond t (contentFrom ρ true x) (b ∷ contentFrom ρ false x))) ≤ suc (length x)
+    pick true t u v = omega arith
+    pick false true u v = omega arith
+    pick false false u v = omega arith
 
-      pub text-fits : least ≤ n → leb n most ≡ within least most (length (textAt σ s a p c))
-      text-fits h = sym (ap (within least most) (sym size-read) ∙ rw (le-leb least n h))
+-- of two octets at least one is content
+content-least : (ρ : ℕ) (x : List ℕ) → 2 ≤ length x → 1 ≤ length (content ρ x)
+content-least ρ [] h = absurd (omega (arith, h))
+content-least ρ (b ∷ []) h = absurd (omega (arith, h))
+content-least ρ (b ∷ d ∷ x) h = pick (releases ρ b)
+  where
+    pick : (t : Bool) → 1 ≤ length (cond t (d ∷ contentFrom ρ false x) (b ∷ contentFrom ρ false (d ∷ x)))
+    pick true = omega arith
+    pick false = omega arith
+
+module _ (ρ : ℕ) (x : List ℕ) (least most : ℕ) where
+  module _ (h : length x ≤ most) where
+    sized-by : least ≤ length (content ρ x) → true ≡ inRange (text least most) (content ρ x)
+    sized-by l = let w = content-most ρ false x in rw (le-leb least (length (content ρ x)) l, le-leb (length (content ρ x)) most (omega arith))
+
+    pub sized-none : least ≡ 0 → true ≡ inRange (text least most) (content ρ x)
+    sized-none e = sized-by (omega arith)
+
+    pub sized-some : least ≡ 1 → 2 ≤ length x → true ≡ inRange (text least most) (content ρ x)
+    sized-some e l = let w = content-least ρ x l in sized-by (omega arith)
+
+  module _ {n : ℕ} (q : n ≡ length (content ρ x)) where
+    pub sized-few : n < least → false ≡ inRange (text least most) (content ρ x)
+    sized-few h = sym (ap (within least most) (sym q) ∙ rw (lt-leb least n h))
+
+    pub sized-fits : least ≤ n → leb n most ≡ inRange (text least most) (content ρ x)
+    sized-fits h = sym (ap (within least most) (sym q) ∙ rw (le-leb least n h))
 
 -- digits and their number in one pass: n of them before i
 pub record Tallying (ρ : ℕ) (x : List ℕ) (i n : ℕ) : Type 0 where

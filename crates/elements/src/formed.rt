@@ -32,6 +32,28 @@ ghost use Rattle.elements.specs.Kinds.{kindOf};
 ghost use Rattle.elements.specs.Fields.{Marked, Fields};
 ghost use Rattle.elements.specs.Formed.{controlOf, looked};
 
+// Whether the content has so many octets: no more than `x`, and one at least where `x` has two, since a release frees the next.
+// They are counted only where that does not settle it.
+fn sized(x: &[u8], release: u8, least: usize, most: usize) -> bool
+    ensures { λ r. ⌜ r ≡ inRange (checked.text least most) (content release (now (x .entry))) ⌝ }
+{
+    if x.len() <= most {
+        if least == 0 {
+            return true;
+        }
+        if least == 1 {
+            if 2 <= x.len() {
+                return true;
+            }
+        }
+    }
+    let n = content_length(x, release);
+    if n < least {
+        return false;
+    }
+    n <= most
+}
+
 // Whether the content is digits, and so many: one pass for both.
 fn digits_within(x: &[u8], release: u8, least: usize, most: usize) -> bool
     ensures { λ r. ⌜ r ≡ inRange (checked.digits least most) (content release (now (x .entry))) ⌝ }
@@ -76,11 +98,7 @@ fn text(
     ensures { λ r. ⌜ r ≡ within least most (length (textAt (y .service) (now (s .entry)) at p c)) ⌝ }
 {
     let v = y.service;
-    let n = content_length(field(s, at, y, marks, p, c), v.release);
-    if n < least {
-        return false;
-    }
-    n <= most
+    sized(field(s, at, y, marks, p, c), v.release, least, most)
 }
 
 // A component is digits, and so many.
