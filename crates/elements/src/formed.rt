@@ -227,7 +227,8 @@ fn date_digits(v: Version) -> usize
     }
 }
 
-fn unb_formed(s: &[u8], at: usize, y: Syntax, marks: &[usize]) -> bool
+// UNB. This and the next two are for callers that know the kind, so that it is not asked again.
+pub fn unb_formed(s: &[u8], at: usize, y: Syntax, marks: &[usize]) -> bool
     requires { ⌜ Marked (y .service) (now s) at (now marks) ⌝ }
     ensures { λ r. ⌜ r ≡ formedRow (row (y .version) named.Unb) (askedAt (y .service) (now (s .entry)) at) 1 ⌝ }
 {
@@ -247,7 +248,8 @@ fn unb_formed(s: &[u8], at: usize, y: Syntax, marks: &[usize]) -> bool
     single(s, at, y, marks, 5, 1, 14)
 }
 
-fn unh_formed(s: &[u8], at: usize, y: Syntax, marks: &[usize]) -> bool
+// UNH
+pub fn unh_formed(s: &[u8], at: usize, y: Syntax, marks: &[usize]) -> bool
     requires { ⌜ Marked (y .service) (now s) at (now marks) ⌝ }
     ensures { λ r. ⌜ r ≡ formedRow (row (y .version) named.Unh) (askedAt (y .service) (now (s .entry)) at) 1 ⌝ }
 {
@@ -258,7 +260,7 @@ fn unh_formed(s: &[u8], at: usize, y: Syntax, marks: &[usize]) -> bool
 }
 
 // UNT and UNZ: a count, and a reference of any length.
-fn end_formed(s: &[u8], at: usize, y: Syntax, marks: &[usize]) -> bool
+pub fn end_formed(s: &[u8], at: usize, y: Syntax, marks: &[usize]) -> bool
     requires { ⌜ Marked (y .service) (now s) at (now marks) ⌝ }
     ensures { λ r. ⌜ r ≡ formedRow (row (y .version) named.Unt) (askedAt (y .service) (now (s .entry)) at) 1 ⌝ }
 {
