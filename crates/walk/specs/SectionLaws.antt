@@ -1,14 +1,16 @@
 -- Laws of the walk by sections: the header that a trailer names, a segment further in a message, and its end.
-use Prim.Native.Nat.{ℕ, _+_, _≤_, _<_}
+use Prim.Native.Nat.{ℕ, suc, _+_, _-_, _≤_, _<_}
 use native.Mathlib.Omega.{arith}
 use mathlib.Core.Path.{_≡_, refl, ap, sym, _∙_, subst}
 use mathlib.Core.Bool.{Bool, true, false, cond, not, _&&_, false≢true}
 use mathlib.Core.List.{List, [], _∷_}
 use mathlib.Core.Option.{Option, some}
 use lib.Dec.{T, eqb}
-use lib.ListN.{length}
-use lib.Seq.{slice}
+use borrow.Author.Tests.{ne-eqb}
+use lib.ListN.{length, take, drop, getD}
+use lib.Seq.{slice, drop-cons}
 use Rattle.syntax.specs.Octets.{octets, same}
+use Rattle.syntax.specs.CuttingLaws.{slice-take}
 use Rattle.syntax.specs.Service.{fit}
 use Rattle.syntax.specs.Content.{releases, contentFrom, content}
 use Rattle.syntax.specs.Tree.{Segment, printS}
@@ -98,6 +100,13 @@ module _ (s : List ℕ) (a n : ℕ) where
       by : (c : Bool) → 0 ≡ cond c n 0
       by true = sym e
       by false = refl
+
+  -- another first octet is another tag
+  pub nameable-other : a < length s → (getD s a 0 ≡ 85 → ⊥) → 0 ≡ nameableIn s a n
+  nameable-other h e =
+      let k : a + 3 - a ≡ 3 = omega arith in
+      let z : slice a (a + 3) s ≡ getD s a 0 ∷ take 2 (drop (suc a) s) = slice-take a (a + 3) s ∙ ap (λ (m : ℕ). take m (drop a s)) k ∙ ap (take 3) (drop-cons s a 0 h) in
+      sym (ap (λ (x : List ℕ). cond (same x (octets "UST")) n 0) z ∙ rw (ne-eqb _ _ e))
 
   module _ {p : List ℕ} {r : Bool} (q : p ≡ slice a (a + 3) s) (d : r ≡ same (content 32 p) (octets "UST")) where
     tells : (c : Bool) → r ≡ c → same (slice a (a + 3) s) (octets "UST") ≡ c

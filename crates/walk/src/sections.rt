@@ -68,12 +68,15 @@ fn is_busy(p: Phase) -> bool
     }
 }
 
-// How many headers a trailer at `at` chooses from: all `n` of them, none where no UST stands there.
+// How many headers a trailer at `at` chooses from: all `n` of them, none where no UST stands there. Most segments are told by their first octet.
 fn nameable(s: &[u8], at: usize, n: usize) -> usize
-    requires { ⌜ at < 65536 ⌝ }
+    requires { ⌜ (at < length (now s)) × (at < 65536) ⌝ }
     ensures { λ r. ⌜ r ≡ nameableIn (now (s .entry)) at n ⌝ }
 {
     if n == 0 {
+        return 0;
+    }
+    if s[at] != 85 {
         return 0;
     }
     if content_is(part(s, at, at + 3), 32, b"UST") {

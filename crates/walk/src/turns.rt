@@ -30,7 +30,10 @@ use elements::fields::field;
 use elements::fields::field_end;
 use elements::fields::field_start;
 use elements::fields::fields;
+use elements::formed::end_formed;
 use elements::formed::is_formed;
+use elements::formed::unb_formed;
+use elements::formed::unh_formed;
 use elements::kind_of;
 use message::Group;
 use message::Message;
@@ -172,7 +175,7 @@ fn on_unb(
     requires { ⌜ (st .phase ≡ Start) × (st .count ≡ 0) ⌝ }
     ensures { λ r. ⌜ StepIs (decidedFrom (y .version) (stateIn (y .service .release) (now (s .entry)) st (now (heads .entry)) (now (links .entry))) (askedAt (y .service) (now (s .entry)) at) at) r (y .service .release) (now (s .entry)) (now (heads .entry)) (now (links .entry)) (now (buckets .entry)) next ⌝ }
 {
-    if !is_formed(s, at, y, marks, f, Kind::Unb) {
+    if !unb_formed(s, at, y, marks) {
         return stopped(8, at);
     }
     let m = st.message;
@@ -207,7 +210,7 @@ fn on_unh(
     ensures { λ r. ⌜ StepIs (decidedFrom (y .version) (stateIn (y .service .release) (now (s .entry)) st (now (heads .entry)) (now (links .entry))) (askedAt (y .service) (now (s .entry)) at) at) r (y .service .release) (now (s .entry)) (now (heads .entry)) (now (links .entry)) (now (buckets .entry)) next ⌝ }
 {
     let v = y.service;
-    if !is_formed(s, at, y, marks, f, Kind::Unh) {
+    if !unh_formed(s, at, y, marks) {
         return stopped(8, at);
     }
     if used(
@@ -262,7 +265,7 @@ fn on_unz(
     if st.count == 0 {
         return stopped(7, at);
     }
-    if !is_formed(s, at, y, marks, f, Kind::Unz) {
+    if !end_formed(s, at, y, marks) {
         return stopped(8, at);
     }
     let u = st.unb;
@@ -362,7 +365,7 @@ fn on_unt(
     if !may_come(Kind::Unt, m) {
         return stopped(7, at);
     }
-    if !is_formed(s, at, y, marks, f, Kind::Unt) {
+    if !end_formed(s, at, y, marks) {
         return stopped(8, at);
     }
     if !refs_right(s, at, y, st, marks, heads) {

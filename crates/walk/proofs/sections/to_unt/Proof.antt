@@ -52,7 +52,7 @@ loop-holds c = record { inside = c .before .before .before .before .pre .1; sinc
 
 -- src/sections.rt:144:13
 nameable-requires : tie.Need-nameable-requires Inv-loop2 μ-loop2 Inv-loop μ-loop
-nameable-requires c κs = inside-short (c .before .before .loop .inv .inside) (c .before .loop-test .taken)
+nameable-requires c κs = (c .before .loop-test .taken, inside-short (c .before .before .loop .inv .inside) (c .before .loop-test .taken))
 
 -- src/sections.rt:147:9
 loop2-holds : tie.Need-loop2-holds Inv-loop2 μ-loop2 Inv-loop μ-loop
