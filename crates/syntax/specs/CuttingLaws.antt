@@ -10,8 +10,8 @@ use lib.Dec.{eqb, leb}
 use lib.ListN.{length, getD, take, drop, drop-of-length-le, length-drop}
 use lib.Seq.{drop-cons, slice, take-nil, drop-nil}
 use Rattle.syntax.specs.Service.{kindOf, kind, serves}
-use Rattle.syntax.specs.Repertoire.{inside, outside, classOf}
-use Rattle.syntax.specs.RepertoireLaws.{Sorted, is-data, is-bad, is-release, is-stop, sorted, kind-le}
+use Rattle.syntax.specs.Repertoire.{inside, outside, endClass, releaseClass, outsideClass, classOf}
+use Rattle.syntax.specs.RepertoireLaws.{Sorted, is-data, is-bad, is-release, is-separator, is-end, sorted, kind-le}
 use Rattle.syntax.specs.Cutting.{stopFrom, endAt, ends, firstOutside, cutBy, stretch, cutAt}
 use Rattle.syntax.specs.declared.Service.{Service}
 use Rattle.syntax.specs.declared.Syntax.{Syntax}
@@ -78,9 +78,10 @@ module _ {y : Syntax} {n : ℕ} {x : Found} {s : List ℕ} {i : ℕ} (g : Going 
       by-class (is-data p q r) = on (omega arith) (λ z. omega arith)
       by-class (is-bad p q r) = on (omega arith) (λ z. omega arith)
       by-class (is-release p r) = let z : ⊥ = omega arith in absurd z
-      by-class (is-stop p q r) = on (omega arith) (λ z. omega arith)
+      by-class (is-separator p q r) = on (omega arith) (λ z. omega arith)
+      by-class (is-end p r) = let z : ⊥ = omega arith in absurd z
 
-  pub class-bad : c ≡ 7 → Going y n x s (i + 1)
+  pub class-bad : c ≡ outsideClass → Going y n x s (i + 1)
   unfolding k
   class-bad a = by-class (sorted y (getD s i 0) e)
     where
@@ -88,9 +89,10 @@ module _ {y : Syntax} {n : ℕ} {x : Found} {s : List ℕ} {i : ℕ} (g : Going 
       by-class (is-data p q r) = on (omega arith) (λ z. omega arith)
       by-class (is-bad p q r) = on (omega arith) (λ z. omega arith)
       by-class (is-release p r) = let z : ⊥ = omega arith in absurd z
-      by-class (is-stop p q r) = let z : ⊥ = omega arith in absurd z
+      by-class (is-separator p q r) = let z : ⊥ = omega arith in absurd z
+      by-class (is-end p r) = let z : ⊥ = omega arith in absurd z
 
-  pub class-hit : n ≤ c → c < 6 → At i ≡ x
+  pub class-hit : n ≤ c → c < releaseClass → At i ≡ x
   unfolding k
   class-hit a b = by-class (sorted y (getD s i 0) e)
     where
@@ -98,9 +100,10 @@ module _ {y : Syntax} {n : ℕ} {x : Found} {s : List ℕ} {i : ℕ} (g : Going 
       by-class (is-data p q r) = let z : ⊥ = omega arith in absurd z
       by-class (is-bad p q r) = let z : ⊥ = omega arith in absurd z
       by-class (is-release p r) = let z : ⊥ = omega arith in absurd z
-      by-class (is-stop p q r) = sym (g .finds ∙ stop-hit (y .service) n false s i h refl (omega arith))
+      by-class (is-separator p q r) = sym (g .finds ∙ stop-hit (y .service) n false s i h refl (omega arith))
+      by-class (is-end p r) = sym (g .finds ∙ stop-hit (y .service) n false s i h refl (omega arith))
 
-  released : 6 ≤ c → (c ≡ 7 → ⊥) → k ≡ 0
+  released : releaseClass ≤ c → (c ≡ outsideClass → ⊥) → k ≡ 0
   unfolding k
   released a b = by-class (sorted y (getD s i 0) e)
     where
@@ -108,16 +111,17 @@ module _ {y : Syntax} {n : ℕ} {x : Found} {s : List ℕ} {i : ℕ} (g : Going 
       by-class (is-data p q r) = let z : ⊥ = omega arith in absurd z
       by-class (is-bad p q r) = absurd (b r)
       by-class (is-release p r) = p
-      by-class (is-stop p q r) = let z : ⊥ = omega arith in absurd z
+      by-class (is-separator p q r) = let z : ⊥ = omega arith in absurd z
+      by-class (is-end p r) = let z : ⊥ = omega arith in absurd z
 
-  freeing : 6 ≤ c → (c ≡ 7 → ⊥) → x ≡ stopFrom (y .service) n true (drop (i + 1) s) (i + 1)
+  freeing : releaseClass ≤ c → (c ≡ outsideClass → ⊥) → x ≡ stopFrom (y .service) n true (drop (i + 1) s) (i + 1)
   unfolding k
   freeing a b = let z = released a b in g .finds ∙ stop-on (y .service) n false s i h refl (omega arith) ∙ rw (eq-eqb _ _ z)
 
-  pub class-freed : 6 ≤ c → (c ≡ 7 → ⊥) → i + 1 < length s → Going y n x s (i + 1 + 1)
+  pub class-freed : releaseClass ≤ c → (c ≡ outsideClass → ⊥) → i + 1 < length s → Going y n x s (i + 1 + 1)
   class-freed a b d = record { finds = freeing a b ∙ stop-on (y .service) n true s (i + 1) d refl (omega arith) }
 
-  pub class-cut : 6 ≤ c → (c ≡ 7 → ⊥) → length s ≤ i + 1 → Nothing ≡ x
+  pub class-cut : releaseClass ≤ c → (c ≡ outsideClass → ⊥) → length s ≤ i + 1 → Nothing ≡ x
   class-cut a b d = sym (freeing a b ∙ stop-none (y .service) n true s (i + 1) d)
 
 -- ---- a cut
@@ -162,56 +166,61 @@ pub cutting-none : {y : Syntax} {x : Cut} {s : List ℕ} {i : ℕ} → Cutting y
 cutting-none {y} {x} {s} {i} g h = sym (g .finds ∙ cut-none y s i false h)
 
 module _ {y : Syntax} {x : Cut} {s : List ℕ} {i : ℕ} (g : Cutting y x s i) (h : i < length s) {c : ℕ} (e : c ≡ classOf y (getD s i 0)) where
-  pub cutting-on : c < 5 → Cutting y x s (i + 1)
+  pub cutting-on : c < endClass → Cutting y x s (i + 1)
   cutting-on a = by-class (sorted y (getD s i 0) e)
     where
       by-class : Sorted (kindOf (y .service) (getD s i 0)) (inside (y .level) (getD s i 0)) c → Cutting y x s (i + 1)
       by-class (is-data p q r) = record { finds = g .finds ∙ cut-on y s i h false (lt-leb 5 (kindOf (y .service) (getD s i 0)) (omega arith)) (rw (p, q)) (ne-eqb (kindOf (y .service) (getD s i 0)) 0 (λ z. omega arith)) }
       by-class (is-bad p q r) = let z : ⊥ = omega arith in absurd z
       by-class (is-release p r) = let z : ⊥ = omega arith in absurd z
-      by-class (is-stop p q r) = record { finds = g .finds ∙ cut-on y s i h false (lt-leb 5 (kindOf (y .service) (getD s i 0)) (omega arith)) (rw (ne-eqb (kindOf (y .service) (getD s i 0)) 1 (λ z. omega arith))) (ne-eqb (kindOf (y .service) (getD s i 0)) 0 (λ z. omega arith)) }
+      by-class (is-separator p q r) = record { finds = g .finds ∙ cut-on y s i h false (lt-leb 5 (kindOf (y .service) (getD s i 0)) (omega arith)) (rw (ne-eqb (kindOf (y .service) (getD s i 0)) 1 (λ z. omega arith))) (ne-eqb (kindOf (y .service) (getD s i 0)) 0 (λ z. omega arith)) }
+      by-class (is-end p r) = let z : ⊥ = omega arith in absurd z
 
-  pub cutting-end : c ≡ 5 → Ends i ≡ x
+  pub cutting-end : c ≡ endClass → Ends i ≡ x
   cutting-end a = by-class (sorted y (getD s i 0) e)
     where
       by-class : Sorted (kindOf (y .service) (getD s i 0)) (inside (y .level) (getD s i 0)) c → Ends i ≡ x
       by-class (is-data p q r) = let z : ⊥ = omega arith in absurd z
       by-class (is-bad p q r) = let z : ⊥ = omega arith in absurd z
       by-class (is-release p r) = let z : ⊥ = omega arith in absurd z
-      by-class (is-stop p q r) = sym (g .finds ∙ cut-end y s i h (le-leb 5 (kindOf (y .service) (getD s i 0)) (omega arith)))
+      by-class (is-separator p q r) = let z : ⊥ = omega arith in absurd z
+      by-class (is-end p r) = sym (g .finds ∙ cut-end y s i h (le-leb 5 (kindOf (y .service) (getD s i 0)) (omega arith)))
 
-  pub cutting-bad : {q : Found} {w : Cut} → c ≡ 7 → q ≡ stopFrom (y .service) 5 false (drop (i + 1) s) (i + 1) → w ≡ cutBy q (At i) → w ≡ x
+  pub cutting-bad : {q : Found} {w : Cut} → c ≡ outsideClass → q ≡ stopFrom (y .service) 5 false (drop (i + 1) s) (i + 1) → w ≡ cutBy q (At i) → w ≡ x
   cutting-bad {q} {w} a d u = by-class (sorted y (getD s i 0) e)
     where
       by-class : Sorted (kindOf (y .service) (getD s i 0)) (inside (y .level) (getD s i 0)) c → w ≡ x
       by-class (is-data p q r) = let z : ⊥ = omega arith in absurd z
       by-class (is-bad p q r) = u ∙ ap (λ (f : Found). cutBy f (At i)) d ∙ sym (g .finds ∙ cut-bad y s i h (lt-leb 5 (kindOf (y .service) (getD s i 0)) (omega arith)) (rw (p, q)) (ne-eqb (kindOf (y .service) (getD s i 0)) 0 (λ z. omega arith)))
       by-class (is-release p r) = let z : ⊥ = omega arith in absurd z
-      by-class (is-stop p q r) = let z : ⊥ = omega arith in absurd z
+      by-class (is-separator p q r) = let z : ⊥ = omega arith in absurd z
+      by-class (is-end p r) = let z : ⊥ = omega arith in absurd z
 
-  freeing-cut : 5 ≤ c → (c ≡ 5 → ⊥) → (c ≡ 7 → ⊥) → x ≡ cutFrom y true (drop (i + 1) s) (i + 1)
+  freeing-cut : endClass ≤ c → (c ≡ endClass → ⊥) → (c ≡ outsideClass → ⊥) → x ≡ cutFrom y true (drop (i + 1) s) (i + 1)
   freeing-cut a b d = by-class (sorted y (getD s i 0) e)
     where
       by-class : Sorted (kindOf (y .service) (getD s i 0)) (inside (y .level) (getD s i 0)) c → x ≡ cutFrom y true (drop (i + 1) s) (i + 1)
       by-class (is-data p q r) = let z : ⊥ = omega arith in absurd z
       by-class (is-bad p q r) = absurd (d r)
       by-class (is-release p r) = g .finds ∙ cut-on y s i h true (lt-leb 5 (kindOf (y .service) (getD s i 0)) (omega arith)) (rw p) (eq-eqb (kindOf (y .service) (getD s i 0)) 0 p)
-      by-class (is-stop p q r) = let z : ⊥ = b (omega arith) in absurd z
+      by-class (is-separator p q r) = let z : ⊥ = omega arith in absurd z
+      by-class (is-end p r) = absurd (b r)
 
-  pub cutting-short : 5 ≤ c → (c ≡ 5 → ⊥) → (c ≡ 7 → ⊥) → length s ≤ i + 1 → Open ≡ x
+  pub cutting-short : endClass ≤ c → (c ≡ endClass → ⊥) → (c ≡ outsideClass → ⊥) → length s ≤ i + 1 → Open ≡ x
   cutting-short a b d k = sym (freeing-cut a b d ∙ cut-none y s (i + 1) true k)
 
-  module _ (a : 5 ≤ c) (b : c ≡ 5 → ⊥) (d : c ≡ 7 → ⊥) (h′ : i + 1 < length s) {c′ : ℕ} (e′ : c′ ≡ classOf y (getD s (i + 1) 0)) where
-    pub cutting-freed : (c′ ≡ 7 → ⊥) → Cutting y x s (i + 1 + 1)
+  module _ (a : endClass ≤ c) (b : c ≡ endClass → ⊥) (d : c ≡ outsideClass → ⊥) (h′ : i + 1 < length s) {c′ : ℕ} (e′ : c′ ≡ classOf y (getD s (i + 1) 0)) where
+    pub cutting-freed : (c′ ≡ outsideClass → ⊥) → Cutting y x s (i + 1 + 1)
     cutting-freed o = record { finds = freeing-cut a b d ∙ freed-on y s (i + 1) h′ (by-class (sorted y (getD s (i + 1) 0) e′)) }
       where
         by-class : Sorted (kindOf (y .service) (getD s (i + 1) 0)) (inside (y .level) (getD s (i + 1) 0)) c′ → outside y (getD s (i + 1) 0) ≡ false
         by-class (is-data p q r) = rw (p, q)
         by-class (is-bad p q r) = absurd (o r)
         by-class (is-release p r) = rw p
-        by-class (is-stop p q r) = rw (ne-eqb (kindOf (y .service) (getD s (i + 1) 0)) 1 (λ z. omega arith))
+        by-class (is-separator p q r) = rw (ne-eqb (kindOf (y .service) (getD s (i + 1) 0)) 1 (λ z. omega arith))
+        by-class (is-end p r) = rw (ne-eqb (kindOf (y .service) (getD s (i + 1) 0)) 1 (λ z. omega arith))
 
-    pub cutting-freed-bad : {q : Found} {w : Cut} → c′ ≡ 7 → q ≡ stopFrom (y .service) 5 false (drop (i + 1 + 1) s) (i + 1 + 1) → w ≡ cutBy q (At (i + 1)) → w ≡ x
+    pub cutting-freed-bad : {q : Found} {w : Cut} → c′ ≡ outsideClass → q ≡ stopFrom (y .service) 5 false (drop (i + 1 + 1) s) (i + 1 + 1) → w ≡ cutBy q (At (i + 1)) → w ≡ x
     cutting-freed-bad {q} {w} o m u =
         u ∙ ap (λ (f : Found). cutBy f (At (i + 1))) m ∙ sym (freeing-cut a b d ∙ freed-bad y s (i + 1) h′ (by-class (sorted y (getD s (i + 1) 0) e′)))
       where
@@ -219,7 +228,8 @@ module _ {y : Syntax} {x : Cut} {s : List ℕ} {i : ℕ} (g : Cutting y x s i) (
         by-class (is-data p q r) = let z : ⊥ = omega arith in absurd z
         by-class (is-bad p q r) = rw (p, q)
         by-class (is-release p r) = let z : ⊥ = omega arith in absurd z
-        by-class (is-stop p q r) = let z : ⊥ = omega arith in absurd z
+        by-class (is-separator p q r) = let z : ⊥ = omega arith in absurd z
+        by-class (is-end p r) = let z : ⊥ = omega arith in absurd z
 
 -- ---- a stop lies in the input, and is of the kind that was asked for
 
@@ -292,6 +302,43 @@ module _ (y : Syntax) where
       by : (x : Found) → endAt (y .service) s a ≡ x → cutBy x (badFrom y false (drop a s) a) ≡ cutBy x (firstOutside y (stretch s a x) a)
       by Nothing h = refl
       by (At e) h = ap (cutBy (At e)) (bad-stretch (drop a s) false a e h ∙ ap (λ (l : List ℕ). firstOutside y l a) (sym (slice-take a (suc e) s)))
+
+-- ---- several octets at once
+
+-- r is the sum of the classes of four octets: where none of them stops a scan, the cut is the one from behind them
+pub record Four (y : Syntax) (s : List ℕ) (i r : ℕ) : Type 0 where
+  pub passes : r < endClass → cutAt y s (i + 4) ≡ cutAt y s i
+
+-- a cut under way says that the cut from there is the one that is to be found
+module _ {y : Syntax} {x : Cut} {s : List ℕ} {i : ℕ} where
+  pub cutting-at : cutAt y s i ≡ x → Cutting y x s i
+  cutting-at e = record { finds = sym (cut-runs y s i ∙ e) }
+
+  pub cutting-from : Cutting y x s i → cutAt y s i ≡ x
+  cutting-from g = sym (g .finds ∙ cut-runs y s i)
+
+pub four-of : {y : Syntax} (s : List ℕ) (i : ℕ) {a b c d r : ℕ} → i + 4 ≤ length s →
+    a ≡ classOf y (getD s i 0) → b ≡ classOf y (getD s (i + 1) 0) → c ≡ classOf y (getD s (i + 2) 0) → d ≡ classOf y (getD s (i + 3) 0) →
+    r ≡ a + b + (c + d) → Four y s i r
+four-of {y} s i {a} {b} {c} {d} {r} h ea eb ec ed e = record { passes = past }
+  where
+    past : r < endClass → cutAt y s (i + 4) ≡ cutAt y s i
+    past l =
+        let n₂ : i + 1 + 1 ≡ i + 2 = omega arith in
+        let n₃ : i + 2 + 1 ≡ i + 3 = omega arith in
+        let n₄ : i + 3 + 1 ≡ i + 4 = omega arith in
+        let g₁ = cutting-on (cutting-at {y = y} {s = s} {i = i} refl) (omega arith) ea (omega arith) in
+        let g₂ = rw n₂ at (cutting-on g₁ (omega arith) eb (omega arith)) in
+        let g₃ = rw n₃ at (cutting-on g₂ (omega arith) ec (omega arith)) in
+        let g₄ = rw n₄ at (cutting-on g₃ (omega arith) ed (omega arith)) in
+        cutting-from g₄
+
+pub cutting-four : {y : Syntax} {x : Cut} {s : List ℕ} {i r : ℕ} → Cutting y x s i → Four y s i r → r < endClass → Cutting y x s (i + 4)
+cutting-four g p h = cutting-at (p .passes h ∙ cutting-from g)
+
+pub cutting-eight : {y : Syntax} {x : Cut} {s : List ℕ} {i a b : ℕ} → Cutting y x s i → Four y s i a → a < endClass → Four y s (i + 4) b → b < endClass →
+    Cutting y x s (i + 8)
+cutting-eight {y} {x} {s} {i} g p h q k = let n : i + 4 + 4 ≡ i + 8 = omega arith in rw n at (cutting-four (cutting-four g p h) q k)
 
 -- where a cut ends
 abbrev pub CutIn : List ℕ → ℕ → Cut → Type 0

@@ -26,9 +26,24 @@ inside C b = within 32 126 b || within 160 255 b
 abbrev pub outside : Syntax → ℕ → Bool
 outside y b = cond (serves (y .service) b) false (not (inside (y .level) b))
 
--- the code's class of an octet: 0 data, 2 component, 3 repetition, 4 element, 5 terminator, 6 release, 7 outside
+-- The code's class of an octet: 0 data, 2 component, 3 repetition, 4 element, and three at which a scan stops: terminator, release, outside.
+-- These are so high that four classes add up to less than the lowest of them just where none of the four is one of them
+abbrev pub endClass : ℕ
+endClass = 64
+
+abbrev pub releaseClass : ℕ
+releaseClass = 65
+
+abbrev pub outsideClass : ℕ
+outsideClass = 66
+
+-- the class of an octet that is no service character in force, by whether it is inside
+abbrev pub dataClass : Bool → ℕ
+dataClass i = cond i 0 outsideClass
+
+-- the class by what the octet is (`kindOf`) and by whether it is inside
 abbrev pub toClass : ℕ → Bool → ℕ
-toClass k i = cond (eqb k 1) (cond i 0 7) (cond (eqb k 0) 6 k)
+toClass k i = cond (eqb k 1) (dataClass i) (cond (eqb k 0) releaseClass (cond (eqb k 5) endClass k))
 
 unfoldable pub classOf : Syntax → ℕ → ℕ
 classOf y b = toClass (kindOf (y .service) b) (inside (y .level) b)
@@ -36,7 +51,7 @@ classOf y b = toClass (kindOf (y .service) b) (inside (y .level) b)
 -- a table of what is outside, and a table of classes: one rule for every octet
 pub record Base (l : Level) (t : List ℕ) : Type 0 where
   pub size : length t ≡ 256
-  pub rule : (b : ℕ) → b < 256 → getD t b 0 ≡ cond (inside l b) 0 7
+  pub rule : (b : ℕ) → b < 256 → getD t b 0 ≡ dataClass (inside l b)
 
 pub record Table (y : Syntax) (t : List ℕ) : Type 0 where
   pub size : length t ≡ 256

@@ -9,7 +9,7 @@ use lib.Dec.{eqb, leb, ltb}
 use lib.ListN.{length, getD, set, length-set, replicate, getD-replicate, List·getD-eq-default}
 use lib.Seq.{getD-set-same, getD-set-other, set-out}
 use Rattle.syntax.specs.Service.{kindOf}
-use Rattle.syntax.specs.Repertoire.{inside, toClass, classOf, Base, Table}
+use Rattle.syntax.specs.Repertoire.{inside, endClass, releaseClass, outsideClass, dataClass, toClass, classOf, Base, Table}
 use Rattle.syntax.specs.declared.Service.{Service}
 use Rattle.syntax.specs.declared.Syntax.{Syntax}
 use Rattle.syntax.specs.declared.Level.{Level}
@@ -104,32 +104,32 @@ below-all f (suc n) x e h = by (eqb x n) refl (below-all f n x (and-r (f n) _ e)
     by true q r = rw (eqb-true x n q) (and-l (f n) _ e)
     by false q r = let d = eqb-false x n q in r (omega (arith, d))
 
--- the ranges of the repertoires, 0 inside and 7 outside
+-- the ranges of the repertoires, 0 inside
 abbrev rangedA : ℕ → ℕ
-rangedA x = cond (leb 65 x && ltb x 91) 0 (cond (leb 37 x && ltb x 64) 0 (cond (leb 32 x && ltb x 35) 0 7))
+rangedA x = cond (leb 65 x && ltb x 91) 0 (cond (leb 37 x && ltb x 64) 0 (cond (leb 32 x && ltb x 35) 0 outsideClass))
 
 abbrev ranged : Level → ℕ → ℕ
 ranged A x = rangedA x
 ranged B x = cond (leb 97 x && ltb x 123) 0 (rangedA x)
-ranged C x = cond (leb 160 x && ltb x 256) 0 (cond (leb 32 x && ltb x 127) 0 7)
+ranged C x = cond (leb 160 x && ltb x 256) 0 (cond (leb 32 x && ltb x 127) 0 outsideClass)
 
-right : (l : Level) (x : ℕ) → x < 256 → ranged l x ≡ cond (inside l x) 0 7
+right : (l : Level) (x : ℕ) → x < 256 → ranged l x ≡ dataClass (inside l x)
 unfolding inside
-right A x h = eqb-true _ _ (below-all (λ (x : ℕ). eqb (ranged A x) (cond (inside A x) 0 7)) 256 x refl h)
-right B x h = eqb-true _ _ (below-all (λ (x : ℕ). eqb (ranged B x) (cond (inside B x) 0 7)) 256 x refl h)
-right C x h = eqb-true _ _ (below-all (λ (x : ℕ). eqb (ranged C x) (cond (inside C x) 0 7)) 256 x refl h)
+right A x h = eqb-true _ _ (below-all (λ (x : ℕ). eqb (ranged A x) (dataClass (inside A x))) 256 x refl h)
+right B x h = eqb-true _ _ (below-all (λ (x : ℕ). eqb (ranged B x) (dataClass (inside B x))) 256 x refl h)
+right C x h = eqb-true _ _ (below-all (λ (x : ℕ). eqb (ranged C x) (dataClass (inside C x))) 256 x refl h)
 
-blank : (x : ℕ) → x < 256 → _≡_ {A = ℕ} (getD (replicate 256 7) x 0) 7
-blank x h = getD-replicate 256 x 7 0 h
+blank : (x : ℕ) → x < 256 → _≡_ {A = ℕ} (getD (replicate 256 outsideClass) x 0) outsideClass
+blank x h = getD-replicate 256 x outsideClass 0 h
 
-pub base-c : {t u : List ℕ} → Filled 32 127 (replicate 256 7) t → Filled 160 256 t u → Base C u
+pub base-c : {t u : List ℕ} → Filled 32 127 (replicate 256 outsideClass) t → Filled 160 256 t u → Base C u
 base-c a b = record {
   size = b .size ∙ a .size;
   rule = λ x h. b .at x ∙ ap (λ (r : ℕ). cond (leb 160 x && ltb x 256) 0 r)
       (a .at x ∙ ap (λ (r : ℕ). cond (leb 32 x && ltb x 127) 0 r) (blank x h)) ∙ right C x h;
 }
 
-module _ {t u v : List ℕ} (a : Filled 32 35 (replicate 256 7) t) (b : Filled 37 64 t u) (c : Filled 65 91 u v) where
+module _ {t u v : List ℕ} (a : Filled 32 35 (replicate 256 outsideClass) t) (b : Filled 37 64 t u) (c : Filled 65 91 u v) where
   in-a : (x : ℕ) → x < 256 → getD v x 0 ≡ ranged A x
   in-a x h =
       c .at x ∙ ap (λ (r : ℕ). cond (leb 65 x && ltb x 91) 0 r)
@@ -173,13 +173,13 @@ inside-space C = refl
 
 -- the stores, last first, are the tests of `kindOf`
 ordered : (y : Syntax) (x : ℕ) →
-    cond (eqb x 32) 0 (cond (eqb x (y .service .release)) 6 (cond (eqb x (y .service .terminator)) 5 (cond (eqb x (y .service .element)) 4
-    (cond (eqb x (y .service .component)) 2 (cond (eqb x (y .service .repetition)) 3 (cond (inside (y .level) x) 0 7)))))) ≡ classOf y x
+    cond (eqb x 32) 0 (cond (eqb x (y .service .release)) releaseClass (cond (eqb x (y .service .terminator)) endClass (cond (eqb x (y .service .element)) 4
+    (cond (eqb x (y .service .component)) 2 (cond (eqb x (y .service .repetition)) 3 (dataClass (inside (y .level) x))))))) ≡ classOf y x
 unfolding classOf
 ordered y x = by (eqb x 32) refl (eqb x (y .service .release)) (eqb x (y .service .terminator)) (eqb x (y .service .element)) (eqb x (y .service .component)) (eqb x (y .service .repetition))
   where
     by : (z : Bool) → eqb x 32 ≡ z → (r t e c p : Bool) →
-        cond z 0 (cond r 6 (cond t 5 (cond e 4 (cond c 2 (cond p 3 (cond (inside (y .level) x) 0 7)))))) ≡
+        cond z 0 (cond r releaseClass (cond t endClass (cond e 4 (cond c 2 (cond p 3 (dataClass (inside (y .level) x))))))) ≡
         toClass (cond z 1 (cond r 0 (cond t 5 (cond e 4 (cond c 2 (cond p 3 1)))))) (inside (y .level) x)
     by true h r t e c p = rw (eqb-true x 32 h, inside-space (y .level))
     by false h true t e c p = refl
@@ -191,15 +191,15 @@ ordered y x = by (eqb x 32) refl (eqb x (y .service .release)) (eqb x (y .servic
 
 pub table-by : {y : Syntax} {t t₁ t₂ t₃ t₄ t₅ t₆ : List ℕ} → Bytes (y .service) → Base (y .level) t →
     t₁ ≡ set t (y .service .repetition) 3 → t₂ ≡ set t₁ (y .service .component) 2 → t₃ ≡ set t₂ (y .service .element) 4 →
-    t₄ ≡ set t₃ (y .service .terminator) 5 → t₅ ≡ set t₄ (y .service .release) 6 → t₆ ≡ set t₅ 32 0 → Table y t₆
+    t₄ ≡ set t₃ (y .service .terminator) endClass → t₅ ≡ set t₄ (y .service .release) releaseClass → t₆ ≡ set t₅ 32 0 → Table y t₆
 table-by {y} {t} β g e₁ e₂ e₃ e₄ e₅ e₆ =
     let s = y .service in
-    let z : Holds t (λ x. cond (inside (y .level) x) 0 7) = record { size = g .size; at = g .rule } in
+    let z : Holds t (λ x. dataClass (inside (y .level) x)) = record { size = g .size; at = g .rule } in
     let a = stored (s .repetition) 3 (β .repetition) z e₁ in
     let b = stored (s .component) 2 (β .component) a e₂ in
     let c = stored (s .element) 4 (β .element) b e₃ in
-    let d = stored (s .terminator) 5 (β .terminator) c e₄ in
-    let e = stored (s .release) 6 (β .release) d e₅ in
+    let d = stored (s .terminator) endClass (β .terminator) c e₄ in
+    let e = stored (s .release) releaseClass (β .release) d e₅ in
     let f = stored 32 0 (omega arith) e e₆ in
     record { size = f .size; rule = λ x h. f .at x h ∙ ordered y x }
 
@@ -207,22 +207,28 @@ table-by {y} {t} β g e₁ e₂ e₃ e₄ e₅ e₆ =
 
 pub data Sorted (k : ℕ) (i : Bool) (c : ℕ) : Type 0 where
   is-data : k ≡ 1 → i ≡ true → c ≡ 0 → Sorted k i c
-  is-bad : k ≡ 1 → i ≡ false → c ≡ 7 → Sorted k i c
-  is-release : k ≡ 0 → c ≡ 6 → Sorted k i c
-  is-stop : 2 ≤ k → k ≤ 5 → c ≡ k → Sorted k i c
+  is-bad : k ≡ 1 → i ≡ false → c ≡ outsideClass → Sorted k i c
+  is-release : k ≡ 0 → c ≡ releaseClass → Sorted k i c
+  is-separator : 2 ≤ k → k ≤ 4 → c ≡ k → Sorted k i c
+  is-end : k ≡ 5 → c ≡ endClass → Sorted k i c
 
 sort : (k : ℕ) (i : Bool) → k ≤ 5 → Sorted k i (toClass k i)
 sort k i h = one (eqb k 1) refl
   where
-    zero? : (e : Bool) → eqb k 0 ≡ e → eqb k 1 ≡ false → Sorted k i (cond e 6 k)
-    zero? true e d = is-release (eqb-true k 0 e) refl
-    zero? false e d = let a = eqb-false k 0 e in let b = eqb-false k 1 d in is-stop (omega arith) h refl
+    five? : (e : Bool) → eqb k 5 ≡ e → eqb k 1 ≡ false → eqb k 0 ≡ false → Sorted k i (cond e endClass k)
+    five? true e d f = is-end (eqb-true k 5 e) refl
+    five? false e d f =
+        let a = eqb-false k 5 e in let b = eqb-false k 1 d in let c = eqb-false k 0 f in is-separator (omega arith) (omega arith) refl
 
-    in? : (j : Bool) → i ≡ j → eqb k 1 ≡ true → Sorted k i (cond j 0 7)
+    zero? : (e : Bool) → eqb k 0 ≡ e → eqb k 1 ≡ false → Sorted k i (cond e releaseClass (cond (eqb k 5) endClass k))
+    zero? true e d = is-release (eqb-true k 0 e) refl
+    zero? false e d = five? (eqb k 5) refl d e
+
+    in? : (j : Bool) → i ≡ j → eqb k 1 ≡ true → Sorted k i (dataClass j)
     in? true e d = is-data (eqb-true k 1 d) e refl
     in? false e d = is-bad (eqb-true k 1 d) e refl
 
-    one : (e : Bool) → eqb k 1 ≡ e → Sorted k i (cond e (cond i 0 7) (cond (eqb k 0) 6 k))
+    one : (e : Bool) → eqb k 1 ≡ e → Sorted k i (cond e (dataClass i) (cond (eqb k 0) releaseClass (cond (eqb k 5) endClass k)))
     one true e = in? i refl e
     one false e = zero? (eqb k 0) refl e
 

@@ -9,8 +9,8 @@ use borrow.Author.Tests.{leb-true, leb-false, eq-eqb, ne-eqb, lt-ltb, le-ltb}
 use lib.Dec.{eqb, leb, ltb}
 use lib.ListN.{length, getD, drop}
 use Rattle.syntax.specs.Service.{kindOf, kind}
-use Rattle.syntax.specs.Repertoire.{inside, classOf}
-use Rattle.syntax.specs.RepertoireLaws.{Sorted, is-data, is-bad, is-release, is-stop, sorted, kind-le}
+use Rattle.syntax.specs.Repertoire.{inside, endClass, classOf}
+use Rattle.syntax.specs.RepertoireLaws.{Sorted, is-data, is-bad, is-release, is-separator, is-end, sorted, kind-le}
 use Rattle.syntax.specs.Cutting.{stopFrom}
 use Rattle.syntax.specs.CuttingLaws.{drop-tail, drop-head, stop-in}
 use Rattle.syntax.specs.Segment.{Piece, piece, pieces, piecesAt, edgeOf, edgeAt, atElement, atComponent, components, repeats, elements, anyRepeats, Reaches}
@@ -28,9 +28,20 @@ use Rattle.syntax.specs.declared.reading.Span.the-variants.{Part, Absent
 pub edge-in : (y : Syntax) (s : List ℕ) (i : ℕ) {q : ℕ} {r : Found} → r ≡ stopFrom (y .service) 2 false (drop i s) i → r ≡ At q → q < length s
 edge-in y s i {q} e d = stop-in (y .service) 2 s (omega arith) i q (sym e ∙ d) .1
 
+pub edge-end : (y : Syntax) (s : List ℕ) (i : ℕ) {q c : ℕ} {r : Found} → r ≡ stopFrom (y .service) 2 false (drop i s) i → r ≡ At q →
+    c ≡ classOf y (getD s q 0) → c ≡ endClass → On q 5 ≡ edgeAt (y .service) s i
+edge-end y s i {q} {c} e d h z = rw (← e, d, by-class (sorted y (getD s q 0) h))
+  where
+    by-class : Sorted (kindOf (y .service) (getD s q 0)) (inside (y .level) (getD s q 0)) c → kindOf (y .service) (getD s q 0) ≡ 5
+    by-class (is-data p u v) = let z : ⊥ = omega arith in absurd z
+    by-class (is-bad p u v) = let z : ⊥ = omega arith in absurd z
+    by-class (is-release p v) = let z : ⊥ = omega arith in absurd z
+    by-class (is-separator p u v) = let z : ⊥ = omega arith in absurd z
+    by-class (is-end p v) = p
+
 pub edge-on : (y : Syntax) (s : List ℕ) (i : ℕ) {q c : ℕ} {r : Found} → r ≡ stopFrom (y .service) 2 false (drop i s) i → r ≡ At q →
-    c ≡ classOf y (getD s q 0) → On q c ≡ edgeAt (y .service) s i
-edge-on y s i {q} {c} e d h =
+    c ≡ classOf y (getD s q 0) → (c ≡ endClass → ⊥) → On q c ≡ edgeAt (y .service) s i
+edge-on y s i {q} {c} e d h n =
     let w = stop-in (y .service) 2 s (omega arith) i q (sym e ∙ d) .2 in
     rw (← e, d, by-class w (sorted y (getD s q 0) h))
   where
@@ -38,7 +49,8 @@ edge-on y s i {q} {c} e d h =
     by-class a (is-data p u v) = let z : ⊥ = omega arith in absurd z
     by-class a (is-bad p u v) = let z : ⊥ = omega arith in absurd z
     by-class a (is-release p v) = let z : ⊥ = omega arith in absurd z
-    by-class a (is-stop p u v) = v
+    by-class a (is-separator p u v) = v
+    by-class a (is-end p v) = absurd (n v)
 
 -- ---- an edge is the end of the first piece, and the others are those from behind it
 

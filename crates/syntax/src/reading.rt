@@ -9,6 +9,7 @@ use crate::Found;
 use crate::Syntax;
 use crate::content::part;
 use crate::cutting::stop;
+use crate::repertoire::TERMINATOR;
 use crate::repertoire::class;
 
 // Where a piece ends, and what ends it: 2 a component, 3 a repeat, 4 an element, 5 the segment.
@@ -30,6 +31,10 @@ pub fn piece_end(s: &[u8], from: usize, t: &[u8; 256], y: Syntax) -> Edge
     match stop(s, from, t, y, 2) {
         Found::At(q) => {
             let c = class(t, y, s[q]);
+            // of what ends a piece, only the terminator has a class that is not its kind
+            if c == TERMINATOR {
+                return Edge::On(q, 5);
+            }
             Edge::On(q, c)
         }
         Found::Nothing => Edge::Off,

@@ -7,7 +7,14 @@ ghost use Rattle.syntax.specs.RepertoireLaws.{Filled};
 use crate::Level;
 use crate::Syntax;
 
-fn wide(b: u8) -> usize
+// The classes at which a scan stops. The others are 4 at most, so four octets add up to 16 at most, or to 64 at least where one stops it.
+pub const TERMINATOR: u8 = 64;
+
+pub const RELEASE: u8 = 65;
+
+pub const OUTSIDE: u8 = 66;
+
+pub(crate) fn wide(b: u8) -> usize
     ensures { λ r. ⌜ (r ≡ b) × (r < 256) ⌝ }
 {
     b as usize
@@ -26,11 +33,11 @@ fn fill(t: &mut [u8; 256], a: u8, e: u8)
     }
 }
 
-// The repertoire test, for every octet at once: 0 inside, 7 outside.
+// The repertoire test, for every octet at once: 0 inside.
 fn base(l: Level) -> [u8; 256]
     ensures { λ r. ⌜ Base l r ⌝ }
 {
-    let mut t = [7u8; 256];
+    let mut t = [OUTSIDE; 256];
     match l {
         Level::A => {
             fill(&mut t, 32, 34);
@@ -59,7 +66,7 @@ fn put(t: &mut [u8; 256], b: u8, c: u8)
     t[b as usize] = c;
 }
 
-// The class of each octet: 0 data, 2 component, 3 repetition, 4 element, 5 terminator, 6 release, 7 outside.
+// The class of each octet: 0 data, 2 component, 3 repetition, 4 element, and the three at which a scan stops.
 // Later stores win, so what is tested first in `kindOf` is stored last.
 pub fn table(y: Syntax) -> [u8; 256]
     ensures { λ r. ⌜ Table y r ⌝ }
@@ -70,8 +77,8 @@ pub fn table(y: Syntax) -> [u8; 256]
     put(&mut t, v.repetition, 3);
     put(&mut t, v.component, 2);
     put(&mut t, v.element, 4);
-    put(&mut t, v.terminator, 5);
-    put(&mut t, v.release, 6);
+    put(&mut t, v.terminator, TERMINATOR);
+    put(&mut t, v.release, RELEASE);
     put(&mut t, 32, 0);
     t
 }

@@ -4,12 +4,13 @@ use mathlib.Core.Path.{_≡_, refl, sym, _∙_}
 use mathlib.Core.Bool.{true, false}
 use lib.ListN.{length, drop}
 use Rattle.syntax.specs.Cutting.{cutAt}
-use Rattle.syntax.specs.CuttingLaws.{cut-runs, Cutting, cutting-none, cutting-on, cutting-end, cutting-bad, cutting-short, cutting-freed, cutting-freed-bad}
+use Rattle.syntax.specs.CuttingLaws.{Cutting, cutting-at, cutting-none, cutting-on, cutting-end, cutting-bad, cutting-short, cutting-freed, cutting-freed-bad}
 use Rattle.syntax.proofs.cutting.scan.Statement.{statement}
 use Rattle.syntax.proofs.cutting.scan.Tie as tie
 use Rattle.syntax.proofs.cutting.scan.Reads as reads
 use Rattle.syntax.proofs.cutting.scan.Lts as lts
 use Rattle.syntax.proofs.repertoire.class.Reads as class-reads
+use Rattle.syntax.proofs.cutting.run.Reads as run-reads
 use Rattle.syntax.proofs.cutting.spoilt.Reads as spoilt-reads
 use Rattle.syntax.proofs.cutting.stop.Reads as stop-reads
 
@@ -19,8 +20,11 @@ Inv-loop s from t y i₀ i = Cutting y (cutAt y s from) s i
 abbrev μ-loop : tie.MeasureT-loop
 μ-loop s from t y i₀ i = length s - i
 
+run-requires : tie.Need-run-requires Inv-loop μ-loop
+run-requires c κs = search needs
+
 loop-holds : tie.Need-loop-holds Inv-loop μ-loop
-loop-holds c = record { finds = sym (cut-runs (c .before .args .y) (c .before .args .s .now) (c .before .args .from)) }
+loop-holds c = cutting-at (c .run .ensures)
 
 shared-slice-read-class : tie.Need-shared-slice-read-class Inv-loop μ-loop
 shared-slice-read-class c = search needs
@@ -98,6 +102,7 @@ scan-spec =
     (tie.spec
     Inv-loop
     μ-loop
+    run-requires
     loop-holds
     shared-slice-read-class
     class-requires

@@ -1,4 +1,4 @@
-use Rattle.syntax.specs.SegmentLaws.{edge-in, edge-on}
+use Rattle.syntax.specs.SegmentLaws.{edge-in, edge-on, edge-end}
 use mathlib.Core.Path.{sym}
 use borrow.Author.Needs.{needs}
 use Rattle.syntax.proofs.reading.piece_end.Statement.{statement}
@@ -20,14 +20,23 @@ shared-slice-read-class c = let a = c .before .before .before .before .before .b
 class-requires : tie.Need-class-requires
 class-requires c κs = search needs
 
+returns : tie.Need-returns
+returns c =
+    let start = c .before .before .before .before .before .before .before .before in
+    edge-end (start .args .y) (start .args .s .now) (start .args .from) (c .before .before .before .before .before .before .stop .ensures) (c .before .before .before .before .q .given .1) (c .before .class .ensures)
+    (c .if1 .taken)
+
 enum-told : tie.Need-enum-told
 enum-told c = search needs
 
-returns : tie.Need-returns
-returns c = let a = c .before .before .before .before .before .before .before .args in edge-on (a .y) (a .s .now) (a .from) (c .before .before .before .before .before .stop .ensures) (c .before .before .before .q .given .1) (c .class .ensures)
-
 returns-2 : tie.Need-returns-2
-returns-2 c = rw (← c .before .before .stop .ensures, c .enum-told .given .1)
+returns-2 c =
+    let start = c .before .before .before .before .before .before .before .before in
+    edge-on (start .args .y) (start .args .s .now) (start .args .from) (c .before .before .before .before .before .before .stop .ensures) (c .before .before .before .before .q .given .1) (c .before .class .ensures)
+    (c .if1 .left)
+
+returns-3 : tie.Need-returns-3
+returns-3 c = rw (← c .before .before .stop .ensures, c .enum-told .given .1)
 
 pub piece-end-spec : {M : Type 1} → statement M
 piece-end-spec =
@@ -37,6 +46,7 @@ piece-end-spec =
     enum-known-q
     shared-slice-read-class
     class-requires
-    enum-told
     returns
-    returns-2)
+    enum-told
+    returns-2
+    returns-3)
