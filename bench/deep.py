@@ -1,24 +1,37 @@
 """deep.py FOLDER: files that a hostile sender would choose, always the same ones: worst-*.
 
 The judge keeps 0062 in a search tree. A reference is two numbers, its first seven octets and the others, each behind a 1; the way to it goes down by
-the bits of the two in turn, lowest first, from a root that their sum picks. References that end alike share the lowest bits, and so the way: each new
-one is compared with one on every level of it. Where only the first octets of the numbers differ, the root is the same for all.
+the bits of the two in turn, lowest first, from one of 4,021 roots (for an input of this size) that their sum picks. References that end alike and have
+the same root share the way: each new one is compared with one on every level of it.
 """
 import sys
+from itertools import product
 
-MOST = 65535
+MOST, ROOTS = 65535, 4021
 SIGNS = [b for b in [*range(0x21, 0x7F), *range(0xA0, 0x100)] if b not in b":+?*'"]
 UNB = b"UNB+UNOC:4+A+B+20240105:0700+R'"
 
 
-def two_first(n):
-    """References of n octets that differ in their first two."""
-    return (bytes([a, b]) + b"A" * (n - 2) for a in SIGNS for b in SIGNS)
+def number(octets):
+    return int.from_bytes(b"\1" + octets, "big")
+
+
+def same_root(refs):
+    """Those of them, in their order, that begin at the root where most do."""
+    groups = {}
+    for ref in refs:
+        groups.setdefault((number(ref[:7]) + number(ref[7:])) % ROOTS, []).append(ref)
+    return max(groups.values(), key=len)
+
+
+def first(k, n, some=SIGNS[::2]):
+    """References of n octets that differ in their first k."""
+    return same_root(bytes(x) + b"A" * (n - k) for x in product(some, repeat=k))
 
 
 def first_of_each():
-    """References of 14 octets that differ in the first of each half."""
-    return (bytes([a]) + b"A" * 6 + bytes([b]) + b"A" * 6 for a in SIGNS for b in SIGNS)
+    """References of 14 octets that differ in the first two, and in the first of the other seven."""
+    return same_root(bytes([a, b]) + b"A" * 5 + bytes([c]) + b"A" * 6 for a, b, c in product(SIGNS[::2], repeat=3))
 
 
 def interchange(refs, shown=lambda ref: ref):
@@ -47,9 +60,9 @@ def acknowledgement():
 
 
 def main(folder):
-    files = {f"deep-{n}": interchange(two_first(n)) for n in (3, 4, 5, 6, 7, 8, 10, 12, 14)}
+    files = {f"deep-{n}": interchange(first(3, n, SIGNS)) for n in (4, 5, 6, 7, 8, 10, 14)}
     files["deep-halves"] = interchange(first_of_each())
-    files["deep-7-freed"] = interchange(two_first(7), released)
+    files["deep-8-freed"] = interchange(first(3, 8, SIGNS), released)
     files["autack"] = acknowledgement()
     for name, octets in files.items():
         assert len(octets) <= MOST

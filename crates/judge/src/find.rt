@@ -83,12 +83,12 @@ fn find_among(
     t: &[u8; 256],
     y: Syntax,
     reference: &[u8],
-    links: &mut [u32],
-    buckets: &mut [u32],
+    names: &mut [u64],
+    slots: &mut [u16],
     rows: &mut [usize; 18],
 ) -> Found
     requires { ⌜ Table y (now t) ⌝ }
-    requires { ⌜ Fresh y (now s) (now links) (now buckets) ⌝ }
+    requires { ⌜ Fresh y (now s) (now names) (now slots) ⌝ }
     requires { ⌜ length (now rows) ≡ 18 ⌝ }
     ensures { λ r. ⌜ FoundIs y (now (s .entry)) from (now (reference .entry)) r (now (rows .exit)) ⌝ }
 {
@@ -113,8 +113,8 @@ fn find_among(
             st,
             &mut marks,
             &mut heads,
-            links,
-            buckets,
+            names,
+            slots,
             &mut here,
         ) {
             Reached::Stop(f) => {
@@ -156,9 +156,9 @@ fn find_small(
     requires { ⌜ (length (now s) ≤ 2048) × (length (now rows) ≡ 18) ⌝ }
     ensures { λ r. ⌜ FoundIs y (now (s .entry)) from (now (reference .entry)) r (now (rows .exit)) ⌝ }
 {
-    let mut links = [0u32; 1024];
-    let mut buckets = [0u32; 64];
-    find_among(s, from, t, y, reference, &mut links, &mut buckets, rows)
+    let mut names = [0u64; 512];
+    let mut slots = [0u16; 763];
+    find_among(s, from, t, y, reference, &mut names, &mut slots, rows)
 }
 
 fn find_large(
@@ -174,9 +174,9 @@ fn find_large(
     requires { ⌜ (length (now s) ≤ 65535) × (length (now rows) ≡ 18) ⌝ }
     ensures { λ r. ⌜ FoundIs y (now (s .entry)) from (now (reference .entry)) r (now (rows .exit)) ⌝ }
 {
-    let mut links = [0u32; 32768];
-    let mut buckets = [0u32; 2048];
-    find_among(s, from, t, y, reference, &mut links, &mut buckets, rows)
+    let mut names = [0u64; 16384];
+    let mut slots = [0u16; 20405];
+    find_among(s, from, t, y, reference, &mut names, &mut slots, rows)
 }
 
 // The message with the 0062 `reference`, of an interchange whose UNB stands at `from`.

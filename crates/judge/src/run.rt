@@ -64,17 +64,17 @@ fn refused(number: u8, place: usize) -> Verdict
     })
 }
 
-// Every section from `from` on: UNB, the messages, UNZ; the first bad segment decides. `links` has room for a message in each 8 octets.
+// Every section from `from` on: UNB, the messages, UNZ; the first bad segment decides. `names` has room for a message in each 8 octets.
 fn run(
     s: &[u8],
     from: usize,
     t: &[u8; 256],
     y: Syntax,
-    links: &mut [u32],
-    buckets: &mut [u32],
+    names: &mut [u64],
+    slots: &mut [u16],
 ) -> Verdict
     requires { ⌜ Table y (now t) ⌝ }
-    requires { ⌜ Fresh y (now s) (now links) (now buckets) ⌝ }
+    requires { ⌜ Fresh y (now s) (now names) (now slots) ⌝ }
     ensures { λ r. ⌜ told r ≡ walked (walk y start (chain (y .service) false (drop from (now (s .entry)))) from) ⌝ }
 {
     let mut marks = [0usize; 40];
@@ -95,8 +95,8 @@ fn run(
             st,
             &mut marks,
             &mut heads,
-            links,
-            buckets,
+            names,
+            slots,
             &mut rows,
         ) {
             Reached::Stop(f) => {
@@ -123,9 +123,9 @@ fn run_small(s: &[u8], from: usize, t: &[u8; 256], y: Syntax) -> Verdict
     requires { ⌜ length (now s) ≤ 2048 ⌝ }
     ensures { λ r. ⌜ told r ≡ walked (walk y start (chain (y .service) false (drop from (now (s .entry)))) from) ⌝ }
 {
-    let mut links = [0u32; 1024];
-    let mut buckets = [0u32; 64];
-    run(s, from, t, y, &mut links, &mut buckets)
+    let mut names = [0u64; 512];
+    let mut slots = [0u16; 763];
+    run(s, from, t, y, &mut names, &mut slots)
 }
 
 fn run_large(s: &[u8], from: usize, t: &[u8; 256], y: Syntax) -> Verdict
@@ -134,9 +134,9 @@ fn run_large(s: &[u8], from: usize, t: &[u8; 256], y: Syntax) -> Verdict
     requires { ⌜ length (now s) ≤ 65535 ⌝ }
     ensures { λ r. ⌜ told r ≡ walked (walk y start (chain (y .service) false (drop from (now (s .entry)))) from) ⌝ }
 {
-    let mut links = [0u32; 32768];
-    let mut buckets = [0u32; 2048];
-    run(s, from, t, y, &mut links, &mut buckets)
+    let mut names = [0u64; 16384];
+    let mut slots = [0u16; 20405];
+    run(s, from, t, y, &mut names, &mut slots)
 }
 
 // The verdict on one interchange in lent octets: any octets of any length.

@@ -1,15 +1,15 @@
--- Nothing is missed on the way along a bucket, and one more reference keeps the buckets chained.
-use Prim.Native.Nat.{ℕ, zero, suc, _+_, _-_, _*_, _%_, _≤_, _<_}
+-- The name of a content gives the content back; a search finds a name if it is there; one more reference keeps the tree.
+use Prim.Native.Nat.{ℕ, zero, suc, _+_, _-_, _*_, _/_, _%_, _≤_, _<_}
 use native.Mathlib.Numerals.{add-one}
 use native.Mathlib.Omega.{arith}
-use native.Mathlib.Nat.{mod-lt}
-use mathlib.Core.List.{List, [], _∷_}
-use mathlib.Core.Path.{_≡_, refl, ap, sym, _∙_}
-use mathlib.Core.Bool.{Bool, true, false, cond, _||_}
-use borrow.Author.Tests.{eq-eqb, ne-eqb, eqb-true, eqb-false}
-use lib.Dec.{T, eqb}
-use lib.ListN.{length, getD, drop, set, length-set, replicate, length-replicate, getD-replicate}
-use lib.Seq.{slice, getD-set-same, getD-set-other}
+use native.Mathlib.Nat.{suc-add, zero-add}
+use mathlib.Core.List.{List, [], _∷_, _++_, append-assoc, append-nil}
+use mathlib.Core.Path.{_≡_, refl, ap, sym, subst, _∙_}
+use mathlib.Core.Bool.{Bool, true, false, cond, not, _||_, or-true, false≢true}
+use borrow.Author.Tests.{eq-eqb, ne-eqb, eqb-true, eqb-false, le-leb, lt-leb}
+use lib.Dec.{T, eqb, leb}
+use lib.ListN.{length, getD, take, drop, set, length-set, length-drop, take-append-drop, length-append, replicate, length-replicate}
+use lib.Seq.{getD-set-same, getD-set-other, take-nil, drop-nil, drop-drop, take-add}
 use Rattle.syntax.specs.Octets.{same}
 use Rattle.syntax.specs.Content.{content, nextOf}
 use Rattle.syntax.specs.ContentLaws.{next-steps, next-over}
@@ -17,284 +17,480 @@ use Rattle.syntax.specs.declared.content.Next.{Next}
 use Rattle.syntax.specs.declared.content.Next.the-variants.{Octet, Over}
 use Rattle.grammar.specs.Lists.{_▷_, among}
 use Rattle.grammar.specs.PlacingLaws.{same-eq}
-use Rattle.references.specs.Refs.{refAt, refsIn, mixedFrom, mixedOf, bucketOf, lastIn, Chained}
+use Rattle.references.specs.Refs.{packed, octetsIn, headOf, tailOf, Named, isNamed, refAt, refsIn, rootOf, Leads, here, down, Reached, Indexed, WordOf, NameOf, Grown, Spot}
 
--- ---- the mixed number
+-- ---- the numbers
 
-pub mixed-small : (h : ℕ) (t : List ℕ) → h < 4294967296 → mixedFrom h t < 4294967296
-mixed-small h [] g = g
-mixed-small h (b ∷ t) g = mixed-small ((h * 16777619 + b + 1) % 4294967296) t (mod-lt (h * 16777619 + b + 1) (omega arith))
+-- what n octets behind a 1 stay below
+abbrev pub limit : ℕ → ℕ
+limit zero = 2
+limit (suc n) = limit n * 256
 
-pub bucket-small : {m : ℕ} → 0 < m → (t : List ℕ) → bucketOf m t < m
-bucket-small f t = mod-lt (mixedOf t) f
+limit-more : (n k : ℕ) → limit n ≤ limit (k + n)
+limit-more n zero = rw zero-add (omega arith)
+limit-more n (suc k) = let h = limit-more n k in rw (suc-add k n) (omega arith)
 
-pub record Mixing (ρ answer : ℕ) (x : List ℕ) (i h : ℕ) : Type 0 where
-  pub small : h < 4294967296
-  pub makes : answer ≡ mixedFrom h (content ρ (drop i x))
+pub limit-fits : (n k : ℕ) → n ≤ k → limit n ≤ limit k
+limit-fits n k h = let p : (k - n) + n ≡ k = omega arith in rw p at (limit-more n (k - n))
 
-module _ {ρ answer : ℕ} {x : List ℕ} {i h : ℕ} (u : Mixing ρ answer x i h) {r : Next} (e : r ≡ nextOf ρ (drop i x) i) where
-  pub mixing-end : r ≡ Over → h ≡ answer
-  mixing-end d = sym (u .makes ∙ ap (mixedFrom h) (next-over ρ x i e d))
+packed-more : (v : ℕ) (s : List ℕ) → v ≤ packed v s
+packed-more v [] = omega arith
+packed-more v (b ∷ s) = let h = packed-more (v * 256 + b) s in omega arith
 
-  module _ {b j : ℕ} (d : r ≡ Octet b j) where
-    pub mixing-less : length x - j < length x - i
-    mixing-less = let w = next-steps ρ x i e d in omega arith
-
-    pub mixing-on : {y : ℕ} → (y ≡ b) × (y < 256) → Mixing ρ answer x j ((h * 16777619 + y + 1) % 4294967296)
-    mixing-on {y} q = record {
-      small = mod-lt (h * 16777619 + y + 1) (omega arith);
-      makes = u .makes ∙ ap (mixedFrom h) (next-steps ρ x i e d .gives) ∙ rw (q .0);
-    }
-
--- contents that are the same have the same mixed number
-same-mixed : (u v : List ℕ) → (mixedOf u ≡ mixedOf v → ⊥) → same u v ≡ false
-same-mixed u v d = by-test (same u v) refl
+octets-few : (k v : ℕ) → length (octetsIn k v) ≤ k
+unfolding octetsIn
+octets-few zero v = omega arith
+octets-few (suc k) v = by-test (leb v 1) (octets-few k (v / 256))
   where
-    by-test : (t : Bool) → same u v ≡ t → t ≡ false
-    by-test true e = let k : T (same u v) = rw e tt in absurd (d (ap mixedOf (same-eq u v k)))
-    by-test false e = refl
+    by-test : (t : Bool) → length (octetsIn k (v / 256)) ≤ k → length (cond t [] (octetsIn k (v / 256) ++ v % 256 ∷ [])) ≤ suc k
+    by-test true h = omega arith
+    by-test false h = omega (arith, length-append (octetsIn k (v / 256)) (v % 256 ∷ []))
 
--- ---- along a bucket
+-- one octet more
+octets-on : (k v b : ℕ) → 1 ≤ v → b < 256 → octetsIn (suc k) (v * 256 + b) ≡ octetsIn k v ++ b ∷ []
+unfolding octetsIn
+octets-on k v b h l =
+    let p : (v * 256 + b) / 256 ≡ v = omega arith in
+    let q : (v * 256 + b) % 256 ≡ b = omega arith in
+    rw (lt-leb (v * 256 + b) 1 (omega arith), p, q)
 
-module _ (ρ : ℕ) (s links : List ℕ) (m : ℕ) where
-  last-le : (h n : ℕ) → lastIn ρ s links m h n ≤ n
-  last-le h zero = omega arith
-  last-le h (suc n) = by-test (eqb (bucketOf m (refAt ρ s links n)) h) (last-le h n)
-    where
-      by-test : (t : Bool) → lastIn ρ s links m h n ≤ n → cond t (suc n) (lastIn ρ s links m h n) ≤ suc n
-      by-test true r = omega arith
-      by-test false r = omega arith
+-- more room shows no more
+octets-one : (k v : ℕ) → v < 2 → octetsIn k v ≡ []
+unfolding octetsIn
+octets-one zero v h = refl
+octets-one (suc k) v h = rw (le-leb v 1 (omega arith))
 
-  -- what it leads to is in the bucket
-  last-in : (h n j : ℕ) → lastIn ρ s links m h n ≡ suc j → bucketOf m (refAt ρ s links j) ≡ h
-  last-in h zero j e = let z : ⊥ = omega arith in absurd z
-  last-in h (suc n) j e = by-test (eqb (bucketOf m (refAt ρ s links n)) h) refl e (last-in h n j)
-    where
-      by-test : (t : Bool) → eqb (bucketOf m (refAt ρ s links n)) h ≡ t → cond t (suc n) (lastIn ρ s links m h n) ≡ suc j →
-          (lastIn ρ s links m h n ≡ suc j → bucketOf m (refAt ρ s links j) ≡ h) → bucketOf m (refAt ρ s links j) ≡ h
-      by-test true d e r = let p : j ≡ n = omega arith in rw p (eqb-true _ h d)
-      by-test false d e r = r e
+octets-room : (j k v : ℕ) → v < limit k → octetsIn (j + k) v ≡ octetsIn k v
+unfolding octetsIn
+octets-room j zero v h = octets-one (j + zero) v h
+octets-room j (suc k) v h =
+    let p : v / 256 < limit k = omega arith in
+    let q : j + suc k ≡ suc (j + k) = omega arith in
+    rw (q, octets-room j k (v / 256) p)
 
-  -- nothing is missed between
-  used-skip : (v : List ℕ) (n : ℕ) → among (refsIn ρ s links n) v ≡ among (refsIn ρ s links (lastIn ρ s links m (bucketOf m v) n)) v
-  used-skip v zero = refl
-  used-skip v (suc n) = by-test (eqb (bucketOf m (refAt ρ s links n)) (bucketOf m v)) refl (same (refAt ρ s links n) v) refl (used-skip v n)
-    where
-      by-test : (t : Bool) → eqb (bucketOf m (refAt ρ s links n)) (bucketOf m v) ≡ t → (q : Bool) → same (refAt ρ s links n) v ≡ q →
-          among (refsIn ρ s links n) v ≡ among (refsIn ρ s links (lastIn ρ s links m (bucketOf m v) n)) v →
-          (q || among (refsIn ρ s links n) v) ≡ among (refsIn ρ s links (cond t (suc n) (lastIn ρ s links m (bucketOf m v) n))) v
-      by-test true d q e r = ap (λ (x : Bool). x || among (refsIn ρ s links n) v) (sym e)
-      by-test false d true e r =
-          let k : T (same (refAt ρ s links n) v) = rw e tt in
-          absurd (eqb-false _ _ d (ap (bucketOf m) (same-eq (refAt ρ s links n) v k)))
-      by-test false d false e r = r
+-- a number under way: n octets of the content from `from` of x are in v, and the others come from i on
+pub record Packing (ρ : ℕ) (x : List ℕ) (from i v n : ℕ) : Type 0 where
+  pub few : n ≤ 7
+  pub one : 1 ≤ v
+  pub small : v < limit n
+  pub made : packed v (take (7 - n) (content ρ (drop i x))) ≡ packed 1 (take 7 (content ρ (drop from x)))
+  pub shows : octetsIn n v ++ take (7 - n) (content ρ (drop i x)) ≡ take 7 (content ρ (drop from x))
+  pub rest : drop (7 - n) (content ρ (drop i x)) ≡ drop 7 (content ρ (drop from x))
 
--- a search under way: the answer is whether one of the first k has the content v
-pub record Seeking (ρ : ℕ) (s links : List ℕ) (m : ℕ) (v : List ℕ) (n : ℕ) (answer : Bool) (k : ℕ) : Type 0 where
-  pub below : k ≤ n
-  pub finds : answer ≡ among (refsIn ρ s links k) v
-  pub inside : (j : ℕ) → k ≡ suc j → bucketOf m (refAt ρ s links j) ≡ bucketOf m v
+pub packing-start : (ρ : ℕ) (x : List ℕ) (from : ℕ) → Packing ρ x from from 1 0
+unfolding octetsIn
+packing-start ρ x from = record { few = omega arith; one = omega arith; small = omega arith; made = refl; shows = refl; rest = refl }
 
-module _ {ρ : ℕ} {s links heads : List ℕ} {n : ℕ} (g : Chained ρ s links heads n) where
-  pub seeking-start : (v : List ℕ) {b h k : ℕ} → h ≡ mixedOf v → b ≡ h % length heads → k ≡ getD heads b 0 → Seeking ρ s links (length heads) v n (among (refsIn ρ s links n) v) k
-  seeking-start v {b} {h} {k} q e d =
-      let z : b ≡ bucketOf (length heads) v = e ∙ ap (λ (y : ℕ). y % length heads) q in
-      let w : k ≡ lastIn ρ s links (length heads) (bucketOf (length heads) v) n = d ∙ ap (λ (y : ℕ). getD heads y 0) z ∙ g .head (bucketOf (length heads) v) (bucket-small (g .size) v) in
+module _ {ρ : ℕ} {x : List ℕ} {from i v n : ℕ} (u : Packing ρ x from i v n) where
+  -- nothing is left to take
+  packing-word : (over : Bool) → (take (7 - n) (content ρ (drop i x)) ≡ []) → (drop (7 - n) (content ρ (drop i x)) ≡ content ρ (drop i x))
+      → (over ≡ true → content ρ (drop i x) ≡ []) → WordOf ρ x from v i over
+  packing-word over e d z =
+      let p = limit-fits n 7 (u .few) in
+      let l = u .small in
+      let q : (7 - n) + n ≡ 7 = omega (arith, u .few) in
       record {
-        below = rw w (last-le ρ s links (length heads) (bucketOf (length heads) v) n);
-        finds = used-skip ρ s links (length heads) v n ∙ ap (λ (y : ℕ). among (refsIn ρ s links y) v) (sym w);
-        inside = λ j y. last-in ρ s links (length heads) (bucketOf (length heads) v) n j (sym w ∙ y);
+        small = omega (arith, p, l);
+        made = ap (packed v) (sym e) ∙ u .made;
+        shows = rw q at (octets-room (7 - n) n v l) ∙ sym (append-nil (octetsIn n v)) ∙ ap (λ (z : List ℕ). octetsIn n v ++ z) (sym e) ∙ u .shows;
+        rest = sym d ∙ u .rest;
+        last = z;
       }
 
-  module _ {v : List ℕ} {answer : Bool} {k : ℕ} (u : Seeking ρ s links (length heads) v n answer k) (h : 0 < k) where
-    pub seeking-in : k - 1 < n
-    seeking-in = omega (arith, u .below)
+  -- one octet more fits
+  pub packing-fits : n < 7 → v < 562949953421312
+  packing-fits h = let p = limit-fits n 6 (omega arith) in omega (arith, p, u .small)
 
-    seeking-step : {r : Bool} → r ≡ same (refAt ρ s links (k - 1)) v → answer ≡ (r || among (refsIn ρ s links (k - 1)) v)
-    seeking-step e =
-        let z : k ≡ suc (k - 1) = omega arith in
-        u .finds ∙ ap (λ (y : ℕ). among (refsIn ρ s links y) v) z ∙ ap (λ (x : Bool). x || among (refsIn ρ s links (k - 1)) v) (sym e)
+  pub packing-full : 7 ≤ n → WordOf ρ x from v i false
+  packing-full h = let p : 7 - n ≡ 0 = omega arith in packing-word false (rw p) (rw p) (λ (z : false ≡ true). absurd (false≢true z))
 
-    pub seeking-hit : {r : Bool} → r ≡ same (refAt ρ s links (k - 1)) v → r ≡ true → true ≡ answer
-    seeking-hit e d = sym (seeking-step e ∙ rw d)
+  module _ {r : Next} (e : r ≡ nextOf ρ (drop i x) i) where
+    pub packing-end : r ≡ Over → WordOf ρ x from v i true
+    packing-end d = let p = next-over ρ x i e d in packing-word true (rw (p, take-nil)) (rw (p, drop-nil)) (λ z. p)
 
-    module _ {m : ℕ} (q : m ≡ getD links (4 * (k - 1) + 3) 0) where
-      pub seeking-less : m < k
-      seeking-less =
-          let w = q ∙ g .link (k - 1) seeking-in in
-          let o = last-le ρ s links (length heads) (bucketOf (length heads) (refAt ρ s links (k - 1))) (k - 1) in
-          omega arith
+    module _ {b j : ℕ} (d : r ≡ Octet b j) where
+      pub packing-on : n < 7 → {y : ℕ} → (y ≡ b) × (y < 256) → Packing ρ x from j (v * 256 + y) (n + 1)
+      packing-on h {y} q =
+          let w = next-steps ρ x i e d .gives in
+          let p : 7 - n ≡ suc (7 - suc n) = omega arith in
+          let z : take (7 - n) (content ρ (drop i x)) ≡ y ∷ take (7 - suc n) (content ρ (drop j x)) = rw (p, w, q .0) in
+          let d : drop (7 - n) (content ρ (drop i x)) ≡ drop (7 - suc n) (content ρ (drop j x)) = rw (p, w) in
+          let o = u .one in
+          let l = u .small in
+          rw (add-one n)
+          (record {
+            few = h;
+            one = omega arith;
+            small = omega (arith, l, q .1);
+            made = sym (ap (packed v) z) ∙ u .made;
+            shows = rw (octets-on n v y o (q .1), append-assoc) (sym (ap (λ (s : List ℕ). octetsIn n v ++ s) z) ∙ u .shows);
+            rest = sym d ∙ u .rest;
+          })
 
-      pub seeking-on : {r : Bool} → r ≡ same (refAt ρ s links (k - 1)) v → r ≡ false → Seeking ρ s links (length heads) v n answer m
-      seeking-on e d =
-          let z : k ≡ suc (k - 1) = omega arith in
-          let a = u .below in
-          let b : bucketOf (length heads) (refAt ρ s links (k - 1)) ≡ bucketOf (length heads) v = u .inside (k - 1) z in
-          let w : m ≡ lastIn ρ s links (length heads) (bucketOf (length heads) v) (k - 1) = q ∙ g .link (k - 1) seeking-in ∙ ap (λ (y : ℕ). lastIn ρ s links (length heads) y (k - 1)) b in
-          let f : answer ≡ among (refsIn ρ s links (k - 1)) v = seeking-step e ∙ rw d in
-          let o = last-le ρ s links (length heads) (bucketOf (length heads) v) (k - 1) in
+-- the name of a content: one word, or two, and whether more comes
+whole : (n : ℕ) (t : List ℕ) → drop n t ≡ [] → take n t ≡ t
+whole n t e = sym (append-nil (take n t)) ∙ ap (λ (s : List ℕ). take n t ++ s) (sym e) ∙ take-append-drop n t
+
+pub name-short : {ρ : ℕ} {x : List ℕ} {v a : ℕ} {o : Bool} → WordOf ρ x 0 v a o → o ≡ true → NameOf (content ρ x) v 1
+name-short {ρ} {x} {v} {a} f d =
+    let p : drop 7 (content ρ x) ≡ [] = sym (f .rest) ∙ f .last d in
+    record {
+      first = f .small;
+      second = omega arith;
+      made = λ h. (f .made, rw p);
+      shows = λ h. rw (octets-one 7 1 (omega arith)) (append-nil (octetsIn 7 v) ∙ f .shows ∙ whole 7 (content ρ x) p);
+    }
+
+module _ {ρ : ℕ} {x : List ℕ} {v a w b : ℕ} {o q : Bool} (f : WordOf ρ x 0 v a o) (g : WordOf ρ x a w b q) where
+  name-rest : content ρ (drop b x) ≡ drop 14 (content ρ x)
+  name-rest = g .rest ∙ rw (f .rest, drop-drop)
+
+  name-both : content ρ (drop b x) ≡ [] → NameOf (content ρ x) v w
+  name-both z =
+      let p : drop 14 (content ρ x) ≡ [] = sym name-rest ∙ z in
+      record {
+        first = f .small;
+        second = g .small;
+        made = λ h. (f .made, g .made ∙ ap (λ (s : List ℕ). packed 1 (take 7 s)) (f .rest));
+        shows = λ h. rw (f .shows, g .shows, f .rest) (sym (take-add 7 7 (content ρ x)) ∙ whole 14 (content ρ x) p);
+      }
+
+  pub name-two : q ≡ true → NameOf (content ρ x) v w
+  name-two d = name-both (g .last d)
+
+  module _ {r : Next} (e : r ≡ nextOf ρ (drop b x) b) where
+    pub name-full : r ≡ Over → NameOf (content ρ x) v w
+    name-full d = name-both (next-over ρ x b e d)
+
+    pub name-long : {c j : ℕ} → r ≡ Octet c j → NameOf (content ρ x) 0 0
+    name-long {c} {j} d =
+        let p : drop 14 (content ρ x) ≡ c ∷ content ρ (drop j x) = sym name-rest ∙ next-steps ρ x b e d .gives in
+        let k : length (content ρ x) - 14 ≡ suc (length (content ρ (drop j x))) = sym (length-drop 14 (content ρ x)) ∙ ap length p in
+        record {
+          first = omega arith;
+          second = omega arith;
+          made = λ h. absurd (let z : ⊥ = omega arith in z);
+          shows = λ h. absurd (let z : ⊥ = omega arith in z);
+        }
+
+pub name-same : (ρ : ℕ) {x z : List ℕ} {h e : ℕ} → x ≡ z → NameOf (content ρ x) h e → NameOf (content ρ z) h e
+name-same ρ {x} {z} {h} {e} d w = subst (λ (y : List ℕ). NameOf (content ρ y) h e) d w
+
+-- ---- the references
+
+named-is : (names : List ℕ) (k h e : ℕ) → isNamed names k h e ≡ true → Named names k h e
+named-is names k h e q = by-test (eqb (getD names (2 * k) 0) h) refl q
+  where
+    by-test : (t : Bool) → eqb (getD names (2 * k) 0) h ≡ t → cond t (eqb (getD names (2 * k + 1) 0) e) false ≡ true → Named names k h e
+    by-test true d q = (eqb-true _ h d, eqb-true _ e q)
+    by-test false d q = absurd (let z : _≡_ {A = ℕ} 0 1 = cc in omega arith)
+
+named-not : (names : List ℕ) (k h e : ℕ) → isNamed names k h e ≡ false → Named names k h e → ⊥
+named-not names k h e q w =
+    let z : isNamed names k h e ≡ true = rw (eq-eqb _ h (w .0)) (eq-eqb _ e (w .1)) in
+    let o : _≡_ {A = Bool} true false = sym z ∙ q in
+    let u : _≡_ {A = ℕ} 0 1 = cc in omega arith
+
+pub named-other : (names : List ℕ) (k h e : ℕ) → (getD names (2 * k) 0 ≡ h → ⊥) → false ≡ isNamed names k h e
+named-other names k h e d = rw (ne-eqb _ h d)
+
+pub named-same : (names : List ℕ) (k h e : ℕ) → getD names (2 * k) 0 ≡ h → eqb (getD names (2 * k + 1) 0) e ≡ isNamed names k h e
+named-same names k h e d = rw (eq-eqb _ h d)
+
+ref-short : (names : List ℕ) (k : ℕ) → length (refAt names k) ≤ 14
+ref-short names k =
+    let a = octets-few 7 (getD names (2 * k) 0) in
+    let b = octets-few 7 (getD names (2 * k + 1) 0) in
+    omega (arith, length-append (octetsIn 7 (getD names (2 * k) 0)) (octetsIn 7 (getD names (2 * k + 1) 0)))
+
+-- the name of a content is that of the references that have it
+module _ {names slots : List ℕ} {n : ℕ} (g : Indexed names slots n) {t : List ℕ} {h e : ℕ} (w : NameOf t h e) where
+  name-of : (k : ℕ) → k < n → refAt names k ≡ t → Named names k h e
+  name-of k l q =
+      let m = w .made (rw (← q) (ref-short names k)) in
+      let o = g .named k l in
+      (o .0 ∙ ap headOf q ∙ sym (m .0), o .1 ∙ ap tailOf q ∙ sym (m .1))
+
+  of-name : (k : ℕ) → k < n → Named names k h e → refAt names k ≡ t
+  of-name k l q =
+      let o = g .named k l in
+      let u = packed-more 1 (take 7 (refAt names k)) in
+      let z : 0 < h = omega (arith, u, q .0, o .0) in
+      rw (q .0, q .1) (w .shows z)
+
+among-none : (names t : List ℕ) (n : ℕ) → ((k : ℕ) → k < n → refAt names k ≡ t → ⊥) → among (refsIn names n) t ≡ false
+among-none names t zero f = refl
+among-none names t (suc n) f = by-test (same (refAt names n) t) refl (among-none names t n (λ k l. f k (omega arith)))
+  where
+    by-test : (q : Bool) → same (refAt names n) t ≡ q → among (refsIn names n) t ≡ false → (q || among (refsIn names n) t) ≡ false
+    by-test true d r = let k : T (same (refAt names n) t) = rw d tt in absurd (f n (omega arith) (same-eq (refAt names n) t k))
+    by-test false d r = r
+
+same-self : (t : List ℕ) → same t t ≡ true
+same-self [] = refl
+same-self (b ∷ t) = rw (eq-eqb b b refl) (same-self t)
+
+among-some : (names t : List ℕ) (n k : ℕ) → k < n → refAt names k ≡ t → among (refsIn names n) t ≡ true
+among-some names t zero k l e = absurd (let z : ⊥ = omega arith in z)
+among-some names t (suc n) k l e = by-test (eqb k n) refl (among-some names t n k)
+  where
+    by-test : (q : Bool) → eqb k n ≡ q → (k < n → refAt names k ≡ t → among (refsIn names n) t ≡ true) → (same (refAt names n) t || among (refsIn names n) t) ≡ true
+    by-test true d r = let z = eqb-true k n d in rw (← z, e, same-self t)
+    by-test false d r = let z = eqb-false k n d in rw (r (omega arith) e) (or-true (same (refAt names n) t))
+
+-- ---- along a way
+
+not-zero : {n k : ℕ} → n ≡ 0 → n ≡ suc k → ⊥
+not-zero e d = omega arith
+
+same-place : {n k j : ℕ} → n ≡ suc k → n ≡ suc j → k ≡ j
+same-place e d = omega arith
+
+-- a way that is taken over
+module _ {m : ℕ} {names names′ slots slots′ : List ℕ} (grown : Grown slots slots′) {h e : ℕ}
+    (kept : (i k : ℕ) → getD slots i 0 ≡ suc k → Named names k h e → Named names′ k h e) where
+  leads-kept : {i a b : ℕ} → Leads m names slots h e i a b → Leads m names′ slots′ h e i a b
+  leads-kept (here {i} {a} {b} {k} d w) = here (grown i k d) (kept i k d w)
+  leads-kept (down {i} {a} {b} {k} d l) = down (grown i k d) (leads-kept l)
+
+module _ {m : ℕ} {names slots : List ℕ} {h e i a b : ℕ} where
+  -- nothing is behind a free slot
+  leads-none : Leads m names slots h e i a b → getD slots i 0 ≡ 0 → ⊥
+  leads-none (here d w) z = not-zero z d
+  leads-none (down d l) z = not-zero z d
+
+  -- behind a reference of another name the way goes on
+  leads-on : Leads m names slots h e i a b → {k : ℕ} → getD slots i 0 ≡ suc k → (Named names k h e → ⊥) → Leads m names slots h e (m + 2 * k + a % 2) b (a / 2)
+  leads-on (here d w) q f = absurd (f (rw (same-place q d) w))
+  leads-on (down d l) q f = rw (same-place q d) l
+
+-- a search under way: at slot i with the bits a and b left, a reference of this name is still ahead, and what is ahead is on the name's way
+pub record Seeking (names slots : List ℕ) (n h e i a b : ℕ) : Type 0 where
+  pub inside : i < length slots - length names + 2 * n
+  pub ahead : (k : ℕ) → k < n → Named names k h e → Leads (length slots - length names) names slots h e i a b
+  pub back : (names′ slots′ : List ℕ) → Grown slots slots′ → Leads (length slots - length names) names′ slots′ h e i a b
+      → Reached (length slots - length names) names′ slots′ h e
+
+module _ {names slots : List ℕ} {n : ℕ} (g : Indexed names slots n) where
+  pub seeking-start : {h e i m : ℕ} → m ≡ length slots - length names → (i ≡ rootOf m h e) × (i < m) → Seeking names slots n h e i h e
+  seeking-start {h} {e} {i} {m} q d =
+      let p : i ≡ rootOf (length slots - length names) h e = d .0 ∙ ap (λ (z : ℕ). rootOf z h e) q in
+      record {
+        inside = omega (arith, d .1, q);
+        ahead = λ k l w. rw p (g .leads k h e l w);
+        back = λ names′ slots′ o l. rw p at l;
+      }
+
+  module _ {h e i a b : ℕ} (u : Seeking names slots n h e i a b) where
+    pub seeking-in : i < length slots
+    seeking-in = let p = u .inside in let q = g .room in let r = g .rooted in omega arith
+
+    -- the slot is free
+    pub seeking-free : {k : ℕ} → k ≡ getD slots i 0 → k ≡ 0 → Spot names slots n h e i
+    seeking-free q z =
+        let p : getD slots i 0 ≡ 0 = sym q ∙ z in
+        record {
+          inside = u .inside;
+          held = λ k d. absurd (not-zero p d);
+          free = λ o k l w. leads-none (u .ahead k l w) p;
+          finds = λ names′ slots′ o k d w. u .back names′ slots′ o (here d w);
+        }
+
+    module _ {k : ℕ} (q : k ≡ getD slots i 0) (z : k ≡ 0 → ⊥) where
+      seeking-holds : getD slots i 0 ≡ suc (k - 1)
+      seeking-holds = omega arith
+
+      pub seeking-names : 2 * (k - 1) + 1 < length names
+      seeking-names = let o = g .falls i (k - 1) seeking-holds .0 in let p = g .room in omega arith
+
+      -- it holds the name
+      pub seeking-found : isNamed names (k - 1) h e ≡ true → Spot names slots n h e i
+      seeking-found d =
+          let o = seeking-holds in
+          let w = named-is names (k - 1) h e d in
           record {
-            below = omega arith;
-            finds = f ∙ used-skip ρ s links (length heads) v (k - 1) ∙ ap (λ (y : ℕ). among (refsIn ρ s links y) v) (sym w);
-            inside = λ j y. last-in ρ s links (length heads) (bucketOf (length heads) v) (k - 1) j (sym w ∙ y);
+            inside = u .inside;
+            held = λ j y. let p = same-place o y in (rw (← p) (g .falls i (k - 1) o .0), rw (← p) w);
+            free = λ y. absurd (not-zero y o);
+            finds = λ names′ slots′ o k d w. u .back names′ slots′ o (here d w);
           }
 
-  -- one reference against a content
-  pub held-other : (v : List ℕ) {j h : ℕ} → j < n → h ≡ mixedOf v → (getD links (4 * j + 2) 0 ≡ h → ⊥) → false ≡ same (refAt ρ s links j) v
-  held-other v {j} a e d = sym (same-mixed (refAt ρ s links j) v (λ y. d (g .mixes j a ∙ y ∙ sym e)))
+      -- it holds another
+      module _ {r : ℕ} (y : (r ≡ a % 2) × (r < 2)) {m : ℕ} (s : m ≡ length slots - length names) where
+        pub seeking-less : length slots - (m + 2 * (k - 1) + r) < length slots - i
+        seeking-less =
+            let o = g .falls i (k - 1) seeking-holds in
+            let p = seeking-in in
+            omega (arith, o .1, s)
 
-  pub held-same : (v : List ℕ) (k : ℕ) {a e : ℕ} {z : List ℕ} {r : Bool} → z ≡ slice a e s → a ≡ getD links (4 * k) 0 → e ≡ getD links (4 * k + 1) 0 →
-      r ≡ same (content ρ z) v → r ≡ same (refAt ρ s links k) v
-  held-same v k o p q d = rw (← p, ← q, ← o) d
+        pub seeking-on : isNamed names (k - 1) h e ≡ false → Seeking names slots n h e (m + 2 * (k - 1) + r) b (a / 2)
+        seeking-on d =
+            let o = g .falls i (k - 1) seeking-holds in
+            let p : m + 2 * (k - 1) + r ≡ length slots - length names + 2 * (k - 1) + a % 2 = rw (s, y .0) in
+            record {
+              inside = omega (arith, o .0, y .1, s);
+              ahead = λ j l w. rw p (leads-on (u .ahead j l w) seeking-holds (named-not names (k - 1) h e d));
+              back = λ names′ slots′ f l. u .back names′ slots′ f (down (f i (k - 1) seeking-holds) (rw p at l));
+            }
 
-  -- there is room for one more
-  pub chained-room : 4 * n + 4 ≤ length links → (4 * n + 1 < length links) × (4 * n + 2 < length links) × (4 * n + 3 < length links)
-  chained-room f = (omega arith, omega arith, omega arith)
-
-pub seeking-end : {ρ : ℕ} {s links : List ℕ} {m : ℕ} {v : List ℕ} {n : ℕ} {answer : Bool} {k : ℕ} → Seeking ρ s links m v n answer k → k ≤ 0 → false ≡ answer
-seeking-end {ρ} {s} {links} {m} {v} {n} {answer} {k} u h = let z : k ≡ 0 = omega arith in sym (u .finds ∙ ap (λ (y : ℕ). among (refsIn ρ s links y) v) z)
+  -- whether the slot is taken says whether the content is there
+  pub used-is : {t : List ℕ} {h e i : ℕ} → NameOf t h e → Spot names slots n h e i → not (eqb (getD slots i 0) 0) ≡ among (refsIn names n) t
+  used-is {t} {h} {e} {i} w s = by-slot (getD slots i 0) refl
+    where
+      by-slot : (q : ℕ) → getD slots i 0 ≡ q → not (eqb q 0) ≡ among (refsIn names n) t
+      by-slot zero d = sym (among-none names t n (λ k l z. s .free d k l (name-of g w k l z)))
+      by-slot (suc k) d =
+          let o = s .held k d in
+          rw (ne-eqb (suc k) 0 (λ (z : suc k ≡ 0). omega arith)) (sym (among-some names t n k (o .0) (of-name g w k (o .0) (o .1))))
 
 -- ---- one more reference
 
--- what is written at j for it
-abbrev pub put : List ℕ → ℕ → ℕ → ℕ → ℕ → ℕ → List ℕ
-put l j a e h p = set (set (set (set l j a) (j + 1) e) (j + 2) h) (j + 3) p
+-- its name is written at 2 * n
+abbrev pub put : List ℕ → ℕ → ℕ → ℕ → List ℕ
+put names n h e = set (set names (2 * n) h) (2 * n + 1) e
 
-module _ (l : List ℕ) (j a e h p : ℕ) where
-  put-length : length (put l j a e h p) ≡ length l
-  put-length = rw (length-set, length-set, length-set, length-set)
+module _ (names : List ℕ) (n h e : ℕ) where
+  put-length : length (put names n h e) ≡ length names
+  put-length = rw (length-set, length-set)
 
-  put-other : (i : ℕ) → i < j → getD (put l j a e h p) i 0 ≡ getD l i 0
-  put-other i m =
-      getD-set-other (set (set (set l j a) (j + 1) e) (j + 2) h) (j + 3) i p 0 (λ (z : i ≡ j + 3). omega arith) ∙
-      getD-set-other (set (set l j a) (j + 1) e) (j + 2) i h 0 (λ (z : i ≡ j + 2). omega arith) ∙
-      getD-set-other (set l j a) (j + 1) i e 0 (λ (z : i ≡ j + 1). omega arith) ∙
-      getD-set-other l j i a 0 (λ (z : i ≡ j). omega arith)
+  put-other : (j : ℕ) → j < 2 * n → getD (put names n h e) j 0 ≡ getD names j 0
+  put-other j l =
+      getD-set-other (set names (2 * n) h) (2 * n + 1) j e 0 (λ (z : j ≡ 2 * n + 1). omega arith)
+      ∙ getD-set-other names (2 * n) j h 0 (λ (z : j ≡ 2 * n). omega arith)
 
-  module _ (f : j + 3 < length l) where
-    put-start : getD (put l j a e h p) j 0 ≡ a
-    put-start =
-        getD-set-other (set (set (set l j a) (j + 1) e) (j + 2) h) (j + 3) j p 0 (λ (z : j ≡ j + 3). omega arith) ∙
-        getD-set-other (set (set l j a) (j + 1) e) (j + 2) j h 0 (λ (z : j ≡ j + 2). omega arith) ∙
-        getD-set-other (set l j a) (j + 1) j e 0 (λ (z : j ≡ j + 1). omega arith) ∙
-        getD-set-same l j a 0 (omega arith)
+  put-named : (k : ℕ) → k < n → {h′ e′ : ℕ} → Named names k h′ e′ → Named (put names n h e) k h′ e′
+  put-named k l w = (put-other (2 * k) (omega arith) ∙ w .0, put-other (2 * k + 1) (omega arith) ∙ w .1)
 
-    put-end : getD (put l j a e h p) (j + 1) 0 ≡ e
-    put-end =
-        getD-set-other (set (set (set l j a) (j + 1) e) (j + 2) h) (j + 3) (j + 1) p 0 (λ (z : j + 1 ≡ j + 3). omega arith) ∙
-        getD-set-other (set (set l j a) (j + 1) e) (j + 2) (j + 1) h 0 (λ (z : j + 1 ≡ j + 2). omega arith) ∙
-        getD-set-same (set l j a) (j + 1) e 0 (rw length-set (omega arith))
+  put-back : (k : ℕ) → k < n → {h′ e′ : ℕ} → Named (put names n h e) k h′ e′ → Named names k h′ e′
+  put-back k l w = (sym (put-other (2 * k) (omega arith)) ∙ w .0, sym (put-other (2 * k + 1) (omega arith)) ∙ w .1)
 
-    put-mixed : getD (put l j a e h p) (j + 2) 0 ≡ h
-    put-mixed =
-        getD-set-other (set (set (set l j a) (j + 1) e) (j + 2) h) (j + 3) (j + 2) p 0 (λ (z : j + 2 ≡ j + 3). omega arith) ∙
-        getD-set-same (set (set l j a) (j + 1) e) (j + 2) h 0 (rw (length-set, length-set) (omega arith))
+  ref-same : (k : ℕ) → k < n → refAt (put names n h e) k ≡ refAt names k
+  ref-same k l = rw (put-other (2 * k) (omega arith), put-other (2 * k + 1) (omega arith))
 
-    put-link : getD (put l j a e h p) (j + 3) 0 ≡ p
-    put-link = getD-set-same (set (set (set l j a) (j + 1) e) (j + 2) h) (j + 3) p 0 (rw (length-set, length-set, length-set) f)
-
-module _ (ρ : ℕ) (s links : List ℕ) (n a e h p : ℕ) where
-  ref-same : (k : ℕ) → k < n → refAt ρ s (put links (4 * n) a e h p) k ≡ refAt ρ s links k
-  ref-same k m = rw (put-other links (4 * n) a e h p (4 * k) (omega arith), put-other links (4 * n) a e h p (4 * k + 1) (omega arith))
-
-  ref-new : 4 * n + 3 < length links → refAt ρ s (put links (4 * n) a e h p) n ≡ content ρ (slice a e s)
-  ref-new m = rw (put-start links (4 * n) a e h p m, put-end links (4 * n) a e h p m)
-
-  refs-same : (m : ℕ) → m ≤ n → refsIn ρ s (put links (4 * n) a e h p) m ≡ refsIn ρ s links m
+  refs-same : (m : ℕ) → m ≤ n → refsIn (put names n h e) m ≡ refsIn names m
   refs-same zero l = refl
   refs-same (suc m) l = rw (refs-same m (omega arith), ref-same m (omega arith))
 
-  last-same : (c y m : ℕ) → m ≤ n → lastIn ρ s (put links (4 * n) a e h p) c y m ≡ lastIn ρ s links c y m
-  last-same c y zero l = refl
-  last-same c y (suc m) l = rw (ref-same m (omega arith), last-same c y m (omega arith))
+  put-new : 2 * n + 2 ≤ length names → Named (put names n h e) n h e
+  put-new l = (
+    getD-set-other (set names (2 * n) h) (2 * n + 1) (2 * n) e 0 (λ (z : 2 * n ≡ 2 * n + 1). omega arith) ∙ getD-set-same names (2 * n) h 0 (omega arith),
+    getD-set-same (set names (2 * n) h) (2 * n + 1) e 0 (rw length-set (omega arith)),
+  )
 
-module _ {ρ : ℕ} {s links heads : List ℕ} {n : ℕ} (g : Chained ρ s links heads n) (f : 4 * n + 4 ≤ length links) (few : n < 4294967295) (a e : ℕ) {z : List ℕ} {h b : ℕ}
-    (o : z ≡ slice a e s) (q : h ≡ mixedOf (content ρ z)) (y : b ≡ h % length heads) where
-  fresh : h ≡ mixedOf (content ρ (slice a e s))
-  fresh = q ∙ ap (λ (t : List ℕ). mixedOf (content ρ t)) o
+pub note-room : (names : List ℕ) (n : ℕ) → 2 * n + 2 ≤ length names → 2 * n + 1 < length names
+note-room names n l = omega arith
 
-  roomy : 4 * n + 3 < length links
-  roomy = omega arith
+module _ {names slots : List ℕ} {n : ℕ} (g : Indexed names slots n) (room : 2 * n + 2 ≤ length names) (few : n < 65535) {t : List ℕ} (short : length t ≤ 14)
+    {h e i : ℕ} (w : NameOf t h e) (s : Spot names slots n h e i) where
+  new-ref : refAt (put names n h e) n ≡ t
+  new-ref =
+      let o = put-new names n h e room in
+      let m = w .made short in
+      let u = packed-more 1 (take 7 t) in
+      rw (o .0, o .1) (w .shows (omega (arith, u, m .0)))
 
-  noted-refs : refsIn ρ s (put links (4 * n) a e h (getD heads b 0)) (n + 1) ≡ refsIn ρ s links n ▷ content ρ (slice a e s)
-  noted-refs = rw (add-one n, refs-same ρ s links n a e h (getD heads b 0) n (omega arith), ref-new ρ s links n a e h (getD heads b 0) roomy)
+  noted-refs : refsIn (put names n h e) (n + 1) ≡ refsIn names n ▷ t
+  noted-refs = rw (add-one n, refs-same names n h e n (omega arith), new-ref)
 
-  noted-lengths : (length (put links (4 * n) a e h (getD heads b 0)) ≡ length links) × (length (set heads b (n + 1)) ≡ length heads)
-  noted-lengths = (put-length links (4 * n) a e h (getD heads b 0), length-set heads b (n + 1))
+  -- with slots that still hold what they held, and at i a reference of the new name
+  module _ (slots′ : List ℕ) (size : length slots′ ≡ length slots) (grown : Grown slots slots′) {j : ℕ} (at : getD slots′ i 0 ≡ suc j) (new : Named (put names n h e) j h e)
+      (falls : (i k : ℕ) → getD slots′ i 0 ≡ suc k → (k < suc n) × (i < length slots - length names + 2 * k)) where
+    roots : length slots′ - length (put names n h e) ≡ length slots - length names
+    roots = rw (size, put-length names n h e)
 
-  noted-chained : Chained ρ s (put links (4 * n) a e h (getD heads b 0)) (set heads b (n + 1)) (n + 1)
-  noted-chained = record {
-    few = omega arith;
-    room = rw (noted-lengths .0) (omega arith);
-    size = rw sized (g .size);
-    head = λ i l. rw sized (head-at i (rw sized at l) (eqb i b) refl);
-    mixes = λ j l. mixed-at j l (eqb j n) refl;
-    link = λ j l. rw sized (link-at j l (eqb j n) refl);
-  }
+    named-at : (k : ℕ) → k < suc n → (b : Bool) → eqb k n ≡ b → Named (put names n h e) k (headOf (refAt (put names n h e) k)) (tailOf (refAt (put names n h e) k))
+    named-at k l true d =
+        let o = put-new names n h e room in
+        let m = w .made short in
+        rw (eqb-true k n d, new-ref) (o .0 ∙ m .0, o .1 ∙ m .1)
+    named-at k l false d =
+        let z = eqb-false k n d in
+        let q : k < n = omega arith in
+        rw (ref-same names n h e k q) (put-named names n h e k q (g .named k q))
+
+    leads-at : (k h′ e′ : ℕ) → k < suc n → Named (put names n h e) k h′ e′ → (b : Bool) → eqb k n ≡ b → Reached (length slots - length names) (put names n h e) slots′ h′ e′
+    leads-at k h′ e′ l q true d =
+        let o = put-new names n h e room in
+        let z = eqb-true k n d in
+        let q : Named (put names n h e) n h′ e′ = rw z at q in
+        rw (sym (q .0) ∙ o .0, sym (q .1) ∙ o .1) (s .finds (put names n h e) slots′ grown j at new)
+    leads-at k h′ e′ l q false d =
+        let z = eqb-false k n d in
+        let o : k < n = omega arith in
+        leads-kept grown (λ i k y. put-named names n h e k (g .falls i k y .0)) (g .leads k h′ e′ o (put-back names n h e k o q))
+
+    noted-indexed : Indexed (put names n h e) slots′ (n + 1)
+    noted-indexed =
+        rw (add-one n)
+        (record {
+          few = omega arith;
+          room = rw (put-length names n h e) (omega arith);
+          rooted = rw (put-length names n h e, size) (g .rooted);
+          named = λ k l. named-at k l (eqb k n) refl;
+          falls = λ i k d. rw roots (falls i k d);
+          leads = λ k h′ e′ l q. rw roots (leads-at k h′ e′ l q (eqb k n) refl);
+        })
+
+  abbrev Noted : List ℕ → Type 0
+  Noted slots′ =
+      (refsIn (put names n h e) (n + 1) ≡ refsIn names n ▷ t) ×
+      (Indexed (put names n h e) slots′ (n + 1) × ((length (put names n h e) ≡ length names) × (length slots′ ≡ length slots)))
+
+  -- the name was there
+  pub noted-again : (getD slots i 0 ≡ 0 → ⊥) → Noted slots
+  noted-again f =
+      let d : getD slots i 0 ≡ suc (getD slots i 0 - 1) = omega arith in
+      let o = s .held (getD slots i 0 - 1) d in (
+        noted-refs,
+        (
+          noted-indexed slots refl (λ i k d. d) d (put-named names n h e (getD slots i 0 - 1) (o .0) (o .1)) (λ i k d. let a = g .falls i k d in (omega (arith, a .0), a .1)),
+          (put-length names n h e, refl),
+        ),
+      )
+
+  -- it was not
+  pub noted-new : getD slots i 0 ≡ 0 → Noted (set slots i (n + 1))
+  noted-new z =
+      let p = s .inside in
+      let q = g .room in
+      let r = g .rooted in
+      let d : getD (set slots i (n + 1)) i 0 ≡ suc n = getD-set-same slots i (n + 1) 0 (omega arith) ∙ add-one n in (
+        noted-refs,
+        (
+          noted-indexed (set slots i (n + 1)) (length-set slots i (n + 1)) grown d (put-new names n h e room) (λ j k y. falls j k y (eqb j i) refl),
+          (put-length names n h e, length-set slots i (n + 1)),
+        ),
+      )
     where
-      sized : length (set heads b (n + 1)) ≡ length heads
-      sized = noted-lengths .1
+      grown : Grown slots (set slots i (n + 1))
+      grown j k d = getD-set-other slots i j (n + 1) 0 (λ (q : j ≡ i). not-zero z (rw q at d)) ∙ d
 
-      bucket : b ≡ bucketOf (length heads) (content ρ (slice a e s))
-      bucket = y ∙ ap (λ (z : ℕ). z % length heads) fresh
-
-      small : b < length heads
-      small = rw bucket (bucket-small (g .size) (content ρ (slice a e s)))
-
-      new : refAt ρ s (put links (4 * n) a e h (getD heads b 0)) n ≡ content ρ (slice a e s)
-      new = ref-new ρ s links n a e h (getD heads b 0) roomy
-
-      newly : bucketOf (length heads) (refAt ρ s (put links (4 * n) a e h (getD heads b 0)) n) ≡ b
-      newly = ap (bucketOf (length heads)) new ∙ sym bucket
-
-      head-at : (i : ℕ) → i < length heads → (t : Bool) → eqb i b ≡ t →
-          getD (set heads b (n + 1)) i 0 ≡ lastIn ρ s (put links (4 * n) a e h (getD heads b 0)) (length heads) i (n + 1)
-      head-at i l true d =
-          let z = eqb-true i b d in
-          rw (z, add-one n, getD-set-same heads b (suc n) 0 small, newly, eq-eqb b b refl)
-      head-at i l false d =
-          let z = eqb-false i b d in
-          getD-set-other heads b i (n + 1) 0 z ∙ g .head i l ∙
-          rw (add-one n, newly, ne-eqb b i (λ w. z (sym w)), last-same ρ s links n a e h (getD heads b 0) (length heads) i n (omega arith))
-
-      mixed-at : (j : ℕ) → j < n + 1 → (t : Bool) → eqb j n ≡ t →
-          getD (put links (4 * n) a e h (getD heads b 0)) (4 * j + 2) 0 ≡ mixedOf (refAt ρ s (put links (4 * n) a e h (getD heads b 0)) j)
-      mixed-at j l true d =
-          let z = eqb-true j n d in
-          rw (z, put-mixed links (4 * n) a e h (getD heads b 0) roomy, new) fresh
-      mixed-at j l false d =
-          let z = eqb-false j n d in
-          let w : j < n = omega arith in
-          put-other links (4 * n) a e h (getD heads b 0) (4 * j + 2) (omega arith) ∙ g .mixes j w ∙ ap mixedOf (sym (ref-same ρ s links n a e h (getD heads b 0) j w))
-
-      link-at : (j : ℕ) → j < n + 1 → (t : Bool) → eqb j n ≡ t →
-          getD (put links (4 * n) a e h (getD heads b 0)) (4 * j + 3) 0 ≡
-          lastIn ρ s (put links (4 * n) a e h (getD heads b 0)) (length heads) (bucketOf (length heads) (refAt ρ s (put links (4 * n) a e h (getD heads b 0)) j)) j
-      link-at j l true d =
-          let z = eqb-true j n d in
-          rw (z, put-link links (4 * n) a e h (getD heads b 0) roomy, newly, last-same ρ s links n a e h (getD heads b 0) (length heads) b n (omega arith)) (g .head b small)
-      link-at j l false d =
-          let z = eqb-false j n d in
-          let w : j < n = omega arith in
-          put-other links (4 * n) a e h (getD heads b 0) (4 * j + 3) (omega arith) ∙ g .link j w ∙
-          rw (ref-same ρ s links n a e h (getD heads b 0) j w, last-same ρ s links n a e h (getD heads b 0) (length heads) _ j (omega arith))
-
-  pub noted :
-      (refsIn ρ s (put links (4 * n) a e h (getD heads b 0)) (n + 1) ≡ refsIn ρ s links n ▷ content ρ (slice a e s)) ×
-      (Chained ρ s (put links (4 * n) a e h (getD heads b 0)) (set heads b (n + 1)) (n + 1) ×
-      ((length (put links (4 * n) a e h (getD heads b 0)) ≡ length links) × (length (set heads b (n + 1)) ≡ length heads)))
-  noted = (noted-refs, (noted-chained, noted-lengths))
+      falls : (j k : ℕ) → getD (set slots i (n + 1)) j 0 ≡ suc k → (b : Bool) → eqb j i ≡ b → (k < suc n) × (j < length slots - length names + 2 * k)
+      falls j k y true d =
+          let o = eqb-true j i d in
+          let p = s .inside in
+          let q = g .room in
+          let r = g .rooted in
+          let u : suc k ≡ suc n = sym y ∙ ap (λ (x : ℕ). getD (set slots i (n + 1)) x 0) o ∙ getD-set-same slots i (n + 1) 0 (omega arith) ∙ add-one n in
+          let v : k ≡ n = omega arith in
+          (omega arith, rw (o, v) p)
+      falls j k y false d =
+          let o = eqb-false j i d in
+          let a = g .falls j k (sym (getD-set-other slots i j (n + 1) 0 o) ∙ y) in
+          (omega (arith, a .0), a .1)
 
 -- no reference yet
-pub chained-none : (m k : ℕ) {ρ : ℕ} {s links heads : List ℕ} → 0 < k → links ≡ replicate {A = ℕ} m 0 → heads ≡ replicate {A = ℕ} k 0 → Chained ρ s links heads 0
-chained-none m k {ρ} {s} {links} {heads} f e d = record {
+pub indexed-none : (m k : ℕ) {names slots : List ℕ} → m < k → names ≡ replicate {A = ℕ} m 0 → slots ≡ replicate {A = ℕ} k 0 → Indexed names slots 0
+indexed-none m k {names} {slots} f e d = record {
   few = omega arith;
   room = omega arith;
-  size = rw long f;
-  head = λ h a. ap (λ (l : List ℕ). getD l h 0) d ∙ getD-replicate k h 0 0 (rw long at a);
-  mixes = λ j a. let z : ⊥ = omega arith in absurd z;
-  link = λ j a. let z : ⊥ = omega arith in absurd z;
+  rooted = rw (ap length e ∙ length-replicate {A = ℕ} m 0, ap length d ∙ length-replicate {A = ℕ} k 0) f;
+  named = λ j a. absurd (let z : ⊥ = omega arith in z);
+  falls = λ i j a. absurd (not-zero (rw d (all-zero k i)) a);
+  leads = λ j h e a. absurd (let z : ⊥ = omega arith in z);
 }
   where
-    long : length heads ≡ k
-    long = ap length d ∙ length-replicate {A = ℕ} k 0
+    all-zero : (k i : ℕ) → getD (replicate {A = ℕ} k 0) i 0 ≡ 0
+    all-zero zero i = refl
+    all-zero (suc k) zero = refl
+    all-zero (suc k) (suc i) = all-zero k i

@@ -1,16 +1,27 @@
-// The references of the messages so far, by chained buckets: exact, and quick however many there are.
+// The references of the messages so far, in a search tree: exact, and quick whatever the references are.
 use syntax::content::Next;
 use syntax::content::next_octet;
 use syntax::content::part;
-use syntax::content::same_content;
 ghost use mathlib.Core.Path.{_≡_};
 ghost use Prim.Native.Nat.{_+_, _*_, _%_, _≤_, _<_};
 ghost use lib.ListN.{length};
 ghost use lib.Seq.{slice};
-ghost use Rattle.syntax.specs.Octets.{same};
 ghost use Rattle.syntax.specs.Content.{content};
 ghost use Rattle.grammar.specs.Lists.{_▷_, among};
-ghost use Rattle.references.specs.Refs.{refAt, refsIn, mixedOf, Chained};
+ghost use Rattle.references.specs.Refs.{full, refsIn, isNamed, rootOf, WordOf, NameOf, Indexed, Spot};
+
+// Up to seven octets of content as a number, the place after them, and whether no more was met.
+struct Word {
+    value: u64,
+    next: usize,
+    over: bool,
+}
+
+// A reference as two numbers: its first seven octets and the others.
+struct Name {
+    head: u64,
+    tail: u64,
+}
 
 fn wide(b: u8) -> u64
     ensures { λ r. ⌜ (r ≡ b) × (r < 256) ⌝ }
@@ -18,105 +29,153 @@ fn wide(b: u8) -> u64
     b as u64
 }
 
-fn wide32(x: u32) -> usize
+fn wide16(x: u16) -> usize
     ensures { λ r. ⌜ r ≡ x ⌝ }
 {
     x as usize
 }
 
-// The bucket of a mixed number, of `m`.
-fn bucket(h: u32, m: usize) -> usize
-    requires { ⌜ 0 < m ⌝ }
-    ensures { λ r. ⌜ (r ≡ h % m) × (r < m) ⌝ }
+// The octets stand behind a 1, so that other octets, also fewer or more, give another number.
+fn word_at(x: &[u8], from: usize, release: u8) -> Word
+    ensures { λ r. ⌜ WordOf release (now (x .entry)) from (r .value) (r .next) (r .over) ⌝ }
 {
-    h as usize % m
-}
-
-// A number below 2^32 made of the content.
-fn mixed(x: &[u8], release: u8) -> u32
-    ensures { λ r. ⌜ r ≡ mixedOf (content release (now (x .entry))) ⌝ }
-{
-    let mut i = 0;
-    let mut h: u64 = 0;
-    loop {
+    let mut i = from;
+    let mut v: u64 = 1;
+    let mut n: usize = 0;
+    while n < 7 {
         match next_octet(x, i, release) {
             Next::Octet(b, j) => {
-                h = (h * 16777619 + wide(b) + 1) % 4294967296;
+                v = v * 256 + wide(b);
                 i = j;
+                n += 1;
             }
             Next::Over => {
-                return h as u32;
+                return Word {
+                    value: v,
+                    next: i,
+                    over: true,
+                };
             }
         }
     }
+    Word {
+        value: v,
+        next: i,
+        over: false,
+    }
 }
 
-// Whether reference k has the content of `x`, whose mixed number is `h`.
-fn held(
-    s: &[u8],
-    release: u8,
-    links: &[u32],
-    heads: &[u32],
-    n: usize,
-    k: usize,
-    h: u32,
-    x: &[u8],
-) -> bool
-    requires { ⌜ Chained release (now s) (now links) (now heads) n ⌝ }
-    requires { ⌜ (k < n) × (h ≡ mixedOf (content release (now x))) ⌝ }
-    ensures { λ r. ⌜ r ≡ same (refAt release (now (s .entry)) (now (links .entry)) k) (content release (now (x .entry))) ⌝ }
+// A content of more than 14 octets is no reference, and gets the name that none has.
+fn name_of(x: &[u8], release: u8) -> Name
+    ensures { λ r. ⌜ NameOf (content release (now (x .entry))) (r .head) (r .tail) ⌝ }
 {
-    let j = 4 * k;
-    if links[j + 2] != h {
+    let a = word_at(x, 0, release);
+    if a.over {
+        return Name {
+            head: a.value,
+            tail: 1,
+        };
+    }
+    let b = word_at(x, a.next, release);
+    if b.over {
+        return Name {
+            head: a.value,
+            tail: b.value,
+        };
+    }
+    match next_octet(x, b.next, release) {
+        Next::Over => Name {
+            head: a.value,
+            tail: b.value,
+        },
+        Next::Octet(_, _) => Name { head: 0, tail: 0 },
+    }
+}
+
+// Where the search for a name begins, of `m` slots: any number made of the name will do.
+fn root(head: u64, tail: u64, m: usize) -> usize
+    requires { ⌜ (0 < m) × (head < full) × (tail < full) ⌝ }
+    ensures { λ r. ⌜ (r ≡ rootOf m head tail) × (r < m) ⌝ }
+{
+    ((head + tail) % m as u64) as usize
+}
+
+fn bit(v: u64) -> usize
+    ensures { λ r. ⌜ (r ≡ v % 2) × (r < 2) ⌝ }
+{
+    (v % 2) as usize
+}
+
+// Whether reference k has this name.
+fn is_named(names: &[u64], k: usize, head: u64, tail: u64) -> bool
+    requires { ⌜ 2 * k + 1 < length (now names) ⌝ }
+    ensures { λ r. ⌜ r ≡ isNamed (now (names .entry)) k head tail ⌝ }
+{
+    if names[2 * k] != head {
         return false;
     }
-    let a = wide32(links[j]);
-    let e = wide32(links[j + 1]);
-    same_content(part(s, a, e), release, x, release)
+    names[2 * k + 1] == tail
 }
 
-// Whether one of the first `n` references has the content of `x`. `links` holds, for reference k at 4 * k: start, end, its mixed number, and one
-// more than the reference before it in its bucket.
-pub fn used(s: &[u8], release: u8, links: &[u32], heads: &[u32], n: usize, x: &[u8]) -> bool
-    requires { ⌜ Chained release (now s) (now links) (now heads) n ⌝ }
-    ensures { λ r. ⌜ r ≡ among (refsIn release (now (s .entry)) (now (links .entry)) n) (content release (now (x .entry))) ⌝ }
+// The slot that holds a reference of this name, or the free one where the way of the name ends. The way goes down by the bits of the two numbers
+// in turn: two names part within 114 of them, so no choice of references makes it longer.
+fn slot_of(names: &[u64], slots: &[u16], n: usize, head: u64, tail: u64) -> usize
+    requires { ⌜ Indexed (now names) (now slots) n ⌝ }
+    requires { ⌜ (head < full) × (tail < full) ⌝ }
+    ensures { λ r. ⌜ Spot (now (names .entry)) (now (slots .entry)) n head tail r ⌝ }
 {
-    let h = mixed(x, release);
-    let b = bucket(h, heads.len());
-    let mut k = wide32(heads[b]);
-    while 0 < k {
-        let j = k - 1;
-        if held(s, release, links, heads, n, j, h, x) {
-            return true;
+    let m = slots.len() - names.len();
+    let mut i = root(head, tail, m);
+    let mut a = head;
+    let mut b = tail;
+    loop {
+        let k = wide16(slots[i]);
+        if k == 0 {
+            return i;
         }
-        k = wide32(links[4 * j + 3]);
+        let j = k - 1;
+        if is_named(names, j, head, tail) {
+            return i;
+        }
+        i = m + 2 * j + bit(a);
+        let c = a / 2;
+        a = b;
+        b = c;
     }
-    false
 }
 
-// The octets from `a` up to, not including, `e` become reference `n`.
+// Whether one of the first `n` references has the content of `x`. `names` holds the two numbers of reference k at 2 * k. `slots` holds, behind as many
+// roots as it is longer, the two slots below reference k at 2 * k; a slot holds one more than a reference, or 0.
+pub fn used(release: u8, names: &[u64], slots: &[u16], n: usize, x: &[u8]) -> bool
+    requires { ⌜ Indexed (now names) (now slots) n ⌝ }
+    ensures { λ r. ⌜ r ≡ among (refsIn (now (names .entry)) n) (content release (now (x .entry))) ⌝ }
+{
+    let w = name_of(x, release);
+    let i = slot_of(names, slots, n, w.head, w.tail);
+    slots[i] != 0
+}
+
+// The octets from `a` up to, not including, `e` become reference `n`. One whose content is there already needs no slot.
 pub fn note(
     s: &[u8],
     release: u8,
-    links: &mut [u32],
-    heads: &mut [u32],
+    names: &mut [u64],
+    slots: &mut [u16],
     n: usize,
     a: usize,
     e: usize,
 )
-    requires { ⌜ Chained release (now s) (now links) (now heads) n ⌝ }
-    requires { ⌜ (4 * n + 4 ≤ length (now links)) × (n < 4294967295) × (a < 4294967296) × (e < 4294967296) ⌝ }
-    ensures { λ r. ⌜
-        refsIn release (now (s .entry)) (now (links .exit)) (n + 1) ≡ refsIn release (now (s .entry)) (now (links .entry)) n ▷ content release (slice a e (now (s .entry))) ⌝ }
-    ensures { λ r. ⌜ Chained release (now (s .entry)) (now (links .exit)) (now (heads .exit)) (n + 1) ⌝ }
-    ensures { λ r. ⌜ (length (now (links .exit)) ≡ length (now (links .entry))) × (length (now (heads .exit)) ≡ length (now (heads .entry))) ⌝ }
+    requires { ⌜ Indexed (now names) (now slots) n ⌝ }
+    requires { ⌜ (2 * n + 2 ≤ length (now names)) × (n < 65535) × (length (content release (slice a e (now s))) ≤ 14) ⌝ }
+    ensures { λ r. ⌜ refsIn (now (names .exit)) (n + 1) ≡ refsIn (now (names .entry)) n ▷ content release (slice a e (now (s .entry))) ⌝ }
+    ensures { λ r. ⌜ Indexed (now (names .exit)) (now (slots .exit)) (n + 1) ⌝ }
+    ensures { λ r. ⌜ (length (now (names .exit)) ≡ length (now (names .entry))) × (length (now (slots .exit)) ≡ length (now (slots .entry))) ⌝ }
 {
-    let h = mixed(part(s, a, e), release);
-    let b = bucket(h, heads.len());
-    let j = 4 * n;
-    links[j] = a as u32;
-    links[j + 1] = e as u32;
-    links[j + 2] = h;
-    links[j + 3] = heads[b];
-    heads[b] = n as u32 + 1;
+    let w = name_of(part(s, a, e), release);
+    let i = slot_of(names, slots, n, w.head, w.tail);
+    names[2 * n] = w.head;
+    names[2 * n + 1] = w.tail;
+    if slots[i] == 0 {
+        slots[i] = n as u16 + 1;
+    }
 }

@@ -242,24 +242,23 @@ module _ (ρ : ℕ) (s : List ℕ) (st : State) (h l b : List ℕ) (p q : ℕ) (
   held-on : {z : Message} {h′ : List ℕ} → Roomy z h′ → length h′ ≡ 36 → z .segments ≡ suc (st .message .segments) →
       Held ρ s (withMessage st z) h′ l b q
   held-on {z} f o n = record {
-    chained = g .chained;
+    indexed = g .indexed;
     roomy = f;
     begun = omega (arith, n);
     long = o;
-    links = g .links;
+    names = g .names;
     short = g .short;
     taken =
         let t : 8 * st .count + 4 * st .message .segments ≤ p = subst (λ (x : Phase). 8 * st .count + 4 * openSize x (st .message) ≤ p) e (g .taken) in
         omega (arith, t, n, d);
-    first = g .first;
-    last = g .last;
+    named = g .named;
   }
 
   read-by : (A : AnswerM) (z : Message) (h′ : List ℕ) → length h′ ≡ 36 → GrowsM (st .message .segments) A → MovedIs A (To z) ρ s (st .unh .start) (st .unh .end) h′ →
-      StepIs (fromM (unbIn ρ s st) (refsIn ρ s l (st .count)) p A)
+      StepIs (fromM (unbIn ρ s st) (refsIn l (st .count)) p A)
       (On (withMessage st z)) ρ s h′ l b q
   read-by (toM S) z h′ o n f = (
-    ap (busyS (unbIn ρ s st) (refsIn ρ s l (st .count))) (f .0),
+    ap (busyS (unbIn ρ s st) (refsIn l (st .count))) (f .0),
     held-on (f .1) o (ap (λ (T : Summary). T .m .segments) (f .0) ∙ n),
   )
   read-by (badM k) z h′ o n f = absurd f
@@ -272,10 +271,10 @@ module _ {y : Syntax} {s : List ℕ} {st : State} {h l b : List ℕ} {p q : ℕ}
       omega (arith, t, g .ends, g .inside, g .held .short)
 
   busy-state : stateIn (y .service .release) s st h l
-      ≡ busyS (unbIn (y .service .release) s st) (refsIn (y .service .release) s l (st .count))
+      ≡ busyS (unbIn (y .service .release) s st) (refsIn l (st .count))
       (openIn (y .service .release) s st h)
   busy-state =
-      ap (λ (x : Phase). phased x (unbIn (y .service .release) s st) (refsIn (y .service .release) s l (st .count))
+      ap (λ (x : Phase). phased x (unbIn (y .service .release) s st) (refsIn l (st .count))
       (openIn (y .service .release) s st h)) busy
 
   module _ {c : Bool} (may : c ≡ mayCome k (st .message)) where
@@ -298,7 +297,7 @@ module _ {y : Syntax} {s : List ℕ} {st : State} {h l b : List ℕ} {p q : ℕ}
 
         module _ (n : atBusy false false false true false k ≡ false) where
           decided-is : decidedAt y s st h l p
-              ≡ fromM (unbIn (y .service .release) s st) (refsIn (y .service .release) s l (st .count)) p
+              ≡ fromM (unbIn (y .service .release) s st) (refsIn l (st .count)) p
               (movedAt y s st h p k)
           decided-is =
               ap (λ (X : StateS). decidedFrom (y .version) X (askedAt (y .service) s p) p) busy-state
@@ -313,8 +312,8 @@ module _ {y : Syntax} {s : List ℕ} {st : State} {h l b : List ℕ} {p q : ℕ}
                 StepIs (decidedAt y s st h l p) r (y .service .release) s h′ l b q
             busy-bad {i} e {r} d =
                 subst (λ (A : AnswerS). StepIs A r (y .service .release) s h′ l b q) (sym decided-is)
-                (subst (λ (z : Step). StepIs (fromM (unbIn (y .service .release) s st) (refsIn (y .service .release) s l (st .count)) p (movedAt y s st h p k)) z (y .service .release) s h′ l b q) (sym d)
-                (refused-by (unbIn (y .service .release) s st) (refsIn (y .service .release) s l (st .count)) p (movedAt y s st h p k) i (y .service .release) s h′ l b q (st .unh .start) (st .unh .end)
+                (subst (λ (z : Step). StepIs (fromM (unbIn (y .service .release) s st) (refsIn l (st .count)) p (movedAt y s st h p k)) z (y .service .release) s h′ l b q) (sym d)
+                (refused-by (unbIn (y .service .release) s st) (refsIn l (st .count)) p (movedAt y s st h p k) i (y .service .release) s h′ l b q (st .unh .start) (st .unh .end)
                 (subst (λ (z : Moved). MovedIs (movedAt y s st h p k) z (y .service .release) s (st .unh .start) (st .unh .end) h′) e moved-here)))
 
             pub busy-on : {z : Message} → x′ ≡ To z → length h′ ≡ 36 →
@@ -338,7 +337,7 @@ module _ {y : Syntax} {s : List ℕ} {st : State} {h l b : List ℕ} {p q : ℕ}
       StepIs (decidedAt y s st h l p) r (y .service .release) s h l b q
   phase-7 x e o d =
       stop (y .service .release) s h l b q (at-7 (y .version) (stateIn (y .service .release) s st h l) (askedAt (y .service) s p) p
-      (ap (λ (z : Phase). orderS (phased z (unbIn (y .service .release) s st) (refsIn (y .service .release) s l (st .count))
+      (ap (λ (z : Phase). orderS (phased z (unbIn (y .service .release) s st) (refsIn l (st .count))
       (openIn (y .service .release) s st h)) (askedAt (y .service) s p)) e ∙ o _ _ _)) d
 
   pub start-7 : st .phase ≡ Start → atStart true false k ≡ false → {r : Step} → r ≡ Stop (record { number = 7; place = p }) →

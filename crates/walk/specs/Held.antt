@@ -1,5 +1,5 @@
 -- The walk as the code has it: what a look at a segment tells, the state that is kept, and a step.
-use Prim.Native.Nat.{ℕ, _+_, _*_, _≤_, _<_}
+use Prim.Native.Nat.{ℕ, _+_, _*_, _≤_}
 use mathlib.Core.Path.{_≡_}
 use mathlib.Core.Bool.{Bool, true, false, cond}
 use mathlib.Core.List.{List, [], _∷_}
@@ -23,7 +23,7 @@ use Rattle.grammar.specs.Verdict.{Test, tested, Answer, concluded, numbers}
 use Rattle.elements.specs.Kinds.{kindOf}
 use Rattle.message.specs.Summary.{Summary, StateS, startS, idleS, busyS, doneS, orderS, refsS, countsS, scopeS, nextS, AnswerS, readS, refusedS, decidedS}
 use Rattle.message.specs.Steps.{summaryIn, Roomy}
-use Rattle.references.specs.Refs.{refsIn, Chained}
+use Rattle.references.specs.Refs.{refsIn, Indexed}
 use Rattle.elements.specs.Fields.{Fields}
 use Rattle.elements.specs.Formed.{looked}
 use Rattle.elements.specs.declared.fields.Shape.{Shape}
@@ -64,7 +64,7 @@ phased Done u rs S = doneS
 -- under the release ρ, in the octets s, with the headers' array h and the references l
 abbrev pub stateIn : ℕ → List ℕ → State → List ℕ → List ℕ → StateS
 stateIn ρ s x h l =
-    phased (x .phase) (content ρ (slice (x .unb .start) (x .unb .end) s)) (refsIn ρ s l (x .count))
+    phased (x .phase) (content ρ (slice (x .unb .start) (x .unb .end) s)) (refsIn l (x .count))
     (summaryIn ρ s (x .message) (x .unh .start) (x .unh .end) h)
 
 -- the segments of the message now open
@@ -76,15 +76,14 @@ openSize Done m = 0
 
 -- what keeps everything in its room: a segment has at least 4 octets, a message at least two segments; i is the place of what comes next
 pub record Held (ρ : ℕ) (s : List ℕ) (x : State) (h l b : List ℕ) (i : ℕ) : Type 0 where
-  pub chained : Chained ρ s l b (x .count)
+  pub indexed : Indexed l b (x .count)
   pub roomy : Roomy (x .message) h
   pub begun : 1 ≤ x .message .segments
   pub long : length h ≡ 36
-  pub links : length s ≤ 2 * length l
+  pub names : length s ≤ 4 * length l
   pub short : length s ≤ 65535
   pub taken : 8 * x .count + 4 * openSize (x .phase) (x .message) ≤ i
-  pub first : x .unh .start < 4294967296
-  pub last : x .unh .end < 4294967296
+  pub named : length (content ρ (slice (x .unh .start) (x .unh .end) s)) ≤ 14
 
 -- ---- a step, of a segment that is whole and inside the repertoire: 7 to 12, then the state after it
 

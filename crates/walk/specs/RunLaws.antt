@@ -42,8 +42,8 @@ use Rattle.grammar.specs.Verdict.{Answer, read, refused, tests, decided, then, 
 use Rattle.grammar.specs.Valid.{Una}
 use Rattle.elements.specs.Kinds.{kindOf}
 use Rattle.elements.specs.Octets.{askedAt}
-use Rattle.references.specs.Refs.{refsIn, Chained}
-use Rattle.references.specs.RefsLaws.{chained-none}
+use Rattle.references.specs.Refs.{refsIn, Indexed}
+use Rattle.references.specs.RefsLaws.{indexed-none}
 use Rattle.message.specs.Steps.{summaryIn}
 use Rattle.message.specs.Summary.{Summary, StateS, startS, idleS, busyS, doneS, stateOf, AnswerS, told, fresh}
 use Rattle.walk.specs.FollowLaws.{follow}
@@ -93,11 +93,11 @@ over-phased Done u rs S = refl
 
 over-in : (ρ : ℕ) (s : List ℕ) (x : State) (h l : List ℕ) → over (stateIn ρ s x h l) ≡ isDone (x .phase)
 over-in ρ s x h l =
-    over-phased (x .phase) (content ρ (slice (x .unb .start) (x .unb .end) s)) (refsIn ρ s l (x .count)) (summaryIn ρ s (x .message) (x .unh .start) (x .unh .end) h)
+    over-phased (x .phase) (content ρ (slice (x .unb .start) (x .unb .end) s)) (refsIn l (x .count)) (summaryIn ρ s (x .message) (x .unh .start) (x .unh .end) h)
 
 start-in : (ρ : ℕ) (s : List ℕ) (x : State) (h l : List ℕ) → x .phase ≡ Start → stateIn ρ s x h l ≡ startS
 start-in ρ s x h l e =
-    ap (λ (p : Phase). phased p (content ρ (slice (x .unb .start) (x .unb .end) s)) (refsIn ρ s l (x .count))
+    ap (λ (p : Phase). phased p (content ρ (slice (x .unb .start) (x .unb .end) s)) (refsIn l (x .count))
     (summaryIn ρ s (x .message) (x .unh .start) (x .unh .end) h)) e
 
 -- ---- what holds at the head of the loop
@@ -106,8 +106,8 @@ start-in ρ s x h l e =
 pub record Fresh (y : Syntax) (s l b : List ℕ) : Type 0 where
   pub fits : T (fit (y .service))
   pub short : length s ≤ 65535
-  pub room : length s ≤ 2 * length l
-  pub chained : Chained (y .service .release) s l b 0
+  pub room : length s ≤ 4 * length l
+  pub indexed : Indexed l b 0
 
 -- what the walk makes of the octets from p on
 abbrev pub answerFrom : Syntax → List ℕ → ℕ → Answer
@@ -157,7 +157,7 @@ walking-start {y} {s} {h} {l} {b} {x} {i} f n e =
       good = good-start y;
       same = refl;
       held = record {
-        chained = f .chained;
+        indexed = f .indexed;
         roomy = record {
           headers = omega arith;
           loads = omega arith;
@@ -168,11 +168,10 @@ walking-start {y} {s} {h} {l} {b} {x} {i} f n e =
         };
         begun = omega arith;
         long = n;
-        links = f .room;
+        names = f .room;
         short = f .short;
         taken = omega arith;
-        first = omega arith;
-        last = omega arith;
+        named = omega arith;
       };
       first = λ e. refl;
       goes = refl;
@@ -483,8 +482,8 @@ begun-fits s {b} e d =
 
 -- ---- empty tables
 
-pub fresh-tables : (m k : ℕ) {y : Syntax} {s l b : List ℕ} → 0 < k → l ≡ replicate {A = ℕ} m 0 → b ≡ replicate {A = ℕ} k 0
-    → T (fit (y .service)) → length s ≤ 65535 → length s ≤ 2 * m → Fresh y s l b
+pub fresh-tables : (m k : ℕ) {y : Syntax} {s l b : List ℕ} → m < k → l ≡ replicate {A = ℕ} m 0 → b ≡ replicate {A = ℕ} k 0
+    → T (fit (y .service)) → length s ≤ 65535 → length s ≤ 4 * m → Fresh y s l b
 fresh-tables m k {s = s} {l = l} z e d f h n =
     let q : length l ≡ m = ap length e ∙ length-replicate {A = ℕ} m 0 in
-    record { fits = f; short = h; room = rw q n; chained = chained-none m k z e d }
+    record { fits = f; short = h; room = rw q n; indexed = indexed-none m k z e d }

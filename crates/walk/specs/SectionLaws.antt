@@ -318,8 +318,8 @@ module _ {y : Syntax} {s : List ℕ} {from p : ℕ} {u : Leaf} {ms : Snoc Messag
 pub record Crossing (y : Syntax) (s : List ℕ) (x₀ : State) (h₀ l₀ b₀ : List ℕ) (i₀ : ℕ) (q₀ : Spots) (rows₀ : List ℕ) (x : State) (h l b : List ℕ) (i : ℕ) (q : Spots) (rows m : List ℕ) : Type 0 where
   pub inside : Inside y s x h l b i q rows m
   pub since : (from p : ℕ) (u : Leaf) (ms : Snoc Message) → Within y s from p u ms x₀ h₀ l₀ b₀ i₀ q₀ rows₀ → Within y s from p u ms x h l b i q rows
-  pub links : length l ≡ length l₀
-  pub buckets : length b ≡ length b₀
+  pub names : length l ≡ length l₀
+  pub slots : length b ≡ length b₀
 
 -- all that a turn needs
 module _ {y : Syntax} {s : List ℕ} {x : State} {h l b : List ℕ} {i : ℕ} {q : Spots} {rows m : List ℕ} (n : Inside y s x h l b i q rows m) where
@@ -482,8 +482,8 @@ pub record Looping (y : Syntax) (s : List ℕ) (from : ℕ) (x : State) (h l b :
   pub between : isBusy (x .phase) ≡ true → length s ≤ i
   pub marks : length m ≡ 40
   pub room : length rows ≡ 18
-  pub links : length l ≡ length l₀
-  pub buckets : length b ≡ length b₀
+  pub names : length l ≡ length l₀
+  pub slots : length b ≡ length b₀
 
 module _ {y : Syntax} {s : List ℕ} {from : ℕ} {x : State} {h l b : List ℕ} {i : ℕ} {m rows l₀ b₀ : List ℕ} (g : Looping y s from x h l b i m rows l₀ b₀) where
   pub starting : T (fit (y .service)) → i < length s → isDone (x .phase) ≡ false → Starting y s x h l b i rows m

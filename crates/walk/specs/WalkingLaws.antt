@@ -4,18 +4,20 @@ use native.Mathlib.Omega.{arith}
 use mathlib.Core.Path.{_≡_, refl, ap, sym, _∙_, subst}
 use mathlib.Core.Bool.{Bool, true, false, not, _&&_, false≢true}
 use mathlib.Core.List.{List, [], _∷_}
-use borrow.Author.Tests.{eq-eqb, ne-eqb}
-use lib.Dec.{T, eqb}
+use borrow.Author.Tests.{eq-eqb, ne-eqb, leb-true}
+use lib.Dec.{T, eqb, leb}
 use lib.ListN.{length}
 use lib.Seq.{slice}
 use Rattle.syntax.specs.Octets.{octets, same}
 use Rattle.syntax.specs.Content.{content, valueFrom}
+use Rattle.syntax.specs.RepertoireLaws.{and-l, and-r}
 use Rattle.syntax.specs.Segment.{componentAt, partOf}
 use Rattle.syntax.specs.declared.Syntax.{Syntax}
 use Rattle.syntax.specs.declared.Version.{Version}
 use Rattle.grammar.specs.Lists.{Snoc, nil, _▷_, size, any, among}
 use Rattle.grammar.specs.Segments.{Asked}
-use Rattle.grammar.specs.Elements.{inRange, digits, formed}
+use Rattle.grammar.specs.Segments as named
+use Rattle.grammar.specs.Elements.{text, digits, closed, composite, row, inRange, formedAs, formedRow, formed}
 use Rattle.grammar.specs.Loads.{loadRight}
 use Rattle.grammar.specs.Verdict.{tested}
 use Rattle.grammar.specs.PlacingLaws.{same-eq}
@@ -24,11 +26,11 @@ use Rattle.elements.specs.Octets.{textAt, askedAt}
 use Rattle.elements.specs.Fields.{Marked, startIn, endIn}
 use Rattle.elements.specs.Formed.{formedBy}
 use Rattle.elements.specs.FormedLaws.{and-stop, and-go, formed-by}
-use Rattle.references.specs.Refs.{refsIn, Chained}
+use Rattle.references.specs.Refs.{refsIn, Indexed}
 use Rattle.message.specs.Heads.{headFlags}
 use Rattle.message.specs.Summary.{Summary, StateS, startS, idleS, busyS, atStart, atIdle, atBusy, mayCome, allNamed, evenAll, totalRight, numberIn, orderK, refsK, countsK, scopeK, nextK, orderS, refsS, countsS, scopeS, nextS, opened, fresh, AnswerS, readS, refusedS, decidedS}
 use Rattle.message.specs.Steps.{summaryIn, Roomy}
-use Rattle.message.specs.StepsLaws.{marked-between, marked-ends, unt-digits, unz-digits}
+use Rattle.message.specs.StepsLaws.{marked-between, closed-range, unt-digits, unz-digits}
 use Rattle.walk.specs.Held.{phased, stateIn, openSize, Held, decidedFrom, StepIs, Ready}
 use Rattle.message.specs.ItemsLaws.{not-true, not-false}
 use Rattle.elements.specs.declared.fields.Shape.{Shape}
@@ -116,16 +118,22 @@ module _ {A : AnswerS} {r : Step} (ρ : ℕ) (s h l b : List ℕ) (i : ℕ) wher
 
 -- ---- the references so far
 
-module _ (ρ : ℕ) (s l : List ℕ) where
-  any-refs : (n : ℕ) → (n ≡ 0 → ⊥) → any (refsIn ρ s l n) ≡ true
+module _ (l : List ℕ) where
+  any-refs : (n : ℕ) → (n ≡ 0 → ⊥) → any (refsIn l n) ≡ true
   any-refs zero h = absurd (h refl)
   any-refs (suc n) h = refl
 
-  size-refs : (n : ℕ) → size (refsIn ρ s l n) ≡ n
+  size-refs : (n : ℕ) → size (refsIn l n) ≡ n
   size-refs zero = refl
   size-refs (suc n) = ap (λ (k : ℕ). suc k) (size-refs n)
 
 -- ---- a message just begun
+
+-- its reference has at most 14 octets
+unh-short : (v : Version) (a : Asked) → formedRow (row v named.Unh) a 1 ≡ true → length (a .text 1 0) ≤ 14
+unh-short v a e =
+    let r = closed-range (text 1 14) a 1 (and-l (formedAs (closed (text 1 14 ∷ [])) a 1) (formedRow (composite (text 1 6 ∷ []) ∷ []) a 2) e) in
+    leb-true (length (a .text 1 0)) 14 (and-r (leb 1 (length (a .text 1 0))) (leb (length (a .text 1 0)) 14) r)
 
 least : (n : ℕ) → 0 ≤ n
 least n = omega arith
@@ -163,7 +171,7 @@ module _ (y : Syntax) (s : List ℕ) (st : State) (h l b : List ℕ) (at next : 
   unbs = content (y .service .release) (slice (st .unb .start) (st .unb .end) s)
 
   abbrev refs : Snoc (List ℕ)
-  refs = refsIn (y .service .release) s l (st .count)
+  refs = refsIn l (st .count)
 
   abbrev kept : Summary
   kept = summaryIn (y .service .release) s (st .message) (st .unh .start) (st .unh .end) h
@@ -192,15 +200,14 @@ module _ (y : Syntax) (s : List ℕ) (st : State) (h l b : List ℕ) (at next : 
 
       unb-held : Held (y .service .release) s unb-state h l b next
       unb-held = record {
-        chained = subst (λ (n : ℕ). Chained (y .service .release) s l b n) (ph .1) (g .held .chained);
+        indexed = subst (λ (n : ℕ). Indexed l b n) (ph .1) (g .held .indexed);
         roomy = g .held .roomy;
         begun = g .held .begun;
         long = g .held .long;
-        links = g .held .links;
+        names = g .held .names;
         short = g .held .short;
         taken = least next;
-        first = g .held .first;
-        last = g .held .last;
+        named = g .held .named;
       }
 
       unb-is : stateIn (y .service .release) s unb-state h l ≡ nextS here ask
@@ -232,7 +239,7 @@ module _ (y : Syntax) (s : List ℕ) (st : State) (h l b : List ℕ) (at next : 
     unh-bad n d = stop (y .service .release) s h l b next (at-8 (y .version) here ask at unh-order (sym e ∙ not-true q n)) d
 
     module _ (n : not q ≡ false) {x : List ℕ} (field : x ≡ partOf s (componentAt (y .service) s at 1 0)) {a : Bool}
-        (used : a ≡ among (refsIn (y .service .release) s l (st .count)) (content (y .service .release) x)) where
+        (used : a ≡ among (refsIn l (st .count)) (content (y .service .release) x)) where
       unh-refs : refsS here ask ≡ not a
       unh-refs =
           by (λ (z : StateS) (k : Kind). refsK z k ask) (idle-here ph) (g .kind)
@@ -251,24 +258,18 @@ module _ (y : Syntax) (s : List ℕ) (st : State) (h l b : List ℕ) (at next : 
         unh-held =
             let one : m .segments ≡ 1 = ap (λ (x : Message). x .segments) new in
             let t = idle-taken g ph in
-            let k = marked-ends (g .noted refl .marks) {p = 1} {c = 0} (omega arith) (omega arith) (least 2) in
-            let k0 = k .0 in
-            let k1 = k .1 in
-            let o = g .held .short in
             let taken : 8 * st .count + 4 * m .segments ≤ next = omega (arith, one, t) in
             let begun : 1 ≤ m .segments = omega (arith, one) in
-            let first : i < 4294967296 = omega (arith, u, k0, o) in
-            let last : j < 4294967296 = omega (arith, w, k1, o) in
+            let short = unh-short (y .version) ask (ap (λ (k : Kind). formedBy (y .version) k ask) (g .kind) ∙ sym (formed-by (y .version) ask) ∙ sym e ∙ not-false q n) in
             record {
-              chained = g .held .chained;
+              indexed = g .held .indexed;
               roomy = subst (λ (x : Message). Roomy x h) (sym new) (roomy-fresh c h);
               begun = begun;
               long = g .held .long;
-              links = g .held .links;
+              names = g .held .names;
               short = g .held .short;
               taken = taken;
-              first = first;
-              last = last;
+              named = rw (between (g .noted refl .marks) 1 (omega arith) (omega arith) u w) short;
             }
 
         unh-is : stateIn (y .service .release) s unh-state h l ≡ nextS here ask
@@ -290,11 +291,11 @@ module _ (y : Syntax) (s : List ℕ) (st : State) (h l b : List ℕ) (at next : 
     unz-order = by orderK (idle-here ph) (g .kind)
 
     pub unz-none : st .count ≡ 0 → {r : Step} → r ≡ Stop (record { number = 7; place = at }) → Told r
-    unz-none z d = stop (y .service .release) s h l b next (at-7 (y .version) here ask at (unz-order ∙ ap (λ (n : ℕ). any (refsIn (y .service .release) s l n)) z)) d
+    unz-none z d = stop (y .service .release) s h l b next (at-7 (y .version) here ask at (unz-order ∙ ap (λ (n : ℕ). any (refsIn l n)) z)) d
 
     module _ (some : st .count ≡ 0 → ⊥) {q : Bool} (e : q ≡ formed (y .version) ask) where
       unz-may : orderS here ask ≡ true
-      unz-may = unz-order ∙ any-refs (y .service .release) s l (st .count) some
+      unz-may = unz-order ∙ any-refs l (st .count) some
 
       pub unz-bad : not q ≡ true → {r : Step} → r ≡ Stop (record { number = 8; place = at }) → Told r
       unz-bad n d = stop (y .service .release) s h l b next (at-8 (y .version) here ask at unz-may (sym e ∙ not-true q n)) d
@@ -322,7 +323,7 @@ module _ (y : Syntax) (s : List ℕ) (st : State) (h l b : List ℕ) (at next : 
             unz-wrong c d =
                 stop (y .service .release) s h l b next
                 (at-10 (y .version) here ask at unz-may (sym e ∙ not-false q n) (unz-refs ∙ not-false a v)
-                (unz-counts ∙ ne-eqb (numberIn ask 1) (size refs) (λ i. c (number ∙ i ∙ size-refs (y .service .release) s l (st .count) ∙ sym count)))) d
+                (unz-counts ∙ ne-eqb (numberIn ask 1) (size refs) (λ i. c (number ∙ i ∙ size-refs l (st .count) ∙ sym count)))) d
 
             abbrev unz-state : State
             unz-state = record { phase = Done; count = st .count; unb = st .unb; unh = st .unh; message = st .message }
@@ -332,22 +333,21 @@ module _ (y : Syntax) (s : List ℕ) (st : State) (h l b : List ℕ) (at next : 
                 let t = idle-taken g ph in
                 let taken : 8 * st .count + 4 * 0 ≤ next = omega (arith, t) in
                 record {
-                  chained = g .held .chained;
+                  indexed = g .held .indexed;
                   roomy = g .held .roomy;
                   begun = g .held .begun;
                   long = g .held .long;
-                  links = g .held .links;
+                  names = g .held .names;
                   short = g .held .short;
                   taken = taken;
-                  first = g .held .first;
-                  last = g .held .last;
+                  named = g .held .named;
                 }
 
             pub unz-read : k ≡ w → Told (On unz-state)
             unz-read c =
                 go (y .service .release) s h l b next
                 (at-end (y .version) here ask at unz-may (sym e ∙ not-false q n) (unz-refs ∙ not-false a v)
-                (unz-counts ∙ eq-eqb (numberIn ask 1) (size refs) (sym number ∙ c ∙ count ∙ sym (size-refs (y .service .release) s l (st .count))))
+                (unz-counts ∙ eq-eqb (numberIn ask 1) (size refs) (sym number ∙ c ∙ count ∙ sym (size-refs l (st .count))))
                 (by (λ (x : StateS) (k : Kind). scopeK x k ask) (idle-here ph) (g .kind)) (unz-load ask (g .kind)))
                 refl (sym (by (λ (x : StateS) (k : Kind). nextK x k ask) (idle-here ph) (g .kind))) unz-held
 
@@ -358,15 +358,15 @@ module _ (y : Syntax) (s : List ℕ) (st : State) (h l b : List ℕ) (at next : 
     unt-taken : 8 * st .count + 4 * st .message .segments ≤ at
     unt-taken = subst (λ (z : Phase). 8 * st .count + 4 * openSize z (st .message) ≤ at) ph (g .held .taken)
 
-    pub unt-links : (4 * st .count + 4 ≤ length l) × (st .count < 4294967295) × (st .unh .start < 4294967296) × (st .unh .end < 4294967296)
-    unt-links =
+    pub unt-names : (2 * st .count + 2 ≤ length l) × (st .count < 65535) × (length (content (y .service .release) (slice (st .unh .start) (st .unh .end) s)) ≤ 14)
+    unt-names =
         let t = unt-taken in
         let n = g .ends in
         let o = g .inside in
-        let k = g .held .links in
+        let k = g .held .names in
         let z = g .held .short in
         let i = g .held .begun in
-        (omega (arith, t, n, o, k, z, i), omega (arith, t, n, o, k, z, i), g .held .first, g .held .last)
+        (omega (arith, t, n, o, k, z, i), omega (arith, t, n, o, k, z, i), g .held .named)
 
     pub unt-sums : (st .message .segments < 65536) × (st .message .pair .base < 4294967296) × (st .message .pair .own < 4294967296)
     unt-sums =
@@ -421,26 +421,25 @@ module _ (y : Syntax) (s : List ℕ) (st : State) (h l b : List ℕ) (at next : 
               unt-state = record { phase = Idle; count = st .count + 1; unb = st .unb; unh = st .unh; message = st .message }
 
               module _ (w : not c ≡ false) (l′ b′ : List ℕ)
-                  (more : refsIn (y .service .release) s l′ (st .count + 1) ≡ refsIn (y .service .release) s l (st .count) ▷ content (y .service .release) (slice (st .unh .start) (st .unh .end) s))
-                  (chain : Chained (y .service .release) s l′ b′ (st .count + 1)) (long : length l′ ≡ length l) where
+                  (more : refsIn l′ (st .count + 1) ≡ refsIn l (st .count) ▷ content (y .service .release) (slice (st .unh .start) (st .unh .end) s))
+                  (chain : Indexed l′ b′ (st .count + 1)) (long : length l′ ≡ length l) where
                 unt-held : Held (y .service .release) s unt-state h l′ b′ next
                 unt-held =
                     let t = unt-taken in
                     let i = g .held .begun in
                     let j = g .ends in
-                    let k = g .held .links in
+                    let k = g .held .names in
                     let taken : 8 * (st .count + 1) + 4 * 0 ≤ next = omega (arith, t, i, j) in
-                    let links : length s ≤ 2 * length l′ = omega (arith, k, long) in
+                    let names : length s ≤ 4 * length l′ = omega (arith, k, long) in
                     record {
-                      chained = chain;
+                      indexed = chain;
                       roomy = g .held .roomy;
                       begun = g .held .begun;
                       long = g .held .long;
-                      links = links;
+                      names = names;
                       short = g .held .short;
                       taken = taken;
-                      first = g .held .first;
-                      last = g .held .last;
+                      named = g .held .named;
                     }
 
                 unt-is : stateIn (y .service .release) s unt-state h l′ ≡ nextS here ask

@@ -72,14 +72,14 @@ pub fn advance(
     st: State,
     marks: &mut [usize],
     heads: &mut [usize; 36],
-    links: &mut [u32],
-    buckets: &mut [u32],
+    names: &mut [u64],
+    slots: &mut [u16],
     found: usize,
 ) -> Advanced
     requires { ⌜ Table y (now t) ⌝ }
-    requires { ⌜ Going y (now s) st (now heads) (now links) (now buckets) at (now marks) ⌝ }
+    requires { ⌜ Going y (now s) st (now heads) (now names) (now slots) at (now marks) ⌝ }
     requires { ⌜ (st .phase ≡ Busy → kindOf (slice at (at + 3) (now s)) ≡ Ust → Sought (y .service) (now s) at (st .message) (now heads) found) ⌝ }
-    ensures { λ r. ⌜ ((from : ℕ) (w : Walking y (now (s .entry)) from st (now (heads .entry)) (now (links .entry)) (now (buckets .entry)) at) → AdvancedIs w r (now (heads .exit)) (now (links .exit)) (now (buckets .exit))) ⌝ }
+    ensures { λ r. ⌜ ((from : ℕ) (w : Walking y (now (s .entry)) from st (now (heads .entry)) (now (names .entry)) (now (slots .entry)) at) → AdvancedIs w r (now (heads .exit)) (now (names .exit)) (now (slots .exit))) ⌝ }
     ensures { λ r. ⌜ length (now (marks .exit)) ≡ 40 ⌝ }
 {
     match look(s, at, t, y) {
@@ -87,20 +87,7 @@ pub fn advance(
         Looked::Seen(e, k) => {
             let next = e + 1;
             let f = noted(s, at, t, y, k, marks);
-            match turn(
-                s,
-                at,
-                next,
-                y,
-                st,
-                k,
-                f,
-                marks,
-                heads,
-                links,
-                buckets,
-                found,
-            ) {
+            match turn(s, at, next, y, st, k, f, marks, heads, names, slots, found) {
                 Step::Stop(g) => Advanced::Stop(g),
                 Step::On(x) => Advanced::On(Ahead {
                     state: x,

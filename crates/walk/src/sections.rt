@@ -128,15 +128,15 @@ fn to_unt(
     spots: Spots,
     marks: &mut [usize],
     heads: &mut [usize; 36],
-    links: &mut [u32],
-    buckets: &mut [u32],
+    names: &mut [u64],
+    slots: &mut [u16],
     rows: &mut [usize; 18],
 ) -> Reached
     requires { ⌜ Table y (now t) ⌝ }
-    requires { ⌜ Inside y (now s) begun (now heads) (now links) (now buckets) from spots (now rows) (now marks) ⌝ }
+    requires { ⌜ Inside y (now s) begun (now heads) (now names) (now slots) from spots (now rows) (now marks) ⌝ }
     ensures { λ r. ⌜
-        ((b p : ℕ) (u : Leaf) (ms : Snoc Whole) → Within y (now (s .entry)) b p u ms begun (now (heads .entry)) (now (links .entry)) (now (buckets .entry)) from spots (now (rows .entry))
-        → UntIs y (now (s .entry)) b p u ms r (now (heads .exit)) (now (links .exit)) (now (buckets .exit)) (now (rows .exit))) ⌝ }
+        ((b p : ℕ) (u : Leaf) (ms : Snoc Whole) → Within y (now (s .entry)) b p u ms begun (now (heads .entry)) (now (names .entry)) (now (slots .entry)) from spots (now (rows .entry))
+        → UntIs y (now (s .entry)) b p u ms r (now (heads .exit)) (now (names .exit)) (now (slots .exit)) (now (rows .exit))) ⌝ }
     ensures { λ r. ⌜ length (now (marks .exit)) ≡ 40 ⌝ }
 {
     let mut st = begun;
@@ -154,7 +154,7 @@ fn to_unt(
             }
             i += 1;
         }
-        match advance(s, at, t, y, st, marks, heads, links, buckets, found) {
+        match advance(s, at, t, y, st, marks, heads, names, slots, found) {
             Advanced::Stop(f) => {
                 return Reached::Stop(f);
             }
@@ -193,16 +193,16 @@ pub fn next_section(
     st: State,
     marks: &mut [usize],
     heads: &mut [usize; 36],
-    links: &mut [u32],
-    buckets: &mut [u32],
+    names: &mut [u64],
+    slots: &mut [u16],
     rows: &mut [usize; 18],
 ) -> Reached
     requires { ⌜ Table y (now t) ⌝ }
-    requires { ⌜ Starting y (now s) st (now heads) (now links) (now buckets) from (now rows) (now marks) ⌝ }
-    ensures { λ r. ⌜ ((b : ℕ) (w : Walking y (now (s .entry)) b st (now (heads .entry)) (now (links .entry)) (now (buckets .entry)) from) → SectionIs w r (now (heads .exit)) (now (links .exit)) (now (buckets .exit)) (now (rows .exit))) ⌝ }
+    requires { ⌜ Starting y (now s) st (now heads) (now names) (now slots) from (now rows) (now marks) ⌝ }
+    ensures { λ r. ⌜ ((b : ℕ) (w : Walking y (now (s .entry)) b st (now (heads .entry)) (now (names .entry)) (now (slots .entry)) from) → SectionIs w r (now (heads .exit)) (now (names .exit)) (now (slots .exit)) (now (rows .exit))) ⌝ }
     ensures { λ r. ⌜ length (now (marks .exit)) ≡ 40 ⌝ }
 {
-    match advance(s, from, t, y, st, marks, heads, links, buckets, 0) {
+    match advance(s, from, t, y, st, marks, heads, names, slots, 0) {
         Advanced::Stop(f) => Reached::Stop(f),
         Advanced::On(a) => {
             let z = a.state;
@@ -210,7 +210,7 @@ pub fn next_section(
             let next = a.next;
             let x = opened(from, next);
             if is_busy(p) {
-                return to_unt(s, next, t, y, z, x, marks, heads, links, buckets, rows);
+                return to_unt(s, next, t, y, z, x, marks, heads, names, slots, rows);
             }
             Reached::On(Section {
                 state: z,

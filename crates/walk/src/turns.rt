@@ -168,12 +168,12 @@ fn on_unb(
     f: Shape,
     marks: &[usize],
     heads: &[usize; 36],
-    links: &[u32],
-    buckets: &[u32],
+    names: &[u64],
+    slots: &[u16],
 ) -> Step
-    requires { ⌜ Ready y (now s) st (now heads) (now links) (now buckets) at next Unb f (now marks) ⌝ }
+    requires { ⌜ Ready y (now s) st (now heads) (now names) (now slots) at next Unb f (now marks) ⌝ }
     requires { ⌜ (st .phase ≡ Start) × (st .count ≡ 0) ⌝ }
-    ensures { λ r. ⌜ StepIs (decidedFrom (y .version) (stateIn (y .service .release) (now (s .entry)) st (now (heads .entry)) (now (links .entry))) (askedAt (y .service) (now (s .entry)) at) at) r (y .service .release) (now (s .entry)) (now (heads .entry)) (now (links .entry)) (now (buckets .entry)) next ⌝ }
+    ensures { λ r. ⌜ StepIs (decidedFrom (y .version) (stateIn (y .service .release) (now (s .entry)) st (now (heads .entry)) (now (names .entry))) (askedAt (y .service) (now (s .entry)) at) at) r (y .service .release) (now (s .entry)) (now (heads .entry)) (now (names .entry)) (now (slots .entry)) next ⌝ }
 {
     if !unb_formed(s, at, y, marks) {
         return stopped(8, at);
@@ -202,22 +202,21 @@ fn on_unh(
     f: Shape,
     marks: &[usize],
     heads: &[usize; 36],
-    links: &[u32],
-    buckets: &[u32],
+    names: &[u64],
+    slots: &[u16],
 ) -> Step
-    requires { ⌜ Ready y (now s) st (now heads) (now links) (now buckets) at next Unh f (now marks) ⌝ }
+    requires { ⌜ Ready y (now s) st (now heads) (now names) (now slots) at next Unh f (now marks) ⌝ }
     requires { ⌜ st .phase ≡ Idle ⌝ }
-    ensures { λ r. ⌜ StepIs (decidedFrom (y .version) (stateIn (y .service .release) (now (s .entry)) st (now (heads .entry)) (now (links .entry))) (askedAt (y .service) (now (s .entry)) at) at) r (y .service .release) (now (s .entry)) (now (heads .entry)) (now (links .entry)) (now (buckets .entry)) next ⌝ }
+    ensures { λ r. ⌜ StepIs (decidedFrom (y .version) (stateIn (y .service .release) (now (s .entry)) st (now (heads .entry)) (now (names .entry))) (askedAt (y .service) (now (s .entry)) at) at) r (y .service .release) (now (s .entry)) (now (heads .entry)) (now (names .entry)) (now (slots .entry)) next ⌝ }
 {
     let v = y.service;
     if !unh_formed(s, at, y, marks) {
         return stopped(8, at);
     }
     if used(
-        s,
         v.release,
-        links,
-        buckets,
+        names,
+        slots,
         st.count,
         field(s, at, y, marks, 1, 0),
     ) {
@@ -254,12 +253,12 @@ fn on_unz(
     f: Shape,
     marks: &[usize],
     heads: &[usize; 36],
-    links: &[u32],
-    buckets: &[u32],
+    names: &[u64],
+    slots: &[u16],
 ) -> Step
-    requires { ⌜ Ready y (now s) st (now heads) (now links) (now buckets) at next Unz f (now marks) ⌝ }
+    requires { ⌜ Ready y (now s) st (now heads) (now names) (now slots) at next Unz f (now marks) ⌝ }
     requires { ⌜ st .phase ≡ Idle ⌝ }
-    ensures { λ r. ⌜ StepIs (decidedFrom (y .version) (stateIn (y .service .release) (now (s .entry)) st (now (heads .entry)) (now (links .entry))) (askedAt (y .service) (now (s .entry)) at) at) r (y .service .release) (now (s .entry)) (now (heads .entry)) (now (links .entry)) (now (buckets .entry)) next ⌝ }
+    ensures { λ r. ⌜ StepIs (decidedFrom (y .version) (stateIn (y .service .release) (now (s .entry)) st (now (heads .entry)) (now (names .entry))) (askedAt (y .service) (now (s .entry)) at) at) r (y .service .release) (now (s .entry)) (now (heads .entry)) (now (names .entry)) (now (slots .entry)) next ⌝ }
 {
     let v = y.service;
     if st.count == 0 {
@@ -352,12 +351,12 @@ fn on_unt(
     f: Shape,
     marks: &[usize],
     heads: &[usize; 36],
-    links: &mut [u32],
-    buckets: &mut [u32],
+    names: &mut [u64],
+    slots: &mut [u16],
 ) -> Step
-    requires { ⌜ Ready y (now s) st (now heads) (now links) (now buckets) at next Unt f (now marks) ⌝ }
+    requires { ⌜ Ready y (now s) st (now heads) (now names) (now slots) at next Unt f (now marks) ⌝ }
     requires { ⌜ st .phase ≡ Busy ⌝ }
-    ensures { λ r. ⌜ StepIs (decidedFrom (y .version) (stateIn (y .service .release) (now (s .entry)) st (now (heads .entry)) (now (links .entry))) (askedAt (y .service) (now (s .entry)) at) at) r (y .service .release) (now (s .entry)) (now (heads .entry)) (now (links .exit)) (now (buckets .exit)) next ⌝ }
+    ensures { λ r. ⌜ StepIs (decidedFrom (y .version) (stateIn (y .service .release) (now (s .entry)) st (now (heads .entry)) (now (names .entry))) (askedAt (y .service) (now (s .entry)) at) at) r (y .service .release) (now (s .entry)) (now (heads .entry)) (now (names .exit)) (now (slots .exit)) next ⌝ }
 {
     let v = y.service;
     let m = st.message;
@@ -376,7 +375,7 @@ fn on_unt(
     }
     let a = w.start;
     let e = w.end;
-    note(s, v.release, links, buckets, st.count, a, e);
+    note(s, v.release, names, slots, st.count, a, e);
     let u = st.unb;
     Step::On(State {
         phase: Phase::Idle,
@@ -440,14 +439,14 @@ fn on_busy(
     f: Shape,
     marks: &[usize],
     heads: &mut [usize; 36],
-    links: &[u32],
-    buckets: &[u32],
+    names: &[u64],
+    slots: &[u16],
     found: usize,
 ) -> Step
-    requires { ⌜ Ready y (now s) st (now heads) (now links) (now buckets) at next k f (now marks) ⌝ }
+    requires { ⌜ Ready y (now s) st (now heads) (now names) (now slots) at next k f (now marks) ⌝ }
     requires { ⌜ (st .phase ≡ Busy) × (atBusy false false false true false k ≡ false) ⌝ }
     requires { ⌜ (k ≡ Ust → Sought (y .service) (now s) at (st .message) (now heads) found) ⌝ }
-    ensures { λ r. ⌜ StepIs (decidedFrom (y .version) (stateIn (y .service .release) (now (s .entry)) st (now (heads .entry)) (now (links .entry))) (askedAt (y .service) (now (s .entry)) at) at) r (y .service .release) (now (s .entry)) (now (heads .exit)) (now (links .entry)) (now (buckets .entry)) next ⌝ }
+    ensures { λ r. ⌜ StepIs (decidedFrom (y .version) (stateIn (y .service .release) (now (s .entry)) st (now (heads .entry)) (now (names .entry))) (askedAt (y .service) (now (s .entry)) at) at) r (y .service .release) (now (s .entry)) (now (heads .exit)) (now (names .entry)) (now (slots .entry)) next ⌝ }
 {
     let m = st.message;
     if !may_come(k, m) {
@@ -483,16 +482,16 @@ fn on_idle(
     f: Shape,
     marks: &[usize],
     heads: &[usize; 36],
-    links: &[u32],
-    buckets: &[u32],
+    names: &[u64],
+    slots: &[u16],
 ) -> Step
-    requires { ⌜ Ready y (now s) st (now heads) (now links) (now buckets) at next k f (now marks) ⌝ }
+    requires { ⌜ Ready y (now s) st (now heads) (now names) (now slots) at next k f (now marks) ⌝ }
     requires { ⌜ st .phase ≡ Idle ⌝ }
-    ensures { λ r. ⌜ StepIs (decidedFrom (y .version) (stateIn (y .service .release) (now (s .entry)) st (now (heads .entry)) (now (links .entry))) (askedAt (y .service) (now (s .entry)) at) at) r (y .service .release) (now (s .entry)) (now (heads .entry)) (now (links .entry)) (now (buckets .entry)) next ⌝ }
+    ensures { λ r. ⌜ StepIs (decidedFrom (y .version) (stateIn (y .service .release) (now (s .entry)) st (now (heads .entry)) (now (names .entry))) (askedAt (y .service) (now (s .entry)) at) at) r (y .service .release) (now (s .entry)) (now (heads .entry)) (now (names .entry)) (now (slots .entry)) next ⌝ }
 {
     match k {
-        Kind::Unh => on_unh(s, at, next, y, st, f, marks, heads, links, buckets),
-        Kind::Unz => on_unz(s, at, next, y, st, f, marks, heads, links, buckets),
+        Kind::Unh => on_unh(s, at, next, y, st, f, marks, heads, names, slots),
+        Kind::Unz => on_unz(s, at, next, y, st, f, marks, heads, names, slots),
         _ => stopped(7, at),
     }
 }
@@ -508,38 +507,25 @@ pub fn turn(
     f: Shape,
     marks: &[usize],
     heads: &mut [usize; 36],
-    links: &mut [u32],
-    buckets: &mut [u32],
+    names: &mut [u64],
+    slots: &mut [u16],
     found: usize,
 ) -> Step
-    requires { ⌜ Ready y (now s) st (now heads) (now links) (now buckets) at next k f (now marks) ⌝ }
+    requires { ⌜ Ready y (now s) st (now heads) (now names) (now slots) at next k f (now marks) ⌝ }
     requires { ⌜ (st .phase ≡ Start → st .count ≡ 0) ⌝ }
     requires { ⌜ (st .phase ≡ Busy → k ≡ Ust → Sought (y .service) (now s) at (st .message) (now heads) found) ⌝ }
-    ensures { λ r. ⌜ StepIs (decidedFrom (y .version) (stateIn (y .service .release) (now (s .entry)) st (now (heads .entry)) (now (links .entry))) (askedAt (y .service) (now (s .entry)) at) at) r (y .service .release) (now (s .entry)) (now (heads .exit)) (now (links .exit)) (now (buckets .exit)) next ⌝ }
+    ensures { λ r. ⌜ StepIs (decidedFrom (y .version) (stateIn (y .service .release) (now (s .entry)) st (now (heads .entry)) (now (names .entry))) (askedAt (y .service) (now (s .entry)) at) at) r (y .service .release) (now (s .entry)) (now (heads .exit)) (now (names .exit)) (now (slots .exit)) next ⌝ }
 {
     let p = st.phase;
     match p {
         Phase::Start => match k {
-            Kind::Unb => on_unb(s, at, next, y, st, f, marks, heads, links, buckets),
+            Kind::Unb => on_unb(s, at, next, y, st, f, marks, heads, names, slots),
             _ => stopped(7, at),
         },
-        Phase::Idle => on_idle(s, at, next, y, st, k, f, marks, heads, links, buckets),
+        Phase::Idle => on_idle(s, at, next, y, st, k, f, marks, heads, names, slots),
         Phase::Busy => match k {
-            Kind::Unt => on_unt(s, at, next, y, st, f, marks, heads, links, buckets),
-            _ => on_busy(
-                s,
-                at,
-                next,
-                y,
-                st,
-                k,
-                f,
-                marks,
-                heads,
-                links,
-                buckets,
-                found,
-            ),
+            Kind::Unt => on_unt(s, at, next, y, st, f, marks, heads, names, slots),
+            _ => on_busy(s, at, next, y, st, k, f, marks, heads, names, slots, found),
         },
         Phase::Done => stopped(7, at),
     }

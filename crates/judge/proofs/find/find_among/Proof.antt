@@ -23,10 +23,10 @@ use Rattle.judge.proofs.run.unread.Reads as unread-reads
 use Rattle.walk.proofs.sections.next_section.Reads as next-section-reads
 
 abbrev Inv-loop : tie.InvT-loop
-Inv-loop s from t y reference links₀ buckets₀ rows₀ marks₀ heads₀ here₀ st₀ at₀ found₀ c₀ v links buckets rows marks heads here st at found c = Sifting y s from reference st heads links buckets at marks here links₀ buckets₀ found c rows
+Inv-loop s from t y reference links₀ buckets₀ rows₀ marks₀ heads₀ here₀ st₀ at₀ found₀ c₀ v names slots rows marks heads here st at found c = Sifting y s from reference st heads names slots at marks here links₀ buckets₀ found c rows
 
 abbrev μ-loop : tie.MeasureT-loop
-μ-loop s from t y reference links₀ buckets₀ rows₀ marks₀ heads₀ here₀ st₀ at₀ found₀ c₀ v links buckets rows marks heads here st at found c = length s - at
+μ-loop s from t y reference links₀ buckets₀ rows₀ marks₀ heads₀ here₀ st₀ at₀ found₀ c₀ v names slots rows marks heads here st at found c = length s - at
 
 -- src/find.rt:98:9
 unread-requires : tie.Need-unread-requires Inv-loop μ-loop
@@ -38,7 +38,7 @@ no-layout-requires c κs = search needs
 
 -- src/find.rt:103:5
 loop-holds : tie.Need-loop-holds Inv-loop μ-loop
-loop-holds c = let w = walking-start (c .before .before .before .before .before .before .before .pre .1 .0) refl (c .before .before .unread .ensures) in record { looping = record { walks = w; between = unread-idle (c .before .before .unread .ensures); marks = refl; room = refl; links = refl; buckets = refl }; seeks = seeks-start w (c .before .before .before .before .before .before .before .args .reference .now) (c .before .before .unread .ensures); long = c .before .before .before .before .before .before .before .pre .1 .1 }
+loop-holds c = let w = walking-start (c .before .before .before .before .before .before .before .pre .1 .0) refl (c .before .before .unread .ensures) in record { looping = record { walks = w; between = unread-idle (c .before .before .unread .ensures); marks = refl; room = refl; names = refl; slots = refl }; seeks = seeks-start w (c .before .before .before .before .before .before .before .args .reference .now) (c .before .before .unread .ensures); long = c .before .before .before .before .before .before .before .pre .1 .1 }
 
 -- src/find.rt:105:12
 is-done-requires : tie.Need-is-done-requires Inv-loop μ-loop
@@ -102,7 +102,7 @@ loop-less c = let p = passed (c .before .before .before .before .before .before 
 
 -- src/find.rt:103:5
 loop-again : tie.Need-loop-again Inv-loop μ-loop
-loop-again c = let p = passed (c .before .before .before .before .before .before .before .before .before .before .before .before .before .before .before .before .before .before .before .before .before .loop .inv .looping .walks) (c .before .before .before .before .before .before .before .before .before .before .before .before .next-section .last .1 .1 .1 .1 .1 .1 .0) (c .before .before .before .before .before .before .before .before .before .before .before .before .next-section .last .1 .1 .1 .1 .1 .1 .1 .0) (c .before .before .before .before .before .before .before .before .before .before .before .before .next-section .last .1 .1 .1 .1 .1 .1 .1 .1 .0) (c .before .before .before .before .before .before .before .before .before .before .before .before .next-section .last .1 .1 .1 .1 .1 .1 .1 .1 .1 .0) _ (c .before .before .before .before .before .a .given .1) (c .before .before .before .before .before .before .before .before .before .before .before .before .next-section .ensures .0 _ (c .before .before .before .before .before .before .before .before .before .before .before .before .before .before .before .before .before .before .before .before .before .loop .inv .looping .walks)) in ⊎-elim (λ w. record { looping = record { walks = p .walks; between = p .between; marks = c .before .before .before .before .before .before .before .before .before .before .before .before .next-section .ensures .1; room = p .long; links = c .before .before .before .before .before .before .before .before .before .before .before .before .next-section .kept .1 .1 .1 .1 .1 .1 .1 .0 ∙ c .before .before .before .before .before .before .before .before .before .before .before .before .before .before .before .before .before .before .before .before .before .loop .inv .looping .links; buckets = c .before .before .before .before .before .before .before .before .before .before .before .before .next-section .kept .1 .1 .1 .1 .1 .1 .1 .1 .0 ∙ c .before .before .before .before .before .before .before .before .before .before .before .before .before .before .before .before .before .before .before .before .before .loop .inv .looping .buckets }; seeks = seeks-eq (c .before .before .before .before .before .before .before .before .before .before .before .before .before .before .before .before .before .before .before .before .before .before .before .before .before .before .before .before .before .args .y .service) (c .before .before .before .before .before .before .before .before .before .before .before .before .before .before .before .before .before .before .before .before .before .before .before .before .before .before .before .before .before .args .s .now) (c .before .before .before .before .before .before .before .before .before .before .before .before .before .before .before .before .before .before .before .before .before .before .before .before .before .before .before .before .before .args .from) (p .walks .tree) (c .before .before .before .before .before .before .before .before .before .before .before .before .before .before .before .before .before .before .before .before .before .before .before .before .before .before .before .before .before .args .reference .now) (w .5) (w .6) (w .4 ∙ w .3 .ensures) (seeks-hit (c .before .before .before .before .before .before .before .before .before .before .before .before .before .before .before .before .before .before .before .before .before .loop .inv .looping .walks) p (c .before .before .before .before .before .before .before .before .before .before .before .before .before .before .before .before .before .before .before .before .before .before .before .before .before .before .before .before .before .args .reference .now) (sym (c .before .before .is-named .ensures) ∙ w .0 .taken)); long = ap length (w .4 ∙ w .3 .ensures) ∙ p .long }) (λ w. record { looping = record { walks = p .walks; between = p .between; marks = c .before .before .before .before .before .before .before .before .before .before .before .before .next-section .ensures .1; room = p .long; links = c .before .before .before .before .before .before .before .before .before .before .before .before .next-section .kept .1 .1 .1 .1 .1 .1 .1 .0 ∙ c .before .before .before .before .before .before .before .before .before .before .before .before .before .before .before .before .before .before .before .before .before .loop .inv .looping .links; buckets = c .before .before .before .before .before .before .before .before .before .before .before .before .next-section .kept .1 .1 .1 .1 .1 .1 .1 .1 .0 ∙ c .before .before .before .before .before .before .before .before .before .before .before .before .before .before .before .before .before .before .before .before .before .loop .inv .looping .buckets }; seeks = seeks-eq (c .before .before .before .before .before .before .before .before .before .before .before .before .before .before .before .before .before .before .before .before .before .before .before .before .before .before .before .before .before .args .y .service) (c .before .before .before .before .before .before .before .before .before .before .before .before .before .before .before .before .before .before .before .before .before .before .before .before .before .before .before .before .before .args .s .now) (c .before .before .before .before .before .before .before .before .before .before .before .before .before .before .before .before .before .before .before .before .before .before .before .before .before .before .before .before .before .args .from) (p .walks .tree) (c .before .before .before .before .before .before .before .before .before .before .before .before .before .before .before .before .before .before .before .before .before .before .before .before .before .before .before .before .before .args .reference .now) (w .2) (w .3) (w .1) (seeks-on (c .before .before .before .before .before .before .before .before .before .before .before .before .before .before .before .before .before .before .before .before .before .loop .inv .looping .walks) p (c .before .before .before .before .before .before .before .before .before .before .before .before .before .before .before .before .before .before .before .before .before .before .before .before .before .before .before .before .before .args .reference .now) (c .before .before .before .before .before .before .before .before .before .before .before .before .before .before .before .before .before .before .before .before .before .loop .found) (c .before .before .before .before .before .before .before .before .before .before .before .before .before .before .before .before .before .before .before .before .before .loop .c) (c .before .before .before .before .before .before .before .before .before .before .before .before .before .before .before .before .before .before .before .before .before .loop .rows) (sym (c .before .before .is-named .ensures) ∙ w .0 .left) (c .before .before .before .before .before .before .before .before .before .before .before .before .before .before .before .before .before .before .before .before .before .loop .inv .seeks)); long = ap length (w .1) ∙ c .before .before .before .before .before .before .before .before .before .before .before .before .before .before .before .before .before .before .before .before .before .loop .inv .long }) (c .before .if2 .came)
+loop-again c = let p = passed (c .before .before .before .before .before .before .before .before .before .before .before .before .before .before .before .before .before .before .before .before .before .loop .inv .looping .walks) (c .before .before .before .before .before .before .before .before .before .before .before .before .next-section .last .1 .1 .1 .1 .1 .1 .0) (c .before .before .before .before .before .before .before .before .before .before .before .before .next-section .last .1 .1 .1 .1 .1 .1 .1 .0) (c .before .before .before .before .before .before .before .before .before .before .before .before .next-section .last .1 .1 .1 .1 .1 .1 .1 .1 .0) (c .before .before .before .before .before .before .before .before .before .before .before .before .next-section .last .1 .1 .1 .1 .1 .1 .1 .1 .1 .0) _ (c .before .before .before .before .before .a .given .1) (c .before .before .before .before .before .before .before .before .before .before .before .before .next-section .ensures .0 _ (c .before .before .before .before .before .before .before .before .before .before .before .before .before .before .before .before .before .before .before .before .before .loop .inv .looping .walks)) in ⊎-elim (λ w. record { looping = record { walks = p .walks; between = p .between; marks = c .before .before .before .before .before .before .before .before .before .before .before .before .next-section .ensures .1; room = p .long; names = c .before .before .before .before .before .before .before .before .before .before .before .before .next-section .kept .1 .1 .1 .1 .1 .1 .1 .0 ∙ c .before .before .before .before .before .before .before .before .before .before .before .before .before .before .before .before .before .before .before .before .before .loop .inv .looping .names; slots = c .before .before .before .before .before .before .before .before .before .before .before .before .next-section .kept .1 .1 .1 .1 .1 .1 .1 .1 .0 ∙ c .before .before .before .before .before .before .before .before .before .before .before .before .before .before .before .before .before .before .before .before .before .loop .inv .looping .slots }; seeks = seeks-eq (c .before .before .before .before .before .before .before .before .before .before .before .before .before .before .before .before .before .before .before .before .before .before .before .before .before .before .before .before .before .args .y .service) (c .before .before .before .before .before .before .before .before .before .before .before .before .before .before .before .before .before .before .before .before .before .before .before .before .before .before .before .before .before .args .s .now) (c .before .before .before .before .before .before .before .before .before .before .before .before .before .before .before .before .before .before .before .before .before .before .before .before .before .before .before .before .before .args .from) (p .walks .tree) (c .before .before .before .before .before .before .before .before .before .before .before .before .before .before .before .before .before .before .before .before .before .before .before .before .before .before .before .before .before .args .reference .now) (w .5) (w .6) (w .4 ∙ w .3 .ensures) (seeks-hit (c .before .before .before .before .before .before .before .before .before .before .before .before .before .before .before .before .before .before .before .before .before .loop .inv .looping .walks) p (c .before .before .before .before .before .before .before .before .before .before .before .before .before .before .before .before .before .before .before .before .before .before .before .before .before .before .before .before .before .args .reference .now) (sym (c .before .before .is-named .ensures) ∙ w .0 .taken)); long = ap length (w .4 ∙ w .3 .ensures) ∙ p .long }) (λ w. record { looping = record { walks = p .walks; between = p .between; marks = c .before .before .before .before .before .before .before .before .before .before .before .before .next-section .ensures .1; room = p .long; names = c .before .before .before .before .before .before .before .before .before .before .before .before .next-section .kept .1 .1 .1 .1 .1 .1 .1 .0 ∙ c .before .before .before .before .before .before .before .before .before .before .before .before .before .before .before .before .before .before .before .before .before .loop .inv .looping .names; slots = c .before .before .before .before .before .before .before .before .before .before .before .before .next-section .kept .1 .1 .1 .1 .1 .1 .1 .1 .0 ∙ c .before .before .before .before .before .before .before .before .before .before .before .before .before .before .before .before .before .before .before .before .before .loop .inv .looping .slots }; seeks = seeks-eq (c .before .before .before .before .before .before .before .before .before .before .before .before .before .before .before .before .before .before .before .before .before .before .before .before .before .before .before .before .before .args .y .service) (c .before .before .before .before .before .before .before .before .before .before .before .before .before .before .before .before .before .before .before .before .before .before .before .before .before .before .before .before .before .args .s .now) (c .before .before .before .before .before .before .before .before .before .before .before .before .before .before .before .before .before .before .before .before .before .before .before .before .before .before .before .before .before .args .from) (p .walks .tree) (c .before .before .before .before .before .before .before .before .before .before .before .before .before .before .before .before .before .before .before .before .before .before .before .before .before .before .before .before .before .args .reference .now) (w .2) (w .3) (w .1) (seeks-on (c .before .before .before .before .before .before .before .before .before .before .before .before .before .before .before .before .before .before .before .before .before .loop .inv .looping .walks) p (c .before .before .before .before .before .before .before .before .before .before .before .before .before .before .before .before .before .before .before .before .before .before .before .before .before .before .before .before .before .args .reference .now) (c .before .before .before .before .before .before .before .before .before .before .before .before .before .before .before .before .before .before .before .before .before .loop .found) (c .before .before .before .before .before .before .before .before .before .before .before .before .before .before .before .before .before .before .before .before .before .loop .c) (c .before .before .before .before .before .before .before .before .before .before .before .before .before .before .before .before .before .before .before .before .before .loop .rows) (sym (c .before .before .is-named .ensures) ∙ w .0 .left) (c .before .before .before .before .before .before .before .before .before .before .before .before .before .before .before .before .before .before .before .before .before .loop .inv .seeks)); long = ap length (w .1) ∙ c .before .before .before .before .before .before .before .before .before .before .before .before .before .before .before .before .before .before .before .before .before .loop .inv .long }) (c .before .if2 .came)
 
 -- src/find.rt:126:9
 is-done-requires-2 : tie.Need-is-done-requires-2 Inv-loop μ-loop

@@ -18,7 +18,7 @@ slice-aggregate-find-among-2 c = search needs
 
 -- src/find.rt:143:5
 find-among-requires : tie.Need-find-among-requires
-find-among-requires c κs = let l = c .before .before .before .before .before .pre .1 .1 .0 in (c .before .before .before .before .before .pre .0, (fresh-tables 1024 64 (omega arith) refl refl (c .before .before .before .before .before .pre .1 .0) (omega (arith, l)) (omega (arith, l)), c .before .before .before .before .before .pre .1 .1 .1))
+find-among-requires c κs = let l = c .before .before .before .before .before .pre .1 .1 .0 in (c .before .before .before .before .before .pre .0, (fresh-tables 512 763 (omega arith) refl refl (c .before .before .before .before .before .pre .1 .0) (omega (arith, l)) (omega (arith, l)), c .before .before .before .before .before .pre .1 .1 .1))
 
 -- src/find.rt:135:1
 returns : tie.Need-returns

@@ -17,10 +17,10 @@ use Rattle.judge.proofs.run.unread.Reads as unread-reads
 use Rattle.walk.proofs.sections.next_section.Reads as next-section-reads
 
 abbrev Inv-loop : tie.InvT-loop
-Inv-loop s from t y links₀ buckets₀ marks₀ heads₀ rows₀ st₀ at₀ links buckets marks heads rows st at = Looping y s from st heads links buckets at marks rows links₀ buckets₀
+Inv-loop s from t y links₀ buckets₀ marks₀ heads₀ rows₀ st₀ at₀ names slots marks heads rows st at = Looping y s from st heads names slots at marks rows links₀ buckets₀
 
 abbrev μ-loop : tie.MeasureT-loop
-μ-loop s from t y links₀ buckets₀ marks₀ heads₀ rows₀ st₀ at₀ links buckets marks heads rows st at = length s - at
+μ-loop s from t y links₀ buckets₀ marks₀ heads₀ rows₀ st₀ at₀ names slots marks heads rows st at = length s - at
 
 -- src/run.rt:78:9
 unread-requires : tie.Need-unread-requires Inv-loop μ-loop
@@ -28,7 +28,7 @@ unread-requires c κs = search needs
 
 -- src/run.rt:80:5
 loop-holds : tie.Need-loop-holds Inv-loop μ-loop
-loop-holds c = record { walks = walking-start (c .before .before .before .before .pre .1) refl (c .unread .ensures); between = unread-idle (c .unread .ensures); marks = refl; room = refl; links = refl; buckets = refl }
+loop-holds c = record { walks = walking-start (c .before .before .before .before .pre .1) refl (c .unread .ensures); between = unread-idle (c .unread .ensures); marks = refl; room = refl; names = refl; slots = refl }
 
 -- src/run.rt:82:12
 is-done-requires : tie.Need-is-done-requires Inv-loop μ-loop
@@ -84,7 +84,7 @@ loop-less c = let p = passed (c .before .before .before .before .before .before 
 
 -- src/run.rt:80:5
 loop-again : tie.Need-loop-again Inv-loop μ-loop
-loop-again c = let p = passed (c .before .before .before .before .before .before .before .before .before .before .before .before .before .before .before .before .before .before .loop .inv .walks) (c .before .before .before .before .before .before .before .before .before .next-section .last .1 .1 .1 .1 .1 .1 .0) (c .before .before .before .before .before .before .before .before .before .next-section .last .1 .1 .1 .1 .1 .1 .1 .0) (c .before .before .before .before .before .before .before .before .before .next-section .last .1 .1 .1 .1 .1 .1 .1 .1 .0) (c .before .before .before .before .before .before .before .before .before .next-section .last .1 .1 .1 .1 .1 .1 .1 .1 .1 .0) _ (c .before .before .a .given .1) (c .before .before .before .before .before .before .before .before .before .next-section .ensures .0 _ (c .before .before .before .before .before .before .before .before .before .before .before .before .before .before .before .before .before .before .loop .inv .walks)) in record { walks = p .walks; between = p .between; marks = c .before .before .before .before .before .before .before .before .before .next-section .ensures .1; room = p .long; links = c .before .before .before .before .before .before .before .before .before .next-section .kept .1 .1 .1 .1 .1 .1 .1 .0 ∙ c .before .before .before .before .before .before .before .before .before .before .before .before .before .before .before .before .before .before .loop .inv .links; buckets = c .before .before .before .before .before .before .before .before .before .next-section .kept .1 .1 .1 .1 .1 .1 .1 .1 .0 ∙ c .before .before .before .before .before .before .before .before .before .before .before .before .before .before .before .before .before .before .loop .inv .buckets }
+loop-again c = let p = passed (c .before .before .before .before .before .before .before .before .before .before .before .before .before .before .before .before .before .before .loop .inv .walks) (c .before .before .before .before .before .before .before .before .before .next-section .last .1 .1 .1 .1 .1 .1 .0) (c .before .before .before .before .before .before .before .before .before .next-section .last .1 .1 .1 .1 .1 .1 .1 .0) (c .before .before .before .before .before .before .before .before .before .next-section .last .1 .1 .1 .1 .1 .1 .1 .1 .0) (c .before .before .before .before .before .before .before .before .before .next-section .last .1 .1 .1 .1 .1 .1 .1 .1 .1 .0) _ (c .before .before .a .given .1) (c .before .before .before .before .before .before .before .before .before .next-section .ensures .0 _ (c .before .before .before .before .before .before .before .before .before .before .before .before .before .before .before .before .before .before .loop .inv .walks)) in record { walks = p .walks; between = p .between; marks = c .before .before .before .before .before .before .before .before .before .next-section .ensures .1; room = p .long; names = c .before .before .before .before .before .before .before .before .before .next-section .kept .1 .1 .1 .1 .1 .1 .1 .0 ∙ c .before .before .before .before .before .before .before .before .before .before .before .before .before .before .before .before .before .before .loop .inv .names; slots = c .before .before .before .before .before .before .before .before .before .next-section .kept .1 .1 .1 .1 .1 .1 .1 .1 .0 ∙ c .before .before .before .before .before .before .before .before .before .before .before .before .before .before .before .before .before .before .loop .inv .slots }
 
 -- src/run.rt:108:8
 is-done-requires-2 : tie.Need-is-done-requires-2 Inv-loop μ-loop

@@ -12,7 +12,7 @@ slice-aggregate-run-2 : tie.Need-slice-aggregate-run-2
 slice-aggregate-run-2 c = search needs
 
 run-requires : tie.Need-run-requires
-run-requires c κs = let l = c .before .before .before .pre .1 .1 in (c .before .before .before .pre .0, fresh-tables 1024 64 (omega arith) refl refl (c .before .before .before .pre .1 .0) (omega (arith, l)) (omega (arith, l)))
+run-requires c κs = let l = c .before .before .before .pre .1 .1 in (c .before .before .before .pre .0, fresh-tables 512 763 (omega arith) refl refl (c .before .before .before .pre .1 .0) (omega (arith, l)) (omega (arith, l)))
 
 returns : tie.Need-returns
 returns c = search needs

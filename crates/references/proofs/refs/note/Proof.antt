@@ -1,5 +1,5 @@
 use lib.Seq.{lt-length-set}
-use Rattle.references.specs.RefsLaws.{chained-room, noted}
+use Rattle.references.specs.RefsLaws.{note-room, name-same, noted-new, noted-again}
 use borrow.Author.Needs.{needs}
 use Rattle.references.proofs.refs.note.Statement.{statement}
 use Rattle.references.proofs.refs.note.Tie as tie
@@ -7,71 +7,50 @@ use Rattle.references.proofs.refs.note.Tie as tie
 part-requires : tie.Need-part-requires
 part-requires c κs = search needs
 
-mixed-requires : tie.Need-mixed-requires
-mixed-requires c κs = search needs
+name-of-requires : tie.Need-name-of-requires
+name-of-requires c κs = search needs
 
-bucket-requires : tie.Need-bucket-requires
-bucket-requires c κs = search needs
+slot-of-requires : tie.Need-slot-of-requires
+slot-of-requires c κs = search needs
 
-mul-j : tie.Need-mul-j
-mul-j c = search needs
+mul-names : tie.Need-mul-names
+mul-names c = search needs
 
-cast-links : tie.Need-cast-links
-cast-links c = search needs
+mul-names-2 : tie.Need-mul-names-2
+mul-names-2 c = search needs
 
-mul-links : tie.Need-mul-links
-mul-links c = search needs
+slice-write-names : tie.Need-slice-write-names
+slice-write-names c = search needs
 
-slice-write-links : tie.Need-slice-write-links
-slice-write-links c = search needs
+mul-names-3 : tie.Need-mul-names-3
+mul-names-3 c = search needs
 
-cast-links-2 : tie.Need-cast-links-2
-cast-links-2 c = search needs
+add-names : tie.Need-add-names
+add-names c = search needs
 
-add-links : tie.Need-add-links
-add-links c = search needs
+mul-names-4 : tie.Need-mul-names-4
+mul-names-4 c = search needs
 
-mul-links-2 : tie.Need-mul-links-2
-mul-links-2 c = search needs
+slice-write-names-2 : tie.Need-slice-write-names-2
+slice-write-names-2 c = let h = note-room (c .before .before .before .before .before .before .before .before .args .names .now) (c .before .before .before .before .before .before .before .before .args .n) (c .before .before .before .before .before .before .before .before .pre .1 .0) in search (lt-length-set, needs)
 
-slice-write-links-2 : tie.Need-slice-write-links-2
-slice-write-links-2 c = let h = chained-room (c .before .before .before .before .before .before .pre .0) (c .before .before .before .before .before .before .pre .1 .0) .0 in search (lt-length-set, needs)
+mul-if1 : tie.Need-mul-if1
+mul-if1 c = search needs
 
-add-links-2 : tie.Need-add-links-2
-add-links-2 c = search needs
+slice-read-if1 : tie.Need-slice-read-if1
+slice-read-if1 c = search needs
 
-mul-links-3 : tie.Need-mul-links-3
-mul-links-3 c = search needs
+cast-slots : tie.Need-cast-slots
+cast-slots c = search needs
 
-slice-write-links-3 : tie.Need-slice-write-links-3
-slice-write-links-3 c = let h = chained-room (c .before .before .before .before .before .before .pre .0) (c .before .before .before .before .before .before .pre .1 .0) .1 in search (lt-length-set, needs)
+add-slots : tie.Need-add-slots
+add-slots c = search needs
 
-mul-links-4 : tie.Need-mul-links-4
-mul-links-4 c = search needs
+mul-slots : tie.Need-mul-slots
+mul-slots c = search needs
 
-slice-read-links : tie.Need-slice-read-links
-slice-read-links c = search needs
-
-add-links-3 : tie.Need-add-links-3
-add-links-3 c = search needs
-
-mul-links-5 : tie.Need-mul-links-5
-mul-links-5 c = search needs
-
-slice-write-links-4 : tie.Need-slice-write-links-4
-slice-write-links-4 c = let h = chained-room (c .before .before .before .before .before .before .before .pre .0) (c .before .before .before .before .before .before .before .pre .1 .0) .2 in search (lt-length-set, needs)
-
-cast-heads : tie.Need-cast-heads
-cast-heads c = search needs
-
-add-heads : tie.Need-add-heads
-add-heads c = search needs
-
-mul-heads : tie.Need-mul-heads
-mul-heads c = search needs
-
-slice-write-heads : tie.Need-slice-write-heads
-slice-write-heads c = search needs
+slice-write-slots : tie.Need-slice-write-slots
+slice-write-slots c = search needs
 
 same-length : tie.Need-same-length
 same-length c = search needs
@@ -80,37 +59,40 @@ same-length-2 : tie.Need-same-length-2
 same-length-2 c = search needs
 
 returns : tie.Need-returns
-returns c =
-    let g = c .before .before .before .before .before .before .before in
-    noted (g .pre .0) (g .pre .1 .0) (g .pre .1 .1) (g .args .a) (g .args .e) (c .before .before .before .part .ensures) (c .before .before .mixed .ensures) (c .before .bucket .ensures .0)
+returns c = noted-new (c .before .before .before .before .before .before .before .before .before .before .pre .0) (c .before .before .before .before .before .before .before .before .before .before .pre .1 .0) (c .before .before .before .before .before .before .before .before .before .before .pre .1 .1) (c .before .before .before .before .before .before .before .before .before .before .pre .1 .2) (name-same (c .before .before .before .before .before .before .before .before .before .before .args .release) (c .before .before .before .before .before .before .part .ensures) (c .before .before .before .before .before .name-of .ensures)) (c .before .before .slot-of .ensures) (c .if1 .taken)
+
+same-length-3 : tie.Need-same-length-3
+same-length-3 c = search needs
+
+same-length-4 : tie.Need-same-length-4
+same-length-4 c = search needs
+
+returns-2 : tie.Need-returns-2
+returns-2 c = noted-again (c .before .before .before .before .before .before .before .before .before .before .pre .0) (c .before .before .before .before .before .before .before .before .before .before .pre .1 .0) (c .before .before .before .before .before .before .before .before .before .before .pre .1 .1) (c .before .before .before .before .before .before .before .before .before .before .pre .1 .2) (name-same (c .before .before .before .before .before .before .before .before .before .before .args .release) (c .before .before .before .before .before .before .part .ensures) (c .before .before .before .before .before .name-of .ensures)) (c .before .before .slot-of .ensures) (c .if1 .left)
 
 pub note-spec : {M : Type 1} → statement M
 note-spec =
     tie.close
     (tie.spec
     part-requires
-    mixed-requires
-    bucket-requires
-    mul-j
-    cast-links
-    mul-links
-    slice-write-links
-    cast-links-2
-    add-links
-    mul-links-2
-    slice-write-links-2
-    add-links-2
-    mul-links-3
-    slice-write-links-3
-    mul-links-4
-    slice-read-links
-    add-links-3
-    mul-links-5
-    slice-write-links-4
-    cast-heads
-    add-heads
-    mul-heads
-    slice-write-heads
+    name-of-requires
+    slot-of-requires
+    mul-names
+    mul-names-2
+    slice-write-names
+    mul-names-3
+    add-names
+    mul-names-4
+    slice-write-names-2
+    mul-if1
+    slice-read-if1
+    cast-slots
+    add-slots
+    mul-slots
+    slice-write-slots
     same-length
     same-length-2
-    returns)
+    returns
+    same-length-3
+    same-length-4
+    returns-2)

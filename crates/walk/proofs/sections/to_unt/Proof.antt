@@ -23,17 +23,17 @@ use Rattle.walk.proofs.sections.nameable.Reads as nameable-reads
 use Rattle.walk.proofs.sections.names_free.Reads as names-free-reads
 
 abbrev Inv-loop2 : tie.InvT-loop2
-Inv-loop2 s from t y marks heads links buckets rows st x at n found₀ i₀ found i = (found ≡ n) × Seeking (y .service .release) s heads (textAt (y .service) s at 1 0) n i
+Inv-loop2 s from t y marks heads names slots rows st x at n found₀ i₀ found i = (found ≡ n) × Seeking (y .service .release) s heads (textAt (y .service) s at 1 0) n i
 
 abbrev μ-loop2 : tie.MeasureT-loop2
-μ-loop2 s from t y marks heads links buckets rows st x at n found₀ i₀ found i = n - i
+μ-loop2 s from t y marks heads names slots rows st x at n found₀ i₀ found i = n - i
 
 abbrev Inv-loop : tie.InvT-loop
-Inv-loop s from t y marks₀ heads₀ links₀ buckets₀ rows₀ st₀ x₀ at₀ marks heads links buckets rows st x at =
-    Crossing y s st₀ heads₀ links₀ buckets₀ at₀ x₀ rows₀ st heads links buckets at x rows marks
+Inv-loop s from t y marks₀ heads₀ links₀ buckets₀ rows₀ st₀ x₀ at₀ marks heads names slots rows st x at =
+    Crossing y s st₀ heads₀ links₀ buckets₀ at₀ x₀ rows₀ st heads names slots at x rows marks
 
 abbrev μ-loop : tie.MeasureT-loop
-μ-loop s from t y marks₀ heads₀ links₀ buckets₀ rows₀ st₀ x₀ at₀ marks heads links buckets rows st x at =
+μ-loop s from t y marks₀ heads₀ links₀ buckets₀ rows₀ st₀ x₀ at₀ marks heads names slots rows st x at =
     length s - at
 
 -- where the search ends, by its test or by its break: the header that the trailer names
@@ -48,7 +48,7 @@ chosen c =
 
 -- src/sections.rt:142:5
 loop-holds : tie.Need-loop-holds Inv-loop2 μ-loop2 Inv-loop μ-loop
-loop-holds c = record { inside = c .before .before .before .before .pre .1; since = λ f p u ms w. w; links = refl; buckets = refl }
+loop-holds c = record { inside = c .before .before .before .before .pre .1; since = λ f p u ms w. w; names = refl; slots = refl }
 
 -- src/sections.rt:144:13
 nameable-requires : tie.Need-nameable-requires Inv-loop2 μ-loop2 Inv-loop μ-loop
@@ -88,11 +88,11 @@ same-length c = c .before .before .before .before .before .before .before .befor
 
 -- src/sections.rt:156:17
 same-length-2 : tie.Need-same-length-2 Inv-loop2 μ-loop2 Inv-loop μ-loop
-same-length-2 c = c .before .before .before .before .before .before .before .before .before .advance .kept .1 .1 .1 .1 .1 .1 .1 .0 ∙ c .before .before .before .before .before .before .before .before .before .before .before .before .before .before .before .before .before .before .before .loop .inv .links
+same-length-2 c = c .before .before .before .before .before .before .before .before .before .advance .kept .1 .1 .1 .1 .1 .1 .1 .0 ∙ c .before .before .before .before .before .before .before .before .before .before .before .before .before .before .before .before .before .before .before .loop .inv .names
 
 -- src/sections.rt:156:17
 same-length-3 : tie.Need-same-length-3 Inv-loop2 μ-loop2 Inv-loop μ-loop
-same-length-3 c = c .before .before .before .before .before .before .before .before .before .advance .kept .1 .1 .1 .1 .1 .1 .1 .1 .0 ∙ c .before .before .before .before .before .before .before .before .before .before .before .before .before .before .before .before .before .before .before .loop .inv .buckets
+same-length-3 c = c .before .before .before .before .before .before .before .before .before .advance .kept .1 .1 .1 .1 .1 .1 .1 .1 .0 ∙ c .before .before .before .before .before .before .before .before .before .before .before .before .before .before .before .before .before .before .before .loop .inv .slots
 
 -- src/sections.rt:156:17
 returns : tie.Need-returns Inv-loop2 μ-loop2 Inv-loop μ-loop
@@ -116,11 +116,11 @@ same-length-4 c = c .before .before .before .before .before .before .before .bef
 
 -- src/sections.rt:163:21
 same-length-5 : tie.Need-same-length-5 Inv-loop2 μ-loop2 Inv-loop μ-loop
-same-length-5 c = c .before .before .before .before .before .before .before .before .before .before .before .before .before .before .advance .kept .1 .1 .1 .1 .1 .1 .1 .0 ∙ c .before .before .before .before .before .before .before .before .before .before .before .before .before .before .before .before .before .before .before .before .before .before .before .before .loop .inv .links
+same-length-5 c = c .before .before .before .before .before .before .before .before .before .before .before .before .before .before .advance .kept .1 .1 .1 .1 .1 .1 .1 .0 ∙ c .before .before .before .before .before .before .before .before .before .before .before .before .before .before .before .before .before .before .before .before .before .before .before .before .loop .inv .names
 
 -- src/sections.rt:163:21
 same-length-6 : tie.Need-same-length-6 Inv-loop2 μ-loop2 Inv-loop μ-loop
-same-length-6 c = c .before .before .before .before .before .before .before .before .before .before .before .before .before .before .advance .kept .1 .1 .1 .1 .1 .1 .1 .1 .0 ∙ c .before .before .before .before .before .before .before .before .before .before .before .before .before .before .before .before .before .before .before .before .before .before .before .before .loop .inv .buckets
+same-length-6 c = c .before .before .before .before .before .before .before .before .before .before .before .before .before .before .advance .kept .1 .1 .1 .1 .1 .1 .1 .1 .0 ∙ c .before .before .before .before .before .before .before .before .before .before .before .before .before .before .before .before .before .before .before .before .before .before .before .before .loop .inv .slots
 
 -- src/sections.rt:163:21
 returns-2 : tie.Need-returns-2 Inv-loop2 μ-loop2 Inv-loop μ-loop
@@ -136,7 +136,7 @@ loop-less c = let o = onward-far (c .before .before .before .before .before .bef
 
 -- src/sections.rt:142:5
 loop-again : tie.Need-loop-again Inv-loop2 μ-loop2 Inv-loop μ-loop
-loop-again c = record { inside = inside-on (c .before .before .before .before .before .before .before .before .before .before .before .before .before .before .before .before .before .before .before .before .before .before .before .before .before .loop .inv .inside) (further (c .before .before .before .before .before .before .before .before .before .before .before .before .before .before .before .before .before .before .before .before .before .before .before .before .before .loop .inv .inside .within .walks) _ (c .before .before .before .before .before .before .before .a .given .1) (c .before .before .before .before .before .before .before .before .before .before .before .before .before .before .before .advance .ensures .0 _ (c .before .before .before .before .before .before .before .before .before .before .before .before .before .before .before .before .before .before .before .before .before .before .before .before .before .loop .inv .inside .within .walks))) (sym (c .before .before .before .is-busy .ensures) ∙ not-false _ (c .before .before .if2 .left)) (c .before .before .before .before .before .before .before .before .before .before .before .before .before .before .before .advance .ensures .1) (c .spotted .ensures .0) (c .spotted .ensures .1); since = λ b p u ms w. within-on (c .before .before .before .before .before .before .before .before .before .before .before .before .before .before .before .before .before .before .before .before .before .before .before .before .before .loop .inv .since b p u ms w) (further (c .before .before .before .before .before .before .before .before .before .before .before .before .before .before .before .before .before .before .before .before .before .before .before .before .before .loop .inv .since b p u ms w .walks) _ (c .before .before .before .before .before .before .before .a .given .1) (c .before .before .before .before .before .before .before .before .before .before .before .before .before .before .before .advance .ensures .0 _ (c .before .before .before .before .before .before .before .before .before .before .before .before .before .before .before .before .before .before .before .before .before .before .before .before .before .loop .inv .since b p u ms w .walks))) (sym (c .before .before .before .is-busy .ensures) ∙ not-false _ (c .before .before .if2 .left)) (c .spotted .ensures .0) (c .spotted .ensures .1); links = c .before .before .before .before .before .before .before .before .before .before .before .before .before .before .before .advance .kept .1 .1 .1 .1 .1 .1 .1 .0 ∙ c .before .before .before .before .before .before .before .before .before .before .before .before .before .before .before .before .before .before .before .before .before .before .before .before .before .loop .inv .links; buckets = c .before .before .before .before .before .before .before .before .before .before .before .before .before .before .before .advance .kept .1 .1 .1 .1 .1 .1 .1 .1 .0 ∙ c .before .before .before .before .before .before .before .before .before .before .before .before .before .before .before .before .before .before .before .before .before .before .before .before .before .loop .inv .buckets }
+loop-again c = record { inside = inside-on (c .before .before .before .before .before .before .before .before .before .before .before .before .before .before .before .before .before .before .before .before .before .before .before .before .before .loop .inv .inside) (further (c .before .before .before .before .before .before .before .before .before .before .before .before .before .before .before .before .before .before .before .before .before .before .before .before .before .loop .inv .inside .within .walks) _ (c .before .before .before .before .before .before .before .a .given .1) (c .before .before .before .before .before .before .before .before .before .before .before .before .before .before .before .advance .ensures .0 _ (c .before .before .before .before .before .before .before .before .before .before .before .before .before .before .before .before .before .before .before .before .before .before .before .before .before .loop .inv .inside .within .walks))) (sym (c .before .before .before .is-busy .ensures) ∙ not-false _ (c .before .before .if2 .left)) (c .before .before .before .before .before .before .before .before .before .before .before .before .before .before .before .advance .ensures .1) (c .spotted .ensures .0) (c .spotted .ensures .1); since = λ b p u ms w. within-on (c .before .before .before .before .before .before .before .before .before .before .before .before .before .before .before .before .before .before .before .before .before .before .before .before .before .loop .inv .since b p u ms w) (further (c .before .before .before .before .before .before .before .before .before .before .before .before .before .before .before .before .before .before .before .before .before .before .before .before .before .loop .inv .since b p u ms w .walks) _ (c .before .before .before .before .before .before .before .a .given .1) (c .before .before .before .before .before .before .before .before .before .before .before .before .before .before .before .advance .ensures .0 _ (c .before .before .before .before .before .before .before .before .before .before .before .before .before .before .before .before .before .before .before .before .before .before .before .before .before .loop .inv .since b p u ms w .walks))) (sym (c .before .before .before .is-busy .ensures) ∙ not-false _ (c .before .before .if2 .left)) (c .spotted .ensures .0) (c .spotted .ensures .1); names = c .before .before .before .before .before .before .before .before .before .before .before .before .before .before .before .advance .kept .1 .1 .1 .1 .1 .1 .1 .0 ∙ c .before .before .before .before .before .before .before .before .before .before .before .before .before .before .before .before .before .before .before .before .before .before .before .before .before .loop .inv .names; slots = c .before .before .before .before .before .before .before .before .before .before .before .before .before .before .before .advance .kept .1 .1 .1 .1 .1 .1 .1 .1 .0 ∙ c .before .before .before .before .before .before .before .before .before .before .before .before .before .before .before .before .before .before .before .before .before .before .before .before .before .loop .inv .slots }
 
 -- src/sections.rt:180:17
 laid-out-requires-2 : tie.Need-laid-out-requires-2 Inv-loop2 μ-loop2 Inv-loop μ-loop

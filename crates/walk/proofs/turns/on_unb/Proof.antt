@@ -16,7 +16,7 @@ stopped-requires c κs = search needs
 returns : tie.Need-returns
 returns c =
     let g = c .before .before .before .before .before .before .before in
-    unb-bad (g .args .y) (g .args .s .now) (g .args .st) (g .args .heads .now) (g .args .links .now) (g .args .buckets .now) (g .args .at) (g .args .next) (g .args .f) (g .args .marks .now) (g .pre .0) (g .pre .1) (formed-at _ (askedAt (g .args .y .service) (g .args .s .now) (g .args .at)) (g .pre .0 .kind) Unb refl (c .before .before .unb-formed .ensures)) (c .before .if1 .taken) (c .stopped .ensures)
+    unb-bad (g .args .y) (g .args .s .now) (g .args .st) (g .args .heads .now) (g .args .names .now) (g .args .slots .now) (g .args .at) (g .args .next) (g .args .f) (g .args .marks .now) (g .pre .0) (g .pre .1) (formed-at _ (askedAt (g .args .y .service) (g .args .s .now) (g .args .at)) (g .pre .0 .kind) Unb refl (c .before .before .unb-formed .ensures)) (c .before .if1 .taken) (c .stopped .ensures)
 
 field-start-requires : tie.Need-field-start-requires
 field-start-requires c κs = search needs
@@ -27,7 +27,7 @@ field-end-requires c κs = search needs
 returns-2 : tie.Need-returns-2
 returns-2 c =
     let g = c .before .before .before .before .before .before .before .before .before .before in
-    unb-read (g .args .y) (g .args .s .now) (g .args .st) (g .args .heads .now) (g .args .links .now) (g .args .buckets .now) (g .args .at) (g .args .next) (g .args .f) (g .args .marks .now) (g .pre .0) (g .pre .1) (formed-at _ (askedAt (g .args .y .service) (g .args .s .now) (g .args .at)) (g .pre .0 .kind) Unb refl (c .before .before .before .before .before .unb-formed .ensures)) (c .before .field-start .ensures) (c .field-end .ensures) (c .before .before .before .before .if1 .left)
+    unb-read (g .args .y) (g .args .s .now) (g .args .st) (g .args .heads .now) (g .args .names .now) (g .args .slots .now) (g .args .at) (g .args .next) (g .args .f) (g .args .marks .now) (g .pre .0) (g .pre .1) (formed-at _ (askedAt (g .args .y .service) (g .args .s .now) (g .args .at)) (g .pre .0 .kind) Unb refl (c .before .before .before .before .before .unb-formed .ensures)) (c .before .field-start .ensures) (c .field-end .ensures) (c .before .before .before .before .if1 .left)
 
 pub on-unb-spec : {M : Type 1} → statement M
 on-unb-spec =

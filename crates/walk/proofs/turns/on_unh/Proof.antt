@@ -17,7 +17,7 @@ stopped-requires c κs = search needs
 returns : tie.Need-returns
 returns c =
     let g = c .before .before .before .before .before .before .before .before in
-    unh-bad (g .args .y) (g .args .s .now) (g .args .st) (g .args .heads .now) (g .args .links .now) (g .args .buckets .now) (g .args .at) (g .args .next) (g .args .f) (g .args .marks .now) (g .pre .0) (g .pre .1) (formed-at _ (askedAt (g .args .y .service) (g .args .s .now) (g .args .at)) (g .pre .0 .kind) Unh refl (c .before .before .unh-formed .ensures)) (c .before .if1 .taken) (c .stopped .ensures)
+    unh-bad (g .args .y) (g .args .s .now) (g .args .st) (g .args .heads .now) (g .args .names .now) (g .args .slots .now) (g .args .at) (g .args .next) (g .args .f) (g .args .marks .now) (g .pre .0) (g .pre .1) (formed-at _ (askedAt (g .args .y .service) (g .args .s .now) (g .args .at)) (g .pre .0 .kind) Unh refl (c .before .before .unh-formed .ensures)) (c .before .if1 .taken) (c .stopped .ensures)
 
 field-requires : tie.Need-field-requires
 field-requires c κs =
@@ -33,7 +33,7 @@ stopped-requires-2 c κs = search needs
 returns-2 : tie.Need-returns-2
 returns-2 c =
     let g = c .before .before .before .before .before .before .before .before .before .before .before in
-    unh-again (g .args .y) (g .args .s .now) (g .args .st) (g .args .heads .now) (g .args .links .now) (g .args .buckets .now) (g .args .at) (g .args .next) (g .args .f) (g .args .marks .now) (g .pre .0) (g .pre .1) (formed-at _ (askedAt (g .args .y .service) (g .args .s .now) (g .args .at)) (g .pre .0 .kind) Unh refl (c .before .before .before .before .before .unh-formed .ensures)) (c .before .before .before .before .if1 .left) (c .before .before .before .field .ensures) (c .before .before .used .ensures) (c .before .if2 .taken) (c .stopped2 .ensures)
+    unh-again (g .args .y) (g .args .s .now) (g .args .st) (g .args .heads .now) (g .args .names .now) (g .args .slots .now) (g .args .at) (g .args .next) (g .args .f) (g .args .marks .now) (g .pre .0) (g .pre .1) (formed-at _ (askedAt (g .args .y .service) (g .args .s .now) (g .args .at)) (g .pre .0 .kind) Unh refl (c .before .before .before .before .before .unh-formed .ensures)) (c .before .before .before .before .if1 .left) (c .before .before .before .field .ensures) (c .before .before .used .ensures) (c .before .if2 .taken) (c .stopped2 .ensures)
 
 field-requires-2 : tie.Need-field-requires-2
 field-requires-2 c κs =
@@ -62,7 +62,7 @@ field-end-requires c κs =
 returns-3 : tie.Need-returns-3
 returns-3 c =
     let g = c .before .before .before .before .before .before .before .before .before .before .before .before .before .before .before .before .before in
-    unh-read (g .args .y) (g .args .s .now) (g .args .st) (g .args .heads .now) (g .args .links .now) (g .args .buckets .now) (g .args .at) (g .args .next) (g .args .f) (g .args .marks .now) (g .pre .0) (g .pre .1) (formed-at _ (askedAt (g .args .y .service) (g .args .s .now) (g .args .at)) (g .pre .0 .kind) Unh refl (c .before .before .before .before .before .before .before .before .before .before .before .unh-formed .ensures)) (c .before .before .before .before .before .before .before .before .before .before .if1 .left) (c .before .before .before .before .before .before .before .before .before .field .ensures) (c .before .before .before .before .before .before .before .before .used .ensures) (c .before .before .before .before .before .before .before .if2 .left) (c .before .before .before .before .before .before .field2 .ensures) (c .before .before .before .before .content-is .ensures) (c .before .before .before .fresh-message .ensures) (c .before .field-start .ensures) (c .field-end .ensures)
+    unh-read (g .args .y) (g .args .s .now) (g .args .st) (g .args .heads .now) (g .args .names .now) (g .args .slots .now) (g .args .at) (g .args .next) (g .args .f) (g .args .marks .now) (g .pre .0) (g .pre .1) (formed-at _ (askedAt (g .args .y .service) (g .args .s .now) (g .args .at)) (g .pre .0 .kind) Unh refl (c .before .before .before .before .before .before .before .before .before .before .before .unh-formed .ensures)) (c .before .before .before .before .before .before .before .before .before .before .if1 .left) (c .before .before .before .before .before .before .before .before .before .field .ensures) (c .before .before .before .before .before .before .before .before .used .ensures) (c .before .before .before .before .before .before .before .if2 .left) (c .before .before .before .before .before .before .field2 .ensures) (c .before .before .before .before .content-is .ensures) (c .before .before .before .fresh-message .ensures) (c .before .field-start .ensures) (c .field-end .ensures)
 
 pub on-unh-spec : {M : Type 1} → statement M
 on-unh-spec =
