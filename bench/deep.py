@@ -5,7 +5,6 @@ the bits of the two in turn, lowest first, from one of 4,021 roots (for an input
 the same root share the way: each new one is compared with one on every level of it.
 """
 import sys
-from itertools import product
 
 MOST, ROOTS = 65535, 4021
 SIGNS = [b for b in [*range(0x21, 0x7F), *range(0xA0, 0x100)] if b not in b":+?*'"]
@@ -16,22 +15,28 @@ def number(octets):
     return int.from_bytes(b"\1" + octets, "big")
 
 
-def same_root(refs):
-    """Those of them, in their order, that begin at the root where most do."""
-    groups = {}
-    for ref in refs:
-        groups.setdefault((number(ref[:7]) + number(ref[7:])) % ROOTS, []).append(ref)
-    return max(groups.values(), key=len)
+def root(ref):
+    return (number(ref[:7]) + number(ref[7:])) % ROOTS
 
 
-def first(k, n, some=SIGNS[::2]):
-    """References of n octets that differ in their first k."""
-    return same_root(bytes(x) + b"A" * (n - k) for x in product(some, repeat=k))
+def with_root(ref, k):
+    """The reference with the octet at k that gives it root 0, where there is one."""
+    half = ref[:7] if k < 7 else ref[7:]
+    weight = pow(256, len(half) - 1 - k % 7, ROOTS)
+    octet = (ref[k] - root(ref) * pow(weight, -1, ROOTS)) % ROOTS
+    return ref[:k] + bytes([octet]) + ref[k + 1:] if octet in SIGNS else None
+
+
+def first(n):
+    """References of n octets with one root, alike from the lowest bit of the fourth octet on."""
+    made = (with_root(bytes([a, b, 65, d]) + b"A" * (n - 4), 2) for d in (0x41, 0xC1) for a in SIGNS for b in SIGNS)
+    return [ref for ref in made if ref]
 
 
 def first_of_each():
-    """References of 14 octets that differ in the first two, and in the first of the other seven."""
-    return same_root(bytes([a, b]) + b"A" * 5 + bytes([c]) + b"A" * 6 for a, b, c in product(SIGNS[::2], repeat=3))
+    """The same of 14 octets, that differ in the first two and in the first of the other seven."""
+    made = (with_root(bytes([a, b]) + b"A" * 12, 7) for a in SIGNS for b in SIGNS)
+    return [ref for ref in made if ref]
 
 
 def interchange(refs, shown=lambda ref: ref):
@@ -60,9 +65,9 @@ def acknowledgement():
 
 
 def main(folder):
-    files = {f"deep-{n}": interchange(first(3, n, SIGNS)) for n in (4, 5, 6, 7, 8, 10, 14)}
+    files = {f"deep-{n}": interchange(first(n)) for n in (4, 5, 6, 7, 8, 10, 12, 14)}
     files["deep-halves"] = interchange(first_of_each())
-    files["deep-8-freed"] = interchange(first(3, 8, SIGNS), released)
+    files["deep-8-freed"] = interchange(first(8), released)
     files["autack"] = acknowledgement()
     for name, octets in files.items():
         assert len(octets) <= MOST
