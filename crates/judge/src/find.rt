@@ -85,16 +85,16 @@ fn find_among(
     reference: &[u8],
     names: &mut [u64],
     slots: &mut [u16],
+    marks: &mut [usize],
+    heads: &mut [usize; 36],
+    here: &mut [usize; 18],
     rows: &mut [usize; 18],
 ) -> Found
     requires { ⌜ Table y (now t) ⌝ }
     requires { ⌜ Fresh y (now s) (now names) (now slots) ⌝ }
-    requires { ⌜ length (now rows) ≡ 18 ⌝ }
+    requires { ⌜ (length (now marks) ≡ 40) × (length (now heads) ≡ 36) × (length (now here) ≡ 18) × (length (now rows) ≡ 18) ⌝ }
     ensures { λ r. ⌜ FoundIs y (now (s .entry)) from (now (reference .entry)) r (now (rows .exit)) ⌝ }
 {
-    let mut marks = [0usize; 40];
-    let mut heads = [0usize; 36];
-    let mut here = [0usize; 18];
     let mut st = unread();
     let mut at = from;
     let mut found = false;
@@ -105,25 +105,14 @@ fn find_among(
         if is_done(p) {
             return early(at);
         }
-        match next_section(
-            s,
-            at,
-            t,
-            y,
-            st,
-            &mut marks,
-            &mut heads,
-            names,
-            slots,
-            &mut here,
-        ) {
+        match next_section(s, at, t, y, st, marks, heads, names, slots, here) {
             Reached::Stop(f) => {
                 return Found::Refused(f);
             }
             Reached::On(a) => {
                 let l = a.layout;
                 if is_named(s, v.release, a.closed, l, reference) {
-                    keep(rows, &here);
+                    keep(rows, here);
                     found = true;
                     c = l;
                 }
@@ -158,7 +147,22 @@ fn find_small(
 {
     let mut names = [0u64; 512];
     let mut slots = [0u16; 763];
-    find_among(s, from, t, y, reference, &mut names, &mut slots, rows)
+    let mut marks = [0usize; 40];
+    let mut heads = [0usize; 36];
+    let mut here = [0usize; 18];
+    find_among(
+        s,
+        from,
+        t,
+        y,
+        reference,
+        &mut names,
+        &mut slots,
+        &mut marks,
+        &mut heads,
+        &mut here,
+        rows,
+    )
 }
 
 fn find_large(
@@ -176,7 +180,22 @@ fn find_large(
 {
     let mut names = [0u64; 16384];
     let mut slots = [0u16; 20405];
-    find_among(s, from, t, y, reference, &mut names, &mut slots, rows)
+    let mut marks = [0usize; 40];
+    let mut heads = [0usize; 36];
+    let mut here = [0usize; 18];
+    find_among(
+        s,
+        from,
+        t,
+        y,
+        reference,
+        &mut names,
+        &mut slots,
+        &mut marks,
+        &mut heads,
+        &mut here,
+        rows,
+    )
 }
 
 // The message with the 0062 `reference`, of an interchange whose UNB stands at `from`.

@@ -313,6 +313,9 @@ module _ {y : Syntax} {s : List ℕ} {from p : ℕ} {u : Leaf} {ms : Snoc Messag
               ),
             )
 
+pub unt-as : (y : Syntax) (s : List ℕ) (from p : ℕ) (u : Leaf) (ms : Snoc Message) {c d : Section} (h l b rows : List ℕ) → c ≡ d → AtUnt y s from p u ms d h l b rows → AtUnt y s from p u ms c h l b rows
+unt-as y s from p u ms h l b rows e q = subst (λ (a : Section). AtUnt y s from p u ms a h l b rows) (sym e) q
+
 -- ---- the walk to the UNT: what holds at its head, since the state that it started with
 
 pub record Crossing (y : Syntax) (s : List ℕ) (x₀ : State) (h₀ l₀ b₀ : List ℕ) (i₀ : ℕ) (q₀ : Spots) (rows₀ : List ℕ) (x : State) (h l b : List ℕ) (i : ℕ) (q : Spots) (rows m : List ℕ) : Type 0 where

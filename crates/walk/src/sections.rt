@@ -118,6 +118,17 @@ fn laid_out(st: State, x: Spots, at: usize, next: usize) -> Layout
     }
 }
 
+fn passed(state: State, next: usize, closed: bool, layout: Layout) -> Section
+    ensures { λ r. ⌜ r ≡ record { state = state; next = next; closed = closed; layout = layout } ⌝ }
+{
+    Section {
+        state: state,
+        next: next,
+        closed: closed,
+        layout: layout,
+    }
+}
+
 // From behind the UNH of an open message to behind its UNT. Each UST names a header not yet named: that is searched for here.
 fn to_unt(
     s: &[u8],
@@ -163,12 +174,8 @@ fn to_unt(
                 let p = z.phase;
                 let k = z.message;
                 if !is_busy(p) {
-                    return Reached::On(Section {
-                        state: z,
-                        next: a.next,
-                        closed: true,
-                        layout: laid_out(st, x, at, a.next),
-                    });
+                    let l = laid_out(st, x, at, a.next);
+                    return Reached::On(passed(z, a.next, true, l));
                 }
                 x = spotted(x, rows, k, at, a.next);
                 st = z;
@@ -176,12 +183,8 @@ fn to_unt(
             }
         }
     }
-    Reached::On(Section {
-        state: st,
-        next: at,
-        closed: false,
-        layout: laid_out(st, x, at, at),
-    })
+    let l = laid_out(st, x, at, at);
+    Reached::On(passed(st, at, false, l))
 }
 
 // What stands at `from`, between messages or before UNB: UNB, a whole message, or UNZ.

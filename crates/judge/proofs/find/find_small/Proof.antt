@@ -8,17 +8,21 @@ use Rattle.judge.proofs.find.find_small.Reads as reads
 use Rattle.judge.proofs.find.find_small.Lts as lts
 use Rattle.judge.proofs.find.find_among.Reads as find-among-reads
 
--- src/find.rt:143:42
+-- src/find.rt:159:9
 slice-aggregate-find-among : tie.Need-slice-aggregate-find-among
 slice-aggregate-find-among c = search needs
 
--- src/find.rt:143:54
+-- src/find.rt:160:9
 slice-aggregate-find-among-2 : tie.Need-slice-aggregate-find-among-2
 slice-aggregate-find-among-2 c = search needs
 
--- src/find.rt:143:5
+-- src/find.rt:161:9
+slice-aggregate-find-among-3 : tie.Need-slice-aggregate-find-among-3
+slice-aggregate-find-among-3 c = search needs
+
+-- src/find.rt:153:5
 find-among-requires : tie.Need-find-among-requires
-find-among-requires c κs = let l = c .before .before .before .before .before .pre .1 .1 .0 in (c .before .before .before .before .before .pre .0, (fresh-tables 512 763 (omega arith) refl refl (c .before .before .before .before .before .pre .1 .0) (omega (arith, l)) (omega (arith, l)), c .before .before .before .before .before .pre .1 .1 .1))
+find-among-requires c κs = let l = c .before .before .before .before .before .before .before .before .pre .1 .1 .0 in (c .before .before .before .before .before .before .before .before .pre .0, (fresh-tables 512 763 (omega arith) refl refl (c .before .before .before .before .before .before .before .before .pre .1 .0) (omega (arith, l)) (omega (arith, l)), (refl, refl, refl, c .before .before .before .before .before .before .before .before .pre .1 .1 .1)))
 
 -- src/find.rt:135:1
 returns : tie.Need-returns
@@ -27,4 +31,9 @@ returns c = search needs
 pub find-small-spec : {M : Type 1} → statement M
 find-small-spec =
     tie.close
-    (tie.spec slice-aggregate-find-among slice-aggregate-find-among-2 find-among-requires returns)
+    (tie.spec
+    slice-aggregate-find-among
+    slice-aggregate-find-among-2
+    slice-aggregate-find-among-3
+    find-among-requires
+    returns)
