@@ -25,7 +25,7 @@ use Rattle.grammar.specs.Places.{wide}
 use Rattle.grammar.specs.Named.{Placed, placed, placedIn, placedAt, totalsAt}
 use Rattle.grammar.specs.Verdict.{Answer, read, refused, Verdict, accepted, refusedWith, concluded, verdictOf, verdictBy, unaAt, loadsM, Totals, totalled, totalsIn, totalsBy, totalsOf, totalNumbers}
 use Rattle.message.specs.Summary.{startS, idleS, busyS, doneS, stateOf}
-use Rattle.walk.specs.Held.{stateIn}
+use Rattle.turns.specs.Held.{stateIn}
 use Rattle.walk.specs.RunLaws.{answerFrom, Walking, unreadAs}
 use Rattle.walk.specs.Sections.{Laid, Stays, begins, ends, breaks, SectionBy, Passing}
 use Rattle.walk.specs.SectionLaws.{Looping}
@@ -35,7 +35,7 @@ use Rattle.walk.specs.declared.sections.Section.{Section}
 use Rattle.judge.specs.declared.find.Found.{Found}
 use Rattle.judge.specs.declared.find.Found.the-variants.{Message as Here, Missing, Refused as NotRead}
 use Rattle.judge.specs.declared.totals.Totals.the-variants.{Of, Refused}
-use Rattle.walk.specs.declared.turns.State.{State}
+use Rattle.turns.specs.declared.state.State.{State}
 
 -- ---- the search, a section further
 

@@ -13,10 +13,10 @@ use syntax::Refusal;
 use syntax::Syntax;
 use syntax::content::content_is;
 use syntax::content::part;
+use turns::state::Stretch;
 use walk::sections::Layout;
 use walk::sections::Reached;
 use walk::sections::next_section;
-use walk::turns::Stretch;
 
 // The message's layout; or that no message has that 0062; or why the interchange is refused.
 pub enum Found {

@@ -10,7 +10,7 @@ ghost use Rattle.syntax.specs.Repertoire.{Table};
 ghost use Rattle.syntax.specs.Reader.{chain};
 ghost use Rattle.grammar.specs.Interchange.{start};
 ghost use Rattle.grammar.specs.Verdict.{verdictOf, numbers, walk};
-ghost use Rattle.walk.specs.Held.{walked};
+ghost use Rattle.turns.specs.Held.{walked};
 ghost use Rattle.judge.specs.Told.{told};
 ghost use Rattle.walk.specs.RunLaws.{unreadAs, isDone, Fresh};
 use message::kept::fresh_message;
@@ -19,11 +19,11 @@ use syntax::Syntax;
 use syntax::opening::Begun;
 use syntax::opening::begin;
 use syntax::repertoire::table;
+use turns::state::Phase;
+use turns::state::State;
+use turns::state::Stretch;
 use walk::sections::Reached;
 use walk::sections::next_section;
-use walk::turns::Phase;
-use walk::turns::State;
-use walk::turns::Stretch;
 
 pub enum Verdict {
     Accepted,

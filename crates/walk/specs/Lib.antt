@@ -1,8 +1,3 @@
-pub mod Held
-pub mod FollowLaws
-pub mod TurnLaws
-pub mod WalkingLaws
-pub mod BusyLaws
 pub mod RunLaws
 pub mod Layout
 pub mod LayoutLaws

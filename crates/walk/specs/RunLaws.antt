@@ -46,20 +46,20 @@ use Rattle.references.specs.Refs.{refsIn, Indexed}
 use Rattle.references.specs.RefsLaws.{indexed-none}
 use Rattle.message.specs.Steps.{summaryIn}
 use Rattle.message.specs.Summary.{Summary, StateS, startS, idleS, busyS, doneS, stateOf, AnswerS, told, fresh}
-use Rattle.walk.specs.FollowLaws.{follow}
-use Rattle.walk.specs.TurnLaws.{Turned, walk-over, walk-none, walk-bad, walk-turn, cut-open, cut-ends, cut-spoilt, turned-inside, turned-three}
-use Rattle.walk.specs.Held.{lookedAt, seenBy, phased, stateIn, Held, decidedFrom, StepIs, walked}
+use Rattle.turns.specs.FollowLaws.{follow}
+use Rattle.turns.specs.TurnLaws.{Turned, walk-over, walk-none, walk-bad, walk-turn, cut-open, cut-ends, cut-spoilt, turned-inside, turned-three}
+use Rattle.turns.specs.Held.{lookedAt, seenBy, phased, stateIn, Held, decidedFrom, StepIs, walked}
 use Rattle.elements.specs.declared.Kind.{Kind}
-use Rattle.walk.specs.declared.turns.Phase.{Phase}
-use Rattle.walk.specs.declared.turns.Phase.the-variants.{Start, Idle, Busy, Done}
-use Rattle.walk.specs.declared.turns.State.{State}
-use Rattle.walk.specs.declared.turns.Step.{Step}
-use Rattle.walk.specs.declared.turns.Step.the-variants.{On, Stop}
-use Rattle.walk.specs.declared.turns.Ahead.{Ahead}
-use Rattle.walk.specs.declared.turns.Advanced.{Advanced}
-use Rattle.walk.specs.declared.turns.Advanced.the-variants.{On as Further, Stop as Halt}
-use Rattle.walk.specs.declared.turns.Looked.{Looked}
-use Rattle.walk.specs.declared.turns.Looked.the-variants.{Seen, Bad}
+use Rattle.turns.specs.declared.state.Phase.{Phase}
+use Rattle.turns.specs.declared.state.Phase.the-variants.{Start, Idle, Busy, Done}
+use Rattle.turns.specs.declared.state.State.{State}
+use Rattle.turns.specs.declared.state.Step.{Step}
+use Rattle.turns.specs.declared.state.Step.the-variants.{On, Stop}
+use Rattle.turns.specs.declared.state.Ahead.{Ahead}
+use Rattle.turns.specs.declared.state.Advanced.{Advanced}
+use Rattle.turns.specs.declared.state.Advanced.the-variants.{On as Further, Stop as Halt}
+use Rattle.turns.specs.declared.state.Looked.{Looked}
+use Rattle.turns.specs.declared.state.Looked.the-variants.{Seen, Bad}
 
 -- ---- before UNB, and behind UNZ
 

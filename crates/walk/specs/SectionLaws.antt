@@ -40,7 +40,7 @@ use Rattle.message.specs.FlagLaws.{size-each}
 use Rattle.message.specs.declared.Group.{Group}
 use Rattle.message.specs.declared.Group.the-variants.{Opened as Fresh}
 use Rattle.message.specs.declared.Message.{Message as Kept}
-use Rattle.walk.specs.Held.{phased, stateIn}
+use Rattle.turns.specs.Held.{phased, stateIn}
 use Rattle.walk.specs.Layout.{spotsOf, spotStep, rowStep, RowRoom, Rows}
 use Rattle.walk.specs.LayoutLaws.{place-on, spots-on, spots-open, rows-on, rows-open, room-on}
 use Rattle.walk.specs.RunLaws.{isDone, isBusy, answerFrom, Walking, Onward, Going, going, long-print}
@@ -50,10 +50,10 @@ use Rattle.walk.specs.declared.sections.Layout.{Layout}
 use Rattle.walk.specs.declared.sections.Section.{Section}
 use Rattle.walk.specs.declared.sections.Reached.{Reached}
 use Rattle.walk.specs.declared.sections.Reached.the-variants.{On, Stop}
-use Rattle.walk.specs.declared.turns.Phase.{Phase}
-use Rattle.walk.specs.declared.turns.Phase.the-variants.{Start, Idle, Busy, Done}
-use Rattle.walk.specs.declared.turns.State.{State}
-use Rattle.walk.specs.declared.turns.Ahead.{Ahead}
+use Rattle.turns.specs.declared.state.Phase.{Phase}
+use Rattle.turns.specs.declared.state.Phase.the-variants.{Start, Idle, Busy, Done}
+use Rattle.turns.specs.declared.state.State.{State}
+use Rattle.turns.specs.declared.state.Ahead.{Ahead}
 
 -- ---- a UST by its octets
 

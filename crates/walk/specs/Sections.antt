@@ -25,7 +25,7 @@ use Rattle.walk.specs.declared.sections.Layout.{Layout}
 use Rattle.walk.specs.declared.sections.Section.{Section}
 use Rattle.walk.specs.declared.sections.Reached.{Reached}
 use Rattle.walk.specs.declared.sections.Reached.the-variants.{On, Stop}
-use Rattle.walk.specs.declared.turns.State.{State}
+use Rattle.turns.specs.declared.state.State.{State}
 
 -- how many headers a trailer at `a` chooses from: all n, none where no UST stands there
 abbrev pub nameableIn : List ℕ → ℕ → ℕ → ℕ

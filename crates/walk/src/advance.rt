@@ -10,19 +10,19 @@ ghost use Rattle.elements.specs.Formed.{looked};
 ghost use Rattle.elements.specs.Fields.{Fields};
 ghost use Rattle.elements.specs.declared.Kind.the-variants.{Ust};
 ghost use Rattle.message.specs.Steps.{Sought};
-ghost use Rattle.walk.specs.declared.turns.Phase.the-variants.{Busy};
+ghost use Rattle.turns.specs.declared.state.Phase.the-variants.{Busy};
 ghost use Rattle.walk.specs.RunLaws.{Walking, Going, AdvancedIs};
-use crate::turns::Advanced;
-use crate::turns::Ahead;
-use crate::turns::Looked;
-use crate::turns::State;
-use crate::turns::Step;
-use crate::turns::look;
-use crate::turns::turn;
 use elements::Kind;
 use elements::fields::Shape;
 use elements::fields::fields;
 use syntax::Syntax;
+use turns::state::Advanced;
+use turns::state::Ahead;
+use turns::state::Looked;
+use turns::state::State;
+use turns::state::Step;
+use turns::state::look;
+use turns::state::turn;
 
 // Whether a segment of this kind is looked into.
 fn looked_into(k: Kind) -> bool

@@ -15,16 +15,16 @@ use crate::advance::advance;
 use crate::layout::Spots;
 use crate::layout::opened;
 use crate::layout::spotted;
-use crate::turns::Advanced;
-use crate::turns::Phase;
-use crate::turns::State;
-use crate::turns::Stretch;
 use message::heads::is_free;
 use syntax::Refusal;
 use syntax::Syntax;
 use syntax::content::content_is;
 use syntax::content::part;
 use syntax::reading::component_part;
+use turns::state::Advanced;
+use turns::state::Phase;
+use turns::state::State;
+use turns::state::Stretch;
 
 // Where the parts of a message stand: its UNH, its header groups, its body, its trailer groups, its UNT, and what comes behind it; how many headers and
 // trailers it has; whether it is an AUTACK; its loads and their grams; its 0062.

@@ -4,7 +4,7 @@ use mathlib.Core.Path.{refl, sym, ap, _∙_}
 use mathlib.Core.Bool.{false≢true}
 use borrow.Author.Needs.{needs}
 use lib.ListN.{length}
-use Rattle.walk.specs.Held.{walked}
+use Rattle.turns.specs.Held.{walked}
 use Rattle.walk.specs.RunLaws.{walking-start, walking-more, walking-done, walking-early, unread-idle}
 use Rattle.walk.specs.SectionLaws.{Looping, starting, passed, stopped}
 use Rattle.judge.proofs.run.run.Statement.{statement}

@@ -6,8 +6,8 @@ use Rattle.walk.proofs.advance.advance.Tie as tie
 use Rattle.walk.proofs.advance.advance.Reads as reads
 use Rattle.walk.proofs.advance.advance.Lts as lts
 use Rattle.walk.proofs.advance.noted.Reads as noted-reads
-use Rattle.walk.proofs.turns.look.Reads as look-reads
-use Rattle.walk.proofs.turns.turn.Reads as turn-reads
+use Rattle.turns.proofs.state.look.Reads as look-reads
+use Rattle.turns.proofs.state.turn.Reads as turn-reads
 
 -- src/run.rt:134:11
 look-requires : tie.Need-look-requires

@@ -1,0 +1,41 @@
+use Rattle.turns.specs.WalkingLaws.{counts-wrong, counts-odd, counts-even}
+use borrow.Author.Needs.{needs}
+use Rattle.turns.proofs.state.counts_right.Statement.{statement}
+use Rattle.turns.proofs.state.counts_right.Tie as tie
+
+number-in-requires : tie.Need-number-in-requires
+number-in-requires c κs = search needs
+
+add-wide : tie.Need-add-wide
+add-wide c = search needs
+
+wide-requires : tie.Need-wide-requires
+wide-requires c κs = search needs
+
+returns : tie.Need-returns
+returns c = counts-wrong (c .before .before .before .number-in .ensures .0) (c .before .wide .ensures) _ (c .if1 .taken)
+
+all-even-requires : tie.Need-all-even-requires
+all-even-requires c κs = search needs
+
+returns-2 : tie.Need-returns-2
+returns-2 c = counts-odd (c .before .before .before .before .before .number-in .ensures .0) (c .before .before .before .wide .ensures) (c .before .before .if1 .left) (c .before .all-even .ensures) _ (c .if2 .taken)
+
+totals-right-requires : tie.Need-totals-right-requires
+totals-right-requires c κs = search needs
+
+returns-3 : tie.Need-returns-3
+returns-3 c = counts-even (c .before .before .before .before .before .before .number-in .ensures .0) (c .before .before .before .before .wide .ensures) (c .before .before .before .if1 .left) (c .before .before .all-even .ensures) (c .before .if2 .left) (c .totals-right .ensures)
+
+pub counts-right-spec : {M : Type 1} → statement M
+counts-right-spec =
+    tie.close
+    (tie.spec
+    number-in-requires
+    add-wide
+    wide-requires
+    returns
+    all-even-requires
+    returns-2
+    totals-right-requires
+    returns-3)

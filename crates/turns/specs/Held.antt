@@ -1,0 +1,115 @@
+-- The walk as the code has it: what a look at a segment tells, the state that is kept, and a step.
+use Prim.Native.Nat.{ℕ, _+_, _*_, _≤_}
+use mathlib.Core.Path.{_≡_}
+use mathlib.Core.Bool.{Bool, true, false, cond}
+use mathlib.Core.List.{List, [], _∷_}
+use mathlib.Core.Option.{none}
+use lib.ListN.{length, drop}
+use lib.Seq.{slice}
+use Rattle.syntax.specs.Content.{content}
+use Rattle.syntax.specs.Cutting.{cutAt, tagOf}
+use Rattle.syntax.specs.declared.Refusal.{Refusal}
+use Rattle.syntax.specs.declared.Syntax.{Syntax}
+use Rattle.syntax.specs.declared.cutting.Cut.{Cut}
+use Rattle.syntax.specs.declared.cutting.Cut.the-variants.{Ends, Spoilt, Open}
+use Rattle.syntax.specs.declared.cutting.Tag.{Tag}
+use Rattle.syntax.specs.declared.cutting.Tag.the-variants.{Is, Bad as NoTag}
+use Rattle.syntax.specs.declared.Version.{Version}
+use Rattle.grammar.specs.Segments.{Asked}
+use Rattle.grammar.specs.Lists.{Snoc}
+use Rattle.grammar.specs.Elements.{formed}
+use Rattle.grammar.specs.Loads.{loadRight}
+use Rattle.grammar.specs.Verdict.{Test, tested, Answer, concluded, numbers}
+use Rattle.elements.specs.Kinds.{kindOf}
+use Rattle.message.specs.Summary.{Summary, StateS, startS, idleS, busyS, doneS, orderS, refsS, countsS, scopeS, nextS, AnswerS, readS, refusedS, decidedS}
+use Rattle.message.specs.Steps.{summaryIn, Roomy}
+use Rattle.references.specs.Refs.{refsIn, Indexed}
+use Rattle.elements.specs.Fields.{Fields}
+use Rattle.elements.specs.Formed.{looked}
+use Rattle.elements.specs.declared.fields.Shape.{Shape}
+use Rattle.message.specs.declared.Message.{Message}
+use Rattle.turns.specs.declared.state.Phase.{Phase}
+use Rattle.turns.specs.declared.state.Phase.the-variants.{Start, Idle, Busy, Done}
+use Rattle.turns.specs.declared.state.State.{State}
+use Rattle.turns.specs.declared.state.Step.{Step}
+use Rattle.turns.specs.declared.state.Step.the-variants.{On, Stop}
+use Rattle.elements.specs.declared.Kind.{Kind}
+use Rattle.turns.specs.declared.state.Looked.{Looked}
+use Rattle.turns.specs.declared.state.Looked.the-variants.{Seen, Bad}
+
+abbrev pub unseenAs : ℕ → ℕ → Looked
+unseenAs n p = Bad (record { number = n; place = p })
+
+-- "Others: 4, 3, ..": the cut, once the tag is good
+abbrev pub seenAs : Cut → ℕ → ℕ → ℕ → ℕ → Looked
+seenAs (Ends e) a b c p = Seen e (kindOf (a ∷ b ∷ c ∷ []))
+seenAs (Spoilt e q) a b c p = unseenAs 3 q
+seenAs Open a b c p = unseenAs 4 p
+
+abbrev pub seenBy : Cut → Tag → ℕ → Looked
+seenBy x NoTag p = unseenAs 4 p
+seenBy x (Is a b c) p = seenAs x a b c p
+
+abbrev pub lookedAt : Syntax → List ℕ → ℕ → Looked
+lookedAt y s p = seenBy (cutAt y s p) (tagOf (y .service) (drop p s)) p
+
+-- ---- the state that is kept
+
+abbrev pub phased : Phase → List ℕ → Snoc (List ℕ) → Summary → StateS
+phased Start u rs S = startS
+phased Idle u rs S = idleS u rs
+phased Busy u rs S = busyS u rs S
+phased Done u rs S = doneS
+
+-- under the release ρ, in the octets s, with the headers' array h and the references l
+abbrev pub stateIn : ℕ → List ℕ → State → List ℕ → List ℕ → StateS
+stateIn ρ s x h l =
+    phased (x .phase) (content ρ (slice (x .unb .start) (x .unb .end) s)) (refsIn l (x .count))
+    (summaryIn ρ s (x .message) (x .unh .start) (x .unh .end) h)
+
+-- the segments of the message now open
+abbrev pub openSize : Phase → Message → ℕ
+openSize Start m = 0
+openSize Idle m = 0
+openSize Busy m = m .segments
+openSize Done m = 0
+
+-- what keeps everything in its room: a segment has at least 4 octets, a message at least two segments; i is the place of what comes next
+pub record Held (ρ : ℕ) (s : List ℕ) (x : State) (h l b : List ℕ) (i : ℕ) : Type 0 where
+  pub indexed : Indexed l b (x .count)
+  pub roomy : Roomy (x .message) h
+  pub begun : 1 ≤ x .message .segments
+  pub long : length h ≡ 36
+  pub names : length s ≤ 4 * length l
+  pub short : length s ≤ 65535
+  pub taken : 8 * x .count + 4 * openSize (x .phase) (x .message) ≤ i
+  pub named : length (content ρ (slice (x .unh .start) (x .unh .end) s)) ≤ 14
+
+-- ---- a step, of a segment that is whole and inside the repertoire: 7 to 12, then the state after it
+
+abbrev pub decidedFrom : Version → StateS → Asked → ℕ → AnswerS
+decidedFrom v S a p =
+    decidedS
+    (tested 7 p (orderS S a) ∷ tested 8 p (formed v a) ∷ tested 9 p (refsS S a) ∷ tested 10 p (countsS S a) ∷ tested 11 p (scopeS S a)
+    ∷ tested 12 p (loadRight a) ∷ [])
+    (nextS S a)
+
+-- the code's step has this answer; h, l and b are the arrays as they are left, i the place of what comes next
+abbrev pub StepIs : AnswerS → Step → ℕ → List ℕ → List ℕ → List ℕ → List ℕ → ℕ → Type 0
+StepIs (readS S) (On x) ρ s h l b i = (stateIn ρ s x h l ≡ S) × Held ρ s x h l b i
+StepIs (readS S) (Stop f) ρ s h l b i = ⊥
+StepIs (refusedS n p) (On x) ρ s h l b i = ⊥
+StepIs (refusedS n p) (Stop f) ρ s h l b i = (f .number ≡ n) × (f .place ≡ p)
+
+-- of a walk that has ended; UNA has no part in it
+abbrev pub walked : Answer → List ℕ
+walked a = numbers (concluded none a)
+
+-- a segment at p, whole and inside, with what was noted of it: its kind k, and if it is looked into, its fields
+pub record Ready (y : Syntax) (s : List ℕ) (x : State) (h l b : List ℕ) (p q : ℕ) (k : Kind) (f : Shape) (m : List ℕ) : Type 0 where
+  pub held : Held (y .service .release) s x h l b p
+  pub ends : p + 4 ≤ q
+  pub inside : q ≤ length s
+  pub kind : k ≡ kindOf (slice p (p + 3) s)
+  pub noted : looked k ≡ true → Fields (y .service) s p (f .size) (f .repeats) m
+  pub marks : length m ≡ 40

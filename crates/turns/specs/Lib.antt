@@ -1,0 +1,5 @@
+pub mod Held
+pub mod FollowLaws
+pub mod TurnLaws
+pub mod WalkingLaws
+pub mod BusyLaws

@@ -1,0 +1,479 @@
+-- UNB, UNH, UNT and UNZ, a path at a time: the step that the rules ask, and everything still in its room.
+use Prim.Native.Nat.{ℕ, zero, suc, _+_, _*_, _≤_, _<_}
+use native.Mathlib.Omega.{arith}
+use mathlib.Core.Path.{_≡_, refl, ap, sym, _∙_, subst}
+use mathlib.Core.Bool.{Bool, true, false, not, _&&_, false≢true}
+use mathlib.Core.List.{List, [], _∷_}
+use borrow.Author.Tests.{eq-eqb, ne-eqb, leb-true}
+use lib.Dec.{T, eqb, leb}
+use lib.ListN.{length}
+use lib.Seq.{slice}
+use Rattle.syntax.specs.Octets.{octets, same}
+use Rattle.syntax.specs.Content.{content, valueFrom}
+use Rattle.syntax.specs.RepertoireLaws.{and-l, and-r}
+use Rattle.syntax.specs.Segment.{componentAt, partOf}
+use Rattle.syntax.specs.declared.Syntax.{Syntax}
+use Rattle.syntax.specs.declared.Version.{Version}
+use Rattle.grammar.specs.Lists.{Snoc, nil, _▷_, size, any, among}
+use Rattle.grammar.specs.Segments.{Asked}
+use Rattle.grammar.specs.Segments as named
+use Rattle.grammar.specs.Elements.{text, digits, closed, composite, row, inRange, formedAs, formedRow, formed}
+use Rattle.grammar.specs.Loads.{loadRight}
+use Rattle.grammar.specs.Verdict.{tested}
+use Rattle.grammar.specs.PlacingLaws.{same-eq}
+use Rattle.elements.specs.Kinds.{kindOf}
+use Rattle.elements.specs.Octets.{textAt, askedAt}
+use Rattle.elements.specs.Fields.{Marked, startIn, endIn}
+use Rattle.elements.specs.Formed.{formedBy}
+use Rattle.elements.specs.FormedLaws.{and-stop, and-go, formed-by}
+use Rattle.references.specs.Refs.{refsIn, Indexed}
+use Rattle.message.specs.Heads.{headFlags}
+use Rattle.message.specs.Summary.{Summary, StateS, startS, idleS, busyS, atStart, atIdle, atBusy, mayCome, allNamed, evenAll, totalRight, numberIn, orderK, refsK, countsK, scopeK, nextK, orderS, refsS, countsS, scopeS, nextS, opened, fresh, AnswerS, readS, refusedS, decidedS}
+use Rattle.message.specs.Steps.{summaryIn, Roomy}
+use Rattle.message.specs.StepsLaws.{marked-between, closed-range, unt-digits, unz-digits}
+use Rattle.turns.specs.Held.{phased, stateIn, openSize, Held, decidedFrom, StepIs, Ready}
+use Rattle.message.specs.ItemsLaws.{not-true, not-false}
+use Rattle.elements.specs.declared.fields.Shape.{Shape}
+use Rattle.message.specs.declared.Message.{Message}
+use Rattle.turns.specs.declared.state.Phase.{Phase}
+use Rattle.turns.specs.declared.state.Phase.the-variants.{Start, Idle, Busy, Done}
+use Rattle.turns.specs.declared.state.State.{State}
+use Rattle.turns.specs.declared.state.Step.{Step}
+use Rattle.turns.specs.declared.state.Step.the-variants.{On, Stop}
+use Rattle.elements.specs.declared.Kind.{Kind}
+use Rattle.elements.specs.declared.Kind.the-variants.{Unb, Unh, Unt, Unz, Qty}
+
+-- ---- the tests of a state, by the kind
+
+by : {A : Type 0} (F : StateS → Kind → A) {S S′ : StateS} → S ≡ S′ → {j k : Kind} → j ≡ k → F S k ≡ F S′ j
+by F {S} {S′} g {j} {k} e = ap (λ (x : StateS). F x k) g ∙ ap (λ (x : Kind). F S′ x) (sym e)
+
+-- a load is a QTY
+pub free-load : (a : Asked) → (kindOf (a .tag) ≡ Qty → ⊥) → loadRight a ≡ true
+free-load a n = test (same (a .tag) (octets "QTY")) refl
+  where
+    test : (b : Bool) → same (a .tag) (octets "QTY") ≡ b → loadRight a ≡ true
+    test true e = absurd (n (ap kindOf (same-eq (a .tag) (octets "QTY") (subst T (sym e) tt))))
+    test false e = rw e
+
+module _ (a : Asked) where
+  unb-load : Unb ≡ kindOf (a .tag) → loadRight a ≡ true
+  unb-load e = free-load a (λ q. false≢true (sym (ap (λ (k : Kind). atStart true false k) (e ∙ q))))
+
+  unh-load : Unh ≡ kindOf (a .tag) → loadRight a ≡ true
+  unh-load e = free-load a (λ q. false≢true (sym (ap (λ (k : Kind). atIdle true false false k) (e ∙ q))))
+
+  unz-load : Unz ≡ kindOf (a .tag) → loadRight a ≡ true
+  unz-load e = free-load a (λ q. false≢true (sym (ap (λ (k : Kind). atIdle false true false k) (e ∙ q))))
+
+  unt-load : Unt ≡ kindOf (a .tag) → loadRight a ≡ true
+  unt-load e = free-load a (λ q. false≢true (sym (ap (λ (k : Kind). atBusy false false false true false k) (e ∙ q))))
+
+-- ---- the first test that fails tells the number
+
+abbrev six : ℕ → Bool → Bool → Bool → Bool → Bool → Bool → StateS → AnswerS
+six p o f r c g l x = decidedS (tested 7 p o ∷ tested 8 p f ∷ tested 9 p r ∷ tested 10 p c ∷ tested 11 p g ∷ tested 12 p l ∷ []) x
+
+module _ (p : ℕ) (o f r c g l : Bool) (x : StateS) where
+  six-7 : o ≡ false → six p o f r c g l x ≡ refusedS 7 p
+  six-7 e = rw e
+
+  six-8 : o ≡ true → f ≡ false → six p o f r c g l x ≡ refusedS 8 p
+  six-8 e d = rw (e, d)
+
+  six-9 : o ≡ true → f ≡ true → r ≡ false → six p o f r c g l x ≡ refusedS 9 p
+  six-9 e d h = rw (e, d, h)
+
+  six-10 : o ≡ true → f ≡ true → r ≡ true → c ≡ false → six p o f r c g l x ≡ refusedS 10 p
+  six-10 e d h k = rw (e, d, h, k)
+
+  six-on : o ≡ true → f ≡ true → r ≡ true → c ≡ true → g ≡ true → l ≡ true → six p o f r c g l x ≡ readS x
+  six-on e d h k i j = rw (e, d, h, k, i, j)
+
+module _ (v : Version) (S : StateS) (a : Asked) (p : ℕ) where
+  pub at-7 : orderS S a ≡ false → decidedFrom v S a p ≡ refusedS 7 p
+  at-7 = six-7 p (orderS S a) (formed v a) (refsS S a) (countsS S a) (scopeS S a) (loadRight a) (nextS S a)
+
+  pub at-8 : orderS S a ≡ true → formed v a ≡ false → decidedFrom v S a p ≡ refusedS 8 p
+  at-8 = six-8 p (orderS S a) (formed v a) (refsS S a) (countsS S a) (scopeS S a) (loadRight a) (nextS S a)
+
+  at-9 : orderS S a ≡ true → formed v a ≡ true → refsS S a ≡ false → decidedFrom v S a p ≡ refusedS 9 p
+  at-9 = six-9 p (orderS S a) (formed v a) (refsS S a) (countsS S a) (scopeS S a) (loadRight a) (nextS S a)
+
+  at-10 : orderS S a ≡ true → formed v a ≡ true → refsS S a ≡ true → countsS S a ≡ false → decidedFrom v S a p ≡ refusedS 10 p
+  at-10 = six-10 p (orderS S a) (formed v a) (refsS S a) (countsS S a) (scopeS S a) (loadRight a) (nextS S a)
+
+  at-end : orderS S a ≡ true → formed v a ≡ true → refsS S a ≡ true → countsS S a ≡ true → scopeS S a ≡ true → loadRight a ≡ true →
+      decidedFrom v S a p ≡ readS (nextS S a)
+  at-end = six-on p (orderS S a) (formed v a) (refsS S a) (countsS S a) (scopeS S a) (loadRight a) (nextS S a)
+
+module _ {A : AnswerS} {r : Step} (ρ : ℕ) (s h l b : List ℕ) (i : ℕ) where
+  pub stop : {n p : ℕ} → A ≡ refusedS n p → r ≡ Stop (record { number = n; place = p }) → StepIs A r ρ s h l b i
+  stop {n} {p} e d =
+      subst (λ (x : AnswerS). StepIs x r ρ s h l b i) (sym e) (subst (λ (x : Step). StepIs (refusedS n p) x ρ s h l b i) (sym d) (refl, refl))
+
+  go : {S : StateS} {x : State} → A ≡ readS S → r ≡ On x → stateIn ρ s x h l ≡ S → Held ρ s x h l b i → StepIs A r ρ s h l b i
+  go {S} {x} e d q w =
+      subst (λ (x : AnswerS). StepIs x r ρ s h l b i) (sym e) (subst (λ (x : Step). StepIs (readS S) x ρ s h l b i) (sym d) (q, w))
+
+-- ---- the references so far
+
+module _ (l : List ℕ) where
+  any-refs : (n : ℕ) → (n ≡ 0 → ⊥) → any (refsIn l n) ≡ true
+  any-refs zero h = absurd (h refl)
+  any-refs (suc n) h = refl
+
+  size-refs : (n : ℕ) → size (refsIn l n) ≡ n
+  size-refs zero = refl
+  size-refs (suc n) = ap (λ (k : ℕ). suc k) (size-refs n)
+
+-- ---- a message just begun
+
+-- its reference has at most 14 octets
+unh-short : (v : Version) (a : Asked) → formedRow (row v named.Unh) a 1 ≡ true → length (a .text 1 0) ≤ 14
+unh-short v a e =
+    let r = closed-range (text 1 14) a 1 (and-l (formedAs (closed (text 1 14 ∷ [])) a 1) (formedRow (composite (text 1 6 ∷ []) ∷ []) a 2) e) in
+    leb-true (length (a .text 1 0)) 14 (and-r (leb 1 (length (a .text 1 0))) (leb (length (a .text 1 0)) 14) r)
+
+least : (n : ℕ) → 0 ≤ n
+least n = omega arith
+
+roomy-fresh : (b : Bool) (h : List ℕ) → Roomy (fresh b) h
+roomy-fresh b h = record {
+  headers = least 9;
+  loads = least 1;
+  grams = least (1 * 1000000000000);
+  base = least 1;
+  own = least 1;
+  sizes = λ i u. let w : i < 0 = u in absurd (omega arith);
+}
+
+module _ (ρ : ℕ) (s h : List ℕ) where
+  fresh-summary : {m : Message} {b : Bool} (i j : ℕ) (a : Asked) → m ≡ fresh b → b ≡ same (a .text 2 0) (octets "AUTACK") → content ρ (slice i j s) ≡ a .text 1 0 →
+      summaryIn ρ s m i j h ≡ opened a
+  fresh-summary {m} {b} i j a e d q =
+      ap (λ (x : Message). summaryIn ρ s x i j h) (e ∙ ap fresh d) ∙ named-by q
+    where
+      named-by : {t : List ℕ} → t ≡ a .text 1 0 →
+          _≡_ {A = Summary} (record { m = fresh (same (a .text 2 0) (octets "AUTACK")); ref = t; refs = nil; sizes = nil; flags = nil }) (opened a)
+      named-by q = rw q
+
+-- ---- the steps
+
+module _ (y : Syntax) (s : List ℕ) (st : State) (h l b : List ℕ) (at next : ℕ) (f : Shape) (marks : List ℕ) where
+  abbrev ask : Asked
+  ask = askedAt (y .service) s at
+
+  abbrev here : StateS
+  here = stateIn (y .service .release) s st h l
+
+  abbrev unbs : List ℕ
+  unbs = content (y .service .release) (slice (st .unb .start) (st .unb .end) s)
+
+  abbrev refs : Snoc (List ℕ)
+  refs = refsIn l (st .count)
+
+  abbrev kept : Summary
+  kept = summaryIn (y .service .release) s (st .message) (st .unh .start) (st .unh .end) h
+
+  abbrev Told : Step → Type 0
+  Told r = StepIs (decidedFrom (y .version) (stateIn (y .service .release) s st h l) (askedAt (y .service) s at) at) r (y .service .release) s h l b next
+
+  -- the octets of a field between two of the marks
+  between : Marked (y .service) s at marks → (p : ℕ) {i j : ℕ} → 1 ≤ p → p ≤ 5 → i ≡ startIn marks p 0 → j ≡ endIn marks p 0 →
+      slice i j s ≡ partOf s (componentAt (y .service) s at p 0)
+  between g p u v e d = marked-between g {p = p} {c = 0} u v (least 2) e d
+
+  module _ (g : Ready y s st h l b at next Unb f marks) (ph : (st .phase ≡ Start) × (st .count ≡ 0)) {q : Bool} (e : q ≡ formed (y .version) ask) where
+    unb-here : here ≡ startS
+    unb-here = ap (λ (z : Phase). phased z unbs refs kept) (ph .0)
+
+    unb-order : orderS here ask ≡ true
+    unb-order = by orderK unb-here (g .kind)
+
+    pub unb-bad : not q ≡ true → {r : Step} → r ≡ Stop (record { number = 8; place = at }) → Told r
+    unb-bad n d = stop (y .service .release) s h l b next (at-8 (y .version) here ask at unb-order (sym e ∙ not-true q n)) d
+
+    module _ {i j : ℕ} (u : i ≡ startIn marks 5 0) (w : j ≡ endIn marks 5 0) where
+      abbrev unb-state : State
+      unb-state = record { phase = Idle; count = 0; unb = record { start = i; end = j }; unh = st .unh; message = st .message }
+
+      unb-held : Held (y .service .release) s unb-state h l b next
+      unb-held = record {
+        indexed = subst (λ (n : ℕ). Indexed l b n) (ph .1) (g .held .indexed);
+        roomy = g .held .roomy;
+        begun = g .held .begun;
+        long = g .held .long;
+        names = g .held .names;
+        short = g .held .short;
+        taken = least next;
+        named = g .held .named;
+      }
+
+      unb-is : stateIn (y .service .release) s unb-state h l ≡ nextS here ask
+      unb-is =
+          ap (λ (t : List ℕ). idleS (content (y .service .release) t) nil) (between (g .noted refl .marks) 5 (omega arith) (omega arith) u w)
+          ∙ sym (by (λ (x : StateS) (k : Kind). nextK x k ask) unb-here (g .kind))
+
+      pub unb-read : not q ≡ false → Told (On unb-state)
+      unb-read n =
+          go (y .service .release) s h l b next
+          (at-end (y .version) here ask at unb-order (sym e ∙ not-false q n) (by (λ (x : StateS) (k : Kind). refsK x k ask) unb-here (g .kind))
+          (by (λ (x : StateS) (k : Kind). countsK x k ask) unb-here (g .kind)) (by (λ (x : StateS) (k : Kind). scopeK x k ask) unb-here (g .kind)) (unb-load ask (g .kind)))
+          refl unb-is unb-held
+
+  idle-here : st .phase ≡ Idle → here ≡ idleS unbs refs
+  idle-here ph = ap (λ (z : Phase). phased z unbs refs kept) ph
+
+  idle-taken : {k : Kind} → Ready y s st h l b at next k f marks → st .phase ≡ Idle → 8 * st .count + 4 ≤ next
+  idle-taken g ph =
+      let t : 8 * st .count + 4 * 0 ≤ at = subst (λ (z : Phase). 8 * st .count + 4 * openSize z (st .message) ≤ at) ph (g .held .taken) in
+      let n = g .ends in
+      omega (arith, t, n)
+
+  module _ (g : Ready y s st h l b at next Unh f marks) (ph : st .phase ≡ Idle) {q : Bool} (e : q ≡ formed (y .version) ask) where
+    unh-order : orderS here ask ≡ true
+    unh-order = by orderK (idle-here ph) (g .kind)
+
+    pub unh-bad : not q ≡ true → {r : Step} → r ≡ Stop (record { number = 8; place = at }) → Told r
+    unh-bad n d = stop (y .service .release) s h l b next (at-8 (y .version) here ask at unh-order (sym e ∙ not-true q n)) d
+
+    module _ (n : not q ≡ false) {x : List ℕ} (field : x ≡ partOf s (componentAt (y .service) s at 1 0)) {a : Bool}
+        (used : a ≡ among (refsIn l (st .count)) (content (y .service .release) x)) where
+      unh-refs : refsS here ask ≡ not a
+      unh-refs =
+          by (λ (z : StateS) (k : Kind). refsK z k ask) (idle-here ph) (g .kind)
+          ∙ sym (ap not (used ∙ ap (λ (t : List ℕ). among refs (content (y .service .release) t)) field))
+
+      pub unh-again : a ≡ true → {r : Step} → r ≡ Stop (record { number = 9; place = at }) → Told r
+      unh-again v d = stop (y .service .release) s h l b next (at-9 (y .version) here ask at unh-order (sym e ∙ not-false q n) (unh-refs ∙ ap not v)) d
+
+      module _ (v : a ≡ false) {z : List ℕ} (name : z ≡ partOf s (componentAt (y .service) s at 2 0)) {c : Bool}
+          (auto : c ≡ same (content (y .service .release) z) (octets "AUTACK")) {m : Message} (new : m ≡ fresh c)
+          {i j : ℕ} (u : i ≡ startIn marks 1 0) (w : j ≡ endIn marks 1 0) where
+        abbrev unh-state : State
+        unh-state = record { phase = Busy; count = st .count; unb = st .unb; unh = record { start = i; end = j }; message = m }
+
+        unh-held : Held (y .service .release) s unh-state h l b next
+        unh-held =
+            let one : m .segments ≡ 1 = ap (λ (x : Message). x .segments) new in
+            let t = idle-taken g ph in
+            let taken : 8 * st .count + 4 * m .segments ≤ next = omega (arith, one, t) in
+            let begun : 1 ≤ m .segments = omega (arith, one) in
+            let short = unh-short (y .version) ask (ap (λ (k : Kind). formedBy (y .version) k ask) (g .kind) ∙ sym (formed-by (y .version) ask) ∙ sym e ∙ not-false q n) in
+            record {
+              indexed = g .held .indexed;
+              roomy = subst (λ (x : Message). Roomy x h) (sym new) (roomy-fresh c h);
+              begun = begun;
+              long = g .held .long;
+              names = g .held .names;
+              short = g .held .short;
+              taken = taken;
+              named = rw (between (g .noted refl .marks) 1 (omega arith) (omega arith) u w) short;
+            }
+
+        unh-is : stateIn (y .service .release) s unh-state h l ≡ nextS here ask
+        unh-is =
+            ap (λ (x : Summary). busyS unbs refs x)
+            (fresh-summary (y .service .release) s h i j ask new (auto ∙ ap (λ (t : List ℕ). same (content (y .service .release) t) (octets "AUTACK")) name)
+            (ap (content (y .service .release)) (between (g .noted refl .marks) 1 (omega arith) (omega arith) u w)))
+            ∙ sym (by (λ (x : StateS) (k : Kind). nextK x k ask) (idle-here ph) (g .kind))
+
+        pub unh-read : Told (On unh-state)
+        unh-read =
+            go (y .service .release) s h l b next
+            (at-end (y .version) here ask at unh-order (sym e ∙ not-false q n) (unh-refs ∙ ap not v)
+            (by (λ (x : StateS) (k : Kind). countsK x k ask) (idle-here ph) (g .kind)) (by (λ (x : StateS) (k : Kind). scopeK x k ask) (idle-here ph) (g .kind)) (unh-load ask (g .kind)))
+            refl unh-is unh-held
+
+  module _ (g : Ready y s st h l b at next Unz f marks) (ph : st .phase ≡ Idle) where
+    unz-order : orderS here ask ≡ any refs
+    unz-order = by orderK (idle-here ph) (g .kind)
+
+    pub unz-none : st .count ≡ 0 → {r : Step} → r ≡ Stop (record { number = 7; place = at }) → Told r
+    unz-none z d = stop (y .service .release) s h l b next (at-7 (y .version) here ask at (unz-order ∙ ap (λ (n : ℕ). any (refsIn l n)) z)) d
+
+    module _ (some : st .count ≡ 0 → ⊥) {q : Bool} (e : q ≡ formed (y .version) ask) where
+      unz-may : orderS here ask ≡ true
+      unz-may = unz-order ∙ any-refs l (st .count) some
+
+      pub unz-bad : not q ≡ true → {r : Step} → r ≡ Stop (record { number = 8; place = at }) → Told r
+      unz-bad n d = stop (y .service .release) s h l b next (at-8 (y .version) here ask at unz-may (sym e ∙ not-true q n)) d
+
+      module _ (n : not q ≡ false) where
+        pub unz-six : inRange (digits 1 6) (textAt (y .service) s at 1 0) ≡ true
+        unz-six = unz-digits (y .version) ask (ap (λ (k : Kind). formedBy (y .version) k ask) (g .kind) ∙ sym (formed-by (y .version) ask) ∙ sym e ∙ not-false q n)
+
+        module _ {x z : List ℕ} (field : x ≡ partOf s (componentAt (y .service) s at 2 0)) (part : z ≡ slice (st .unb .start) (st .unb .end) s) {a : Bool}
+            (is : a ≡ same (content (y .service .release) x) (content (y .service .release) z)) where
+          unz-refs : refsS here ask ≡ a
+          unz-refs =
+              by (λ (z : StateS) (k : Kind). refsK z k ask) (idle-here ph) (g .kind)
+              ∙ sym (is ∙ ap (λ (t : List ℕ). same (content (y .service .release) t) (content (y .service .release) z)) field
+              ∙ ap (λ (t : List ℕ). same (ask .text 2 0) (content (y .service .release) t)) part)
+
+          pub unz-other : not a ≡ true → {r : Step} → r ≡ Stop (record { number = 9; place = at }) → Told r
+          unz-other v d = stop (y .service .release) s h l b next (at-9 (y .version) here ask at unz-may (sym e ∙ not-false q n) (unz-refs ∙ not-true a v)) d
+
+          module _ (v : not a ≡ false) {k w : ℕ} (number : k ≡ valueFrom 0 (textAt (y .service) s at 1 0)) (count : w ≡ st .count) where
+            unz-counts : countsS here ask ≡ eqb (numberIn ask 1) (size refs)
+            unz-counts = by (λ (z : StateS) (k : Kind). countsK z k ask) (idle-here ph) (g .kind)
+
+            pub unz-wrong : (k ≡ w → ⊥) → {r : Step} → r ≡ Stop (record { number = 10; place = at }) → Told r
+            unz-wrong c d =
+                stop (y .service .release) s h l b next
+                (at-10 (y .version) here ask at unz-may (sym e ∙ not-false q n) (unz-refs ∙ not-false a v)
+                (unz-counts ∙ ne-eqb (numberIn ask 1) (size refs) (λ i. c (number ∙ i ∙ size-refs l (st .count) ∙ sym count)))) d
+
+            abbrev unz-state : State
+            unz-state = record { phase = Done; count = st .count; unb = st .unb; unh = st .unh; message = st .message }
+
+            unz-held : Held (y .service .release) s unz-state h l b next
+            unz-held =
+                let t = idle-taken g ph in
+                let taken : 8 * st .count + 4 * 0 ≤ next = omega (arith, t) in
+                record {
+                  indexed = g .held .indexed;
+                  roomy = g .held .roomy;
+                  begun = g .held .begun;
+                  long = g .held .long;
+                  names = g .held .names;
+                  short = g .held .short;
+                  taken = taken;
+                  named = g .held .named;
+                }
+
+            pub unz-read : k ≡ w → Told (On unz-state)
+            unz-read c =
+                go (y .service .release) s h l b next
+                (at-end (y .version) here ask at unz-may (sym e ∙ not-false q n) (unz-refs ∙ not-false a v)
+                (unz-counts ∙ eq-eqb (numberIn ask 1) (size refs) (sym number ∙ c ∙ count ∙ sym (size-refs l (st .count))))
+                (by (λ (x : StateS) (k : Kind). scopeK x k ask) (idle-here ph) (g .kind)) (unz-load ask (g .kind)))
+                refl (sym (by (λ (x : StateS) (k : Kind). nextK x k ask) (idle-here ph) (g .kind))) unz-held
+
+  busy-here : st .phase ≡ Busy → here ≡ busyS unbs refs kept
+  busy-here ph = ap (λ (z : Phase). phased z unbs refs kept) ph
+
+  module _ (g : Ready y s st h l b at next Unt f marks) (ph : st .phase ≡ Busy) where
+    unt-taken : 8 * st .count + 4 * st .message .segments ≤ at
+    unt-taken = subst (λ (z : Phase). 8 * st .count + 4 * openSize z (st .message) ≤ at) ph (g .held .taken)
+
+    pub unt-names : (2 * st .count + 2 ≤ length l) × (st .count < 65535) × (length (content (y .service .release) (slice (st .unh .start) (st .unh .end) s)) ≤ 14)
+    unt-names =
+        let t = unt-taken in
+        let n = g .ends in
+        let o = g .inside in
+        let k = g .held .names in
+        let z = g .held .short in
+        let i = g .held .begun in
+        (omega (arith, t, n, o, k, z, i), omega (arith, t, n, o, k, z, i), g .held .named)
+
+    pub unt-sums : (st .message .segments < 65536) × (st .message .pair .base < 4294967296) × (st .message .pair .own < 4294967296)
+    unt-sums =
+        let t = unt-taken in
+        let n = g .ends in
+        let o = g .inside in
+        let z = g .held .short in
+        let i = g .held .roomy .base in
+        let j = g .held .roomy .own in
+        (omega (arith, t, n, o, z), omega (arith, t, n, o, z, i), omega (arith, t, n, o, z, j))
+
+    module _ {m : Bool} (may : m ≡ mayCome Unt (st .message)) where
+      unt-order : orderS here ask ≡ m
+      unt-order = by orderK (busy-here ph) (g .kind) ∙ sym may
+
+      pub unt-none : not m ≡ true → {r : Step} → r ≡ Stop (record { number = 7; place = at }) → Told r
+      unt-none z d = stop (y .service .release) s h l b next (at-7 (y .version) here ask at (unt-order ∙ not-true m z)) d
+
+      module _ (some : not m ≡ false) {q : Bool} (e : q ≡ formed (y .version) ask) where
+        unt-may : orderS here ask ≡ true
+        unt-may = unt-order ∙ not-false m some
+
+        pub unt-bad : not q ≡ true → {r : Step} → r ≡ Stop (record { number = 8; place = at }) → Told r
+        unt-bad n d = stop (y .service .release) s h l b next (at-8 (y .version) here ask at unt-may (sym e ∙ not-true q n)) d
+
+        module _ (n : not q ≡ false) where
+          pub unt-six : inRange (digits 1 6) (textAt (y .service) s at 1 0) ≡ true
+          unt-six = unt-digits (y .version) ask (ap (λ (k : Kind). formedBy (y .version) k ask) (g .kind) ∙ sym (formed-by (y .version) ask) ∙ sym e ∙ not-false q n)
+
+          module _ {a : Bool}
+              (is : a ≡ (same (textAt (y .service) s at 2 0) (content (y .service .release) (slice (st .unh .start) (st .unh .end) s)) && allNamed (headFlags h (st .message .headers)))) where
+            unt-refs : refsS here ask ≡ a
+            unt-refs = by (λ (z : StateS) (k : Kind). refsK z k ask) (busy-here ph) (g .kind) ∙ sym is
+
+            pub unt-other : not a ≡ true → {r : Step} → r ≡ Stop (record { number = 9; place = at }) → Told r
+            unt-other v d = stop (y .service .release) s h l b next (at-9 (y .version) here ask at unt-may (sym e ∙ not-false q n) (unt-refs ∙ not-true a v)) d
+
+            module _ (v : not a ≡ false) {c : Bool}
+                (counts : c ≡ (eqb (numberIn ask 1) (st .message .segments + 1) && (evenAll (st .message .pair) && totalRight (st .message .sums)))) where
+              unt-counts : countsS here ask ≡ c
+              unt-counts =
+                  let i : suc (st .message .segments) ≡ st .message .segments + 1 = omega arith in
+                  by (λ (z : StateS) (k : Kind). countsK z k ask) (busy-here ph) (g .kind)
+                  ∙ ap (λ (k : ℕ). eqb (numberIn ask 1) k && (evenAll (st .message .pair) && totalRight (st .message .sums))) i ∙ sym counts
+
+              pub unt-wrong : not c ≡ true → {r : Step} → r ≡ Stop (record { number = 10; place = at }) → Told r
+              unt-wrong w d =
+                  stop (y .service .release) s h l b next
+                  (at-10 (y .version) here ask at unt-may (sym e ∙ not-false q n) (unt-refs ∙ not-false a v) (unt-counts ∙ not-true c w)) d
+
+              abbrev unt-state : State
+              unt-state = record { phase = Idle; count = st .count + 1; unb = st .unb; unh = st .unh; message = st .message }
+
+              module _ (w : not c ≡ false) (l′ b′ : List ℕ)
+                  (more : refsIn l′ (st .count + 1) ≡ refsIn l (st .count) ▷ content (y .service .release) (slice (st .unh .start) (st .unh .end) s))
+                  (chain : Indexed l′ b′ (st .count + 1)) (long : length l′ ≡ length l) where
+                unt-held : Held (y .service .release) s unt-state h l′ b′ next
+                unt-held =
+                    let t = unt-taken in
+                    let i = g .held .begun in
+                    let j = g .ends in
+                    let k = g .held .names in
+                    let taken : 8 * (st .count + 1) + 4 * 0 ≤ next = omega (arith, t, i, j) in
+                    let names : length s ≤ 4 * length l′ = omega (arith, k, long) in
+                    record {
+                      indexed = chain;
+                      roomy = g .held .roomy;
+                      begun = g .held .begun;
+                      long = g .held .long;
+                      names = names;
+                      short = g .held .short;
+                      taken = taken;
+                      named = g .held .named;
+                    }
+
+                unt-is : stateIn (y .service .release) s unt-state h l′ ≡ nextS here ask
+                unt-is = ap (λ (x : Snoc (List ℕ)). idleS unbs x) more ∙ sym (by (λ (x : StateS) (k : Kind). nextK x k ask) (busy-here ph) (g .kind))
+
+                pub unt-read : StepIs (decidedFrom (y .version) (stateIn (y .service .release) s st h l) (askedAt (y .service) s at) at) (On unt-state) (y .service .release) s h l′ b′ next
+                unt-read =
+                    go (y .service .release) s h l′ b′ next
+                    (at-end (y .version) here ask at unt-may (sym e ∙ not-false q n) (unt-refs ∙ not-false a v) (unt-counts ∙ not-false c w)
+                    (by (λ (x : StateS) (k : Kind). scopeK x k ask) (busy-here ph) (g .kind)) (unt-load ask (g .kind)))
+                    refl unt-is unt-held
+
+-- ---- UNT's numbers and references, one test after the other
+
+module _ {v k n w : ℕ} (e : n ≡ v) (d : w ≡ k) where
+  pub counts-wrong : (b : Bool) → (n ≡ w → ⊥) → false ≡ (eqb v k && b)
+  counts-wrong b h = and-stop (sym (ne-eqb v k (λ i. h (e ∙ i ∙ sym d)))) b refl
+
+  module _ (h : n ≡ w) {a p : Bool} (even : a ≡ p) where
+    pub counts-odd : (t : Bool) → not a ≡ true → false ≡ (eqb v k && (p && t))
+    counts-odd t i = and-go (sym (eq-eqb v k (sym e ∙ h ∙ d))) refl (and-stop even t (not-true a i))
+
+    pub counts-even : {t u : Bool} → not a ≡ false → t ≡ u → t ≡ (eqb v k && (p && u))
+    counts-even i j = and-go (sym (eq-eqb v k (sym e ∙ h ∙ d))) refl (and-go even (not-false a i) j)
+
+module _ (y : Syntax) (s : List ℕ) (at : ℕ) {x z z′ : List ℕ} (field : x ≡ partOf s (componentAt (y .service) s at 2 0)) (part : z ≡ z′) {a : Bool}
+    (is : a ≡ same (content (y .service .release) x) (content (y .service .release) z)) where
+  ref-same : a ≡ same (textAt (y .service) s at 2 0) (content (y .service .release) z′)
+  ref-same =
+      is ∙ ap (λ (t : List ℕ). same (content (y .service .release) t) (content (y .service .release) z)) field
+      ∙ ap (λ (t : List ℕ). same (textAt (y .service) s at 2 0) (content (y .service .release) t)) part
+
+  pub ref-other : (b : Bool) → not a ≡ true → false ≡ (same (textAt (y .service) s at 2 0) (content (y .service .release) z′) && b)
+  ref-other b n = and-stop ref-same b (not-true a n)
+
+  pub ref-own : {b q : Bool} → not a ≡ false → q ≡ b → q ≡ (same (textAt (y .service) s at 2 0) (content (y .service .release) z′) && b)
+  ref-own n j = and-go ref-same (not-false a n) j

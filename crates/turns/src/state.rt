@@ -1,0 +1,532 @@
+// The walk over the segments of an interchange.
+ghost use mathlib.Core.Path.{_≡_};
+ghost use mathlib.Core.Bool.{true, false, _&&_};
+ghost use mathlib.Core.List.{List};
+ghost use Prim.Native.Nat.{ℕ, _+_, _*_, _≤_, _<_};
+ghost use lib.Dec.{T, eqb};
+ghost use lib.ListN.{length, drop};
+ghost use lib.Seq.{slice};
+ghost use Rattle.syntax.specs.Octets.{same};
+ghost use Rattle.syntax.specs.Content.{content};
+ghost use Rattle.syntax.specs.Service.{fit};
+ghost use Rattle.syntax.specs.Repertoire.{Table};
+ghost use Rattle.syntax.specs.Cutting.{cutAt, endAt, tagOf};
+ghost use Rattle.syntax.specs.Reader.{chain};
+ghost use Rattle.grammar.specs.Interchange.{start};
+ghost use Rattle.grammar.specs.Elements.{inRange, digits, formed};
+ghost use Rattle.elements.specs.Kinds.{kindOf};
+ghost use Rattle.elements.specs.Octets.{textAt, askedAt};
+ghost use Rattle.elements.specs.Fields.{Marked, Fields};
+ghost use Rattle.message.specs.Heads.{headFlags};
+ghost use Rattle.message.specs.Summary.{numberIn, evenAll, totalRight, allNamed, mayCome, atBusy};
+ghost use Rattle.message.specs.Steps.{stepM, summaryIn, Roomy, Sought, MovedIs};
+ghost use Rattle.turns.specs.Held.{unseenAs, seenAs, lookedAt, stateIn, Held, Ready, decidedFrom, StepIs};
+ghost use Rattle.elements.specs.Formed.{looked};
+ghost use Rattle.turns.specs.declared.state.Phase.the-variants.{Start, Idle, Busy, Done};
+ghost use Rattle.elements.specs.declared.Kind.the-variants.{Unb, Unh, Unt, Unz, Ust};
+use elements::Kind;
+use elements::fields::Shape;
+use elements::fields::field;
+use elements::fields::field_end;
+use elements::fields::field_start;
+use elements::fields::fields;
+use elements::formed::end_formed;
+use elements::formed::is_formed;
+use elements::formed::unb_formed;
+use elements::formed::unh_formed;
+use elements::kind_of;
+use message::Group;
+use message::Message;
+use message::heads::all_named;
+use message::items::on_cnt;
+use message::items::on_other;
+use message::items::on_qty;
+use message::items::on_usb;
+use message::kept::all_even;
+use message::kept::fresh_message;
+use message::kept::grown_to;
+use message::kept::totals_right;
+use message::kept::usa_group;
+use message::kept::usc_group;
+use message::order::may_come;
+use message::steps::Moved;
+use message::steps::in_header;
+use message::steps::number_in;
+use message::steps::on_ush;
+use message::steps::on_usr;
+use message::steps::on_ust;
+use message::steps::on_usy;
+use references::refs::note;
+use references::refs::used;
+use syntax::Refusal;
+use syntax::Syntax;
+use syntax::content::content_is;
+use syntax::content::part;
+use syntax::content::same_content;
+use syntax::cutting::Cut;
+use syntax::cutting::Tag;
+use syntax::cutting::scan;
+use syntax::cutting::tag_at;
+use syntax::opening::Begun;
+use syntax::opening::begin;
+use syntax::repertoire::table;
+
+// Where the interchange stands: before UNB, between messages, in one, behind UNZ.
+pub enum Phase {
+    Start,
+    Idle,
+    Busy,
+    Done,
+}
+
+// From `start` up to, not including, `end`.
+pub struct Stretch {
+    pub start: usize,
+    pub end: usize,
+}
+
+// What was read so far. References are kept by place: UNB's 0020, the open message's 0062.
+pub struct State {
+    pub message: Message,
+    pub unb: Stretch,
+    pub unh: Stretch,
+    pub count: usize,
+    pub phase: Phase,
+}
+
+pub enum Step {
+    On(State),
+    Stop(Refusal),
+}
+
+// A segment that can be read: its end and kind; or 4, or 3.
+pub enum Looked {
+    Seen(usize, Kind),
+    Bad(Refusal),
+}
+
+// After a segment: the state, the place of the next one, and what the segment was.
+pub struct Ahead {
+    pub state: State,
+    pub next: usize,
+    pub kind: Kind,
+}
+
+pub enum Advanced {
+    On(Ahead),
+    Stop(Refusal),
+}
+
+fn unseen(number: u8, place: usize) -> Looked
+    ensures { λ r. ⌜ r ≡ unseenAs number place ⌝ }
+{
+    Looked::Bad(Refusal {
+        number: number,
+        place: place,
+    })
+}
+
+fn seen(c: Cut, a: u8, b: u8, d: u8, at: usize) -> Looked
+    ensures { λ r. ⌜ r ≡ seenAs c a b d at ⌝ }
+{
+    match c {
+        Cut::Ends(e) => Looked::Seen(e, kind_of(a, b, d)),
+        Cut::Spoilt(_, q) => unseen(3, q),
+        Cut::Open => unseen(4, at),
+    }
+}
+
+// The segment at `at`: 4, then 3.
+pub fn look(s: &[u8], at: usize, t: &[u8; 256], y: Syntax) -> Looked
+    requires { ⌜ Table y (now t) ⌝ }
+    ensures { λ r. ⌜ r ≡ lookedAt y (now (s .entry)) at ⌝ }
+{
+    let v = y.service;
+    let c = scan(s, at, t, y);
+    match tag_at(s, at, v) {
+        Tag::Bad => unseen(4, at),
+        Tag::Is(a, b, d) => seen(c, a, b, d, at),
+    }
+}
+
+fn stopped(number: u8, place: usize) -> Step
+    ensures { λ r. ⌜ r ≡ Step.Stop (record { number = number; place = place }) ⌝ }
+{
+    Step::Stop(Refusal {
+        number: number,
+        place: place,
+    })
+}
+
+// The first segment, UNB: 8.
+fn on_unb(
+    s: &[u8],
+    at: usize,
+    next: usize,
+    y: Syntax,
+    st: State,
+    f: Shape,
+    marks: &[usize],
+    heads: &[usize; 36],
+    names: &[u64],
+    slots: &[u16],
+) -> Step
+    requires { ⌜ Ready y (now s) st (now heads) (now names) (now slots) at next Unb f (now marks) ⌝ }
+    requires { ⌜ (st .phase ≡ Start) × (st .count ≡ 0) ⌝ }
+    ensures { λ r. ⌜ StepIs (decidedFrom (y .version) (stateIn (y .service .release) (now (s .entry)) st (now (heads .entry)) (now (names .entry))) (askedAt (y .service) (now (s .entry)) at) at) r (y .service .release) (now (s .entry)) (now (heads .entry)) (now (names .entry)) (now (slots .entry)) next ⌝ }
+{
+    if !unb_formed(s, at, y, marks) {
+        return stopped(8, at);
+    }
+    let m = st.message;
+    let w = st.unh;
+    Step::On(State {
+        phase: Phase::Idle,
+        count: 0,
+        unb: Stretch {
+            start: field_start(marks, 5, 0),
+            end: field_end(marks, 5, 0),
+        },
+        unh: w,
+        message: m,
+    })
+}
+
+// UNH between messages: 8, then 0062 once in an interchange.
+fn on_unh(
+    s: &[u8],
+    at: usize,
+    next: usize,
+    y: Syntax,
+    st: State,
+    f: Shape,
+    marks: &[usize],
+    heads: &[usize; 36],
+    names: &[u64],
+    slots: &[u16],
+) -> Step
+    requires { ⌜ Ready y (now s) st (now heads) (now names) (now slots) at next Unh f (now marks) ⌝ }
+    requires { ⌜ st .phase ≡ Idle ⌝ }
+    ensures { λ r. ⌜ StepIs (decidedFrom (y .version) (stateIn (y .service .release) (now (s .entry)) st (now (heads .entry)) (now (names .entry))) (askedAt (y .service) (now (s .entry)) at) at) r (y .service .release) (now (s .entry)) (now (heads .entry)) (now (names .entry)) (now (slots .entry)) next ⌝ }
+{
+    let v = y.service;
+    if !unh_formed(s, at, y, marks) {
+        return stopped(8, at);
+    }
+    if used(
+        v.release,
+        names,
+        slots,
+        st.count,
+        field(s, at, y, marks, 1, 0),
+    ) {
+        return stopped(9, at);
+    }
+    let auto = content_is(field(s, at, y, marks, 2, 0), v.release, b"AUTACK");
+    let m = fresh_message(auto);
+    let u = st.unb;
+    Step::On(State {
+        phase: Phase::Busy,
+        count: st.count,
+        unb: u,
+        unh: Stretch {
+            start: field_start(marks, 1, 0),
+            end: field_end(marks, 1, 0),
+        },
+        message: m,
+    })
+}
+
+fn wide(n: usize) -> u64
+    ensures { λ r. ⌜ r ≡ n ⌝ }
+{
+    n as u64
+}
+
+// UNZ between messages: 7 without one, 8, UNB's 0020, the messages.
+fn on_unz(
+    s: &[u8],
+    at: usize,
+    next: usize,
+    y: Syntax,
+    st: State,
+    f: Shape,
+    marks: &[usize],
+    heads: &[usize; 36],
+    names: &[u64],
+    slots: &[u16],
+) -> Step
+    requires { ⌜ Ready y (now s) st (now heads) (now names) (now slots) at next Unz f (now marks) ⌝ }
+    requires { ⌜ st .phase ≡ Idle ⌝ }
+    ensures { λ r. ⌜ StepIs (decidedFrom (y .version) (stateIn (y .service .release) (now (s .entry)) st (now (heads .entry)) (now (names .entry))) (askedAt (y .service) (now (s .entry)) at) at) r (y .service .release) (now (s .entry)) (now (heads .entry)) (now (names .entry)) (now (slots .entry)) next ⌝ }
+{
+    let v = y.service;
+    if st.count == 0 {
+        return stopped(7, at);
+    }
+    if !end_formed(s, at, y, marks) {
+        return stopped(8, at);
+    }
+    let u = st.unb;
+    let a = u.start;
+    let e = u.end;
+    if !same_content(
+        field(s, at, y, marks, 2, 0),
+        v.release,
+        part(s, a, e),
+        v.release,
+    ) {
+        return stopped(9, at);
+    }
+    if number_in(s, at, y, marks, 1) != wide(st.count) {
+        return stopped(10, at);
+    }
+    let m = st.message;
+    let w = st.unh;
+    Step::On(State {
+        phase: Phase::Done,
+        count: st.count,
+        unb: u,
+        unh: w,
+        message: m,
+    })
+}
+
+// UNT's numbers: 0074, 0588 and CNT.
+fn counts_right(s: &[u8], at: usize, y: Syntax, m: Message, marks: &[usize]) -> bool
+    requires { ⌜ Marked (y .service) (now s) at (now marks) ⌝ }
+    requires { ⌜ inRange (digits 1 6) (textAt (y .service) (now s) at 1 0) ≡ true ⌝ }
+    requires { ⌜ (m .segments < 65536) × (m .pair .base < 4294967296) × (m .pair .own < 4294967296) ⌝ }
+    ensures { λ r. ⌜ r ≡ (eqb (numberIn (askedAt (y .service) (now (s .entry)) at) 1) (m .segments + 1) && (evenAll (m .pair) && totalRight (m .sums))) ⌝ }
+{
+    let p = m.pair;
+    let u = m.sums;
+    if number_in(s, at, y, marks, 1) != wide(m.segments + 1) {
+        return false;
+    }
+    if !all_even(p) {
+        return false;
+    }
+    totals_right(u)
+}
+
+// UNT's references: 0062, and each header with its trailer.
+fn refs_right(
+    s: &[u8],
+    at: usize,
+    y: Syntax,
+    st: State,
+    marks: &[usize],
+    heads: &[usize; 36],
+) -> bool
+    requires { ⌜ Marked (y .service) (now s) at (now marks) ⌝ }
+    requires { ⌜ st .message .headers ≤ 9 ⌝ }
+    ensures { λ r. ⌜
+        r ≡ (same (textAt (y .service) (now (s .entry)) at 2 0) (content (y .service .release) (slice (st .unh .start) (st .unh .end) (now (s .entry))))
+        && allNamed (headFlags (now (heads .entry)) (st .message .headers))) ⌝ }
+{
+    let v = y.service;
+    let w = st.unh;
+    let m = st.message;
+    let a = w.start;
+    let e = w.end;
+    if !same_content(
+        field(s, at, y, marks, 2, 0),
+        v.release,
+        part(s, a, e),
+        v.release,
+    ) {
+        return false;
+    }
+    all_named(heads, m.headers)
+}
+
+// UNT of the open message: 7, 8, 9, 10; its 0062 joins the references.
+fn on_unt(
+    s: &[u8],
+    at: usize,
+    next: usize,
+    y: Syntax,
+    st: State,
+    f: Shape,
+    marks: &[usize],
+    heads: &[usize; 36],
+    names: &mut [u64],
+    slots: &mut [u16],
+) -> Step
+    requires { ⌜ Ready y (now s) st (now heads) (now names) (now slots) at next Unt f (now marks) ⌝ }
+    requires { ⌜ st .phase ≡ Busy ⌝ }
+    ensures { λ r. ⌜ StepIs (decidedFrom (y .version) (stateIn (y .service .release) (now (s .entry)) st (now (heads .entry)) (now (names .entry))) (askedAt (y .service) (now (s .entry)) at) at) r (y .service .release) (now (s .entry)) (now (heads .entry)) (now (names .exit)) (now (slots .exit)) next ⌝ }
+{
+    let v = y.service;
+    let m = st.message;
+    let w = st.unh;
+    if !may_come(Kind::Unt, m) {
+        return stopped(7, at);
+    }
+    if !end_formed(s, at, y, marks) {
+        return stopped(8, at);
+    }
+    if !refs_right(s, at, y, st, marks, heads) {
+        return stopped(9, at);
+    }
+    if !counts_right(s, at, y, m, marks) {
+        return stopped(10, at);
+    }
+    let a = w.start;
+    let e = w.end;
+    note(s, v.release, names, slots, st.count, a, e);
+    let u = st.unb;
+    Step::On(State {
+        phase: Phase::Idle,
+        count: st.count + 1,
+        unb: u,
+        unh: w,
+        message: m,
+    })
+}
+
+// What a segment does in the open message, by its kind, once it may come and is well formed.
+fn step_in(
+    s: &[u8],
+    at: usize,
+    y: Syntax,
+    m: Message,
+    k: Kind,
+    f: Shape,
+    marks: &[usize],
+    heads: &mut [usize; 36],
+    found: usize,
+) -> Moved
+    requires { ⌜ k ≡ kindOf (slice at (at + 3) (now s)) ⌝ }
+    requires { ⌜ (looked k ≡ true → Fields (y .service) (now s) at (f .size) (f .repeats) (now marks)) ⌝ }
+    requires { ⌜ Roomy m (now heads) ⌝ }
+    requires { ⌜ (m .segments < 65536) × (length (now heads) ≡ 36) ⌝ }
+    requires { ⌜ (mayCome k m ≡ true) × (formed (y .version) (askedAt (y .service) (now s) at) ≡ true) ⌝ }
+    requires { ⌜ (k ≡ Ust → Sought (y .service) (now s) at m (now heads) found) ⌝ }
+    ensures { λ r. ⌜ ((u w : ℕ) → MovedIs (stepM k (summaryIn (y .service .release) (now (s .entry)) m u w (now (heads .entry))) (askedAt (y .service) (now (s .entry)) at)) r (y .service .release) (now (s .entry)) u w (now (heads .exit))) ⌝ }
+    ensures { λ r. ⌜ length (now (heads .exit)) ≡ 36 ⌝ }
+{
+    let g = m.group;
+    match k {
+        Kind::Ush => on_ush(s, at, y, m, marks, heads),
+        Kind::Usa => in_header(m, usa_group(g), heads),
+        Kind::Usc => in_header(m, usc_group(g), heads),
+        Kind::Usr => on_usr(m, heads),
+        Kind::Ust => on_ust(s, at, y, m, marks, heads, found),
+        Kind::Usb => on_usb(m),
+        Kind::Usx => Moved::To(grown_to(m, Group::Ack(true, false))),
+        Kind::Usy => on_usy(s, at, y, m, marks, heads),
+        Kind::Qty => on_qty(s, at, y, m, f, marks),
+        Kind::Cnt => on_cnt(s, at, y, m, marks),
+        Kind::Other => on_other(m),
+        Kind::Unb => Moved::Bad(7),
+        Kind::Unh => Moved::Bad(7),
+        Kind::Unt => Moved::Bad(7),
+        Kind::Unz => Moved::Bad(7),
+        Kind::Reserved => Moved::Bad(7),
+    }
+}
+
+// A segment in the open message, but for UNT: 7, 8, then what it does.
+fn on_busy(
+    s: &[u8],
+    at: usize,
+    next: usize,
+    y: Syntax,
+    st: State,
+    k: Kind,
+    f: Shape,
+    marks: &[usize],
+    heads: &mut [usize; 36],
+    names: &[u64],
+    slots: &[u16],
+    found: usize,
+) -> Step
+    requires { ⌜ Ready y (now s) st (now heads) (now names) (now slots) at next k f (now marks) ⌝ }
+    requires { ⌜ (st .phase ≡ Busy) × (atBusy false false false true false k ≡ false) ⌝ }
+    requires { ⌜ (k ≡ Ust → Sought (y .service) (now s) at (st .message) (now heads) found) ⌝ }
+    ensures { λ r. ⌜ StepIs (decidedFrom (y .version) (stateIn (y .service .release) (now (s .entry)) st (now (heads .entry)) (now (names .entry))) (askedAt (y .service) (now (s .entry)) at) at) r (y .service .release) (now (s .entry)) (now (heads .exit)) (now (names .entry)) (now (slots .entry)) next ⌝ }
+{
+    let m = st.message;
+    if !may_come(k, m) {
+        return stopped(7, at);
+    }
+    if !is_formed(s, at, y, marks, f, k) {
+        return stopped(8, at);
+    }
+    match step_in(s, at, y, m, k, f, marks, heads, found) {
+        Moved::Bad(n) => stopped(n, at),
+        Moved::To(x) => {
+            let u = st.unb;
+            let w = st.unh;
+            Step::On(State {
+                phase: Phase::Busy,
+                count: st.count,
+                unb: u,
+                unh: w,
+                message: x,
+            })
+        }
+    }
+}
+
+// A segment between messages: UNH or UNZ.
+fn on_idle(
+    s: &[u8],
+    at: usize,
+    next: usize,
+    y: Syntax,
+    st: State,
+    k: Kind,
+    f: Shape,
+    marks: &[usize],
+    heads: &[usize; 36],
+    names: &[u64],
+    slots: &[u16],
+) -> Step
+    requires { ⌜ Ready y (now s) st (now heads) (now names) (now slots) at next k f (now marks) ⌝ }
+    requires { ⌜ st .phase ≡ Idle ⌝ }
+    ensures { λ r. ⌜ StepIs (decidedFrom (y .version) (stateIn (y .service .release) (now (s .entry)) st (now (heads .entry)) (now (names .entry))) (askedAt (y .service) (now (s .entry)) at) at) r (y .service .release) (now (s .entry)) (now (heads .entry)) (now (names .entry)) (now (slots .entry)) next ⌝ }
+{
+    match k {
+        Kind::Unh => on_unh(s, at, next, y, st, f, marks, heads, names, slots),
+        Kind::Unz => on_unz(s, at, next, y, st, f, marks, heads, names, slots),
+        _ => stopped(7, at),
+    }
+}
+
+// A segment in its place: 7 to 12, and the state after it.
+pub fn turn(
+    s: &[u8],
+    at: usize,
+    next: usize,
+    y: Syntax,
+    st: State,
+    k: Kind,
+    f: Shape,
+    marks: &[usize],
+    heads: &mut [usize; 36],
+    names: &mut [u64],
+    slots: &mut [u16],
+    found: usize,
+) -> Step
+    requires { ⌜ Ready y (now s) st (now heads) (now names) (now slots) at next k f (now marks) ⌝ }
+    requires { ⌜ (st .phase ≡ Start → st .count ≡ 0) ⌝ }
+    requires { ⌜ (st .phase ≡ Busy → k ≡ Ust → Sought (y .service) (now s) at (st .message) (now heads) found) ⌝ }
+    ensures { λ r. ⌜ StepIs (decidedFrom (y .version) (stateIn (y .service .release) (now (s .entry)) st (now (heads .entry)) (now (names .entry))) (askedAt (y .service) (now (s .entry)) at) at) r (y .service .release) (now (s .entry)) (now (heads .exit)) (now (names .exit)) (now (slots .exit)) next ⌝ }
+{
+    let p = st.phase;
+    match p {
+        Phase::Start => match k {
+            Kind::Unb => on_unb(s, at, next, y, st, f, marks, heads, names, slots),
+            _ => stopped(7, at),
+        },
+        Phase::Idle => on_idle(s, at, next, y, st, k, f, marks, heads, names, slots),
+        Phase::Busy => match k {
+            Kind::Unt => on_unt(s, at, next, y, st, f, marks, heads, names, slots),
+            _ => on_busy(s, at, next, y, st, k, f, marks, heads, names, slots, found),
+        },
+        Phase::Done => stopped(7, at),
+    }
+}
