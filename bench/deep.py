@@ -28,7 +28,7 @@ def with_root(ref, k):
 
 
 def first(n):
-    """References of n octets with one root, alike from the lowest bit of the fourth octet on."""
+    """References of n octets with one root, alike but for the first three and the highest bit of the fourth."""
     made = (with_root(bytes([a, b, 65, d]) + b"A" * (n - 4), 2) for d in (0x41, 0xC1) for a in SIGNS for b in SIGNS)
     return [ref for ref in made if ref]
 
