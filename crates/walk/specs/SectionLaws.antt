@@ -85,7 +85,7 @@ ust-text t e = by (kindIn tags t) refl e
     by Free q e = absurd (ust-free (same t (octets "QTY")) (same t (octets "CNT")) e)
 
 -- nothing is released where the release is a space
-plain-content : (x : List ℕ) → content 32 x ≡ x
+pub plain-content : (x : List ℕ) → content 32 x ≡ x
 plain-content [] = refl
 plain-content (b ∷ x) = by (eqb b 32) ∙ ap (λ (z : List ℕ). b ∷ z) (plain-content x)
   where
