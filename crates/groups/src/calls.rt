@@ -1,0 +1,56 @@
+// The message that a call names: the interchange is begun, judged, and the message found.
+ghost use mathlib.Core.Path.{_≡_};
+ghost use lib.ListN.{length};
+ghost use Rattle.groups.specs.Calls.{NamedIs};
+use judge::find::Found;
+use judge::find::find;
+use syntax::Refusal;
+use syntax::Syntax;
+use syntax::opening::Begun;
+use syntax::opening::begin;
+use syntax::repertoire::table;
+use walk::sections::Layout;
+
+// The interchange's syntax, and the layout of the message.
+pub struct Opened {
+    pub syntax: Syntax,
+    pub layout: Layout,
+}
+
+pub enum Named {
+    Message(Opened),
+    Refused(Refusal),
+}
+
+// No such message, header or F01 run.
+pub fn missing() -> Refusal
+    ensures { λ r. ⌜ r ≡ record { number = 13; place = 0 } ⌝ }
+{
+    Refusal {
+        number: 13,
+        place: 0,
+    }
+}
+
+// The message with the 0062 `message`, for any octets. The class table is put into `t`, and where the message's groups start into `rows`.
+pub fn message_named(s: &[u8], message: &[u8], t: &mut [u8; 256], rows: &mut [usize; 18]) -> Named
+    requires { ⌜ length (now rows) ≡ 18 ⌝ }
+    ensures { λ r. ⌜ NamedIs (now (s .entry)) (now (message .entry)) r (now (t .exit)) (now (rows .exit)) ⌝ }
+{
+    match begin(s) {
+        Begun::Refused(f) => Named::Refused(f),
+        Begun::Ready(b) => {
+            let y = b.syntax;
+            let at = b.at;
+            *t = table(y);
+            match find(s, at, t, y, message, rows) {
+                Found::Message(c) => Named::Message(Opened {
+                    syntax: y,
+                    layout: c,
+                }),
+                Found::Missing => Named::Refused(missing()),
+                Found::Refused(f) => Named::Refused(f),
+            }
+        }
+    }
+}
