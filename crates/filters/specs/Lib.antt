@@ -14,4 +14,5 @@ pub mod PiecesLaws
 pub mod DecodingLaws
 pub mod HexLoop
 pub mod SixLoop
+pub mod TextLoop
 pub mod FiltersLaws

@@ -1,5 +1,6 @@
 // Code 2: upper-case hex, high half first.
 ghost use mathlib.Core.Path.{_≡_};
+ghost use mathlib.Core.List.{[], _∷_};
 ghost use Prim.Native.Nat.{_+_, _/_, _%_, _<_};
 ghost use lib.ListN.{length};
 ghost use Rattle.syntax.specs.Content.{content};
@@ -60,4 +61,37 @@ pub fn hex_into(out: &mut [u8], x: &[u8], release: u8) -> Decoded
             }
         }
     }
+}
+
+fn hex_digit(n: u8) -> u8
+    requires { ⌜ n < 16 ⌝ }
+    ensures { λ r. ⌜ r ≡ hexDigit n ⌝ }
+{
+    if n < 10 {
+        return n + 48;
+    }
+    n + 55
+}
+
+// The two digits of one octet.
+fn put_octet(out: &mut [u8], at: usize, b: u8) -> usize
+    requires { ⌜ at + 2 < 18446744073709551616 ⌝ }
+    ensures { λ r. ⌜ Laid (now (out .entry)) at (hexText (b ∷ [])) r (now (out .exit)) ⌝ }
+{
+    let two = [hex_digit(b / 16), hex_digit(b % 16)];
+    put(&mut *out, at, &two)
+}
+
+// The text of `v`.
+pub fn hex_text(out: &mut [u8], at: usize, v: &[u8]) -> usize
+    requires { ⌜ at + length (hexText (now v)) < 18446744073709551616 ⌝ }
+    ensures { λ r. ⌜ Laid (now (out .entry)) at (hexText (now (v .entry))) r (now (out .exit)) ⌝ }
+{
+    let mut i: usize = 0;
+    let mut p = at;
+    while i < v.len() {
+        p = put_octet(&mut *out, p, v[i]);
+        i += 1;
+    }
+    p
 }

@@ -1,11 +1,11 @@
 // Code 7: base 64 of RFC 1521.
 ghost use mathlib.Core.Path.{_≡_};
-ghost use mathlib.Core.Bool.{Bool};
+ghost use mathlib.Core.List.{[], _∷_};
 ghost use Prim.Native.Nat.{_+_, _*_, _/_, _%_, _<_};
 ghost use lib.ListN.{length};
 ghost use Rattle.syntax.specs.Content.{content};
 ghost use Rattle.writing.specs.Laid.{Laid};
-ghost use Rattle.filters.specs.Six.{bitsOf, sizeOf, firstOf, secondOf, thirdOf, lastGroup, sixValue};
+ghost use Rattle.filters.specs.Six.{bitsOf, sizeOf, firstOf, secondOf, thirdOf, lastGroup, sixValue, sixDigit, sixText};
 ghost use Rattle.filters.specs.Decoding.{Decodes};
 use crate::Decoded;
 use crate::pieces::Four;
@@ -152,4 +152,78 @@ pub fn six_into(out: &mut [u8], x: &[u8], release: u8) -> Decoded
             }
         }
     }
+}
+
+fn six_digit(n: u8) -> u8
+    requires { ⌜ n < 64 ⌝ }
+    ensures { λ r. ⌜ r ≡ sixDigit n ⌝ }
+{
+    if n < 26 {
+        return n + 65;
+    }
+    if n < 52 {
+        return n + 71;
+    }
+    if n < 62 {
+        return n - 4;
+    }
+    if n == 62 {
+        return 43;
+    }
+    47
+}
+
+fn put_one(out: &mut [u8], at: usize, x: u8) -> usize
+    requires { ⌜ at + 4 < 18446744073709551616 ⌝ }
+    ensures { λ d. ⌜ Laid (now (out .entry)) at (sixText (x ∷ [])) d (now (out .exit)) ⌝ }
+{
+    let four = [six_digit(x / 4), six_digit(x % 4 * 16), 61, 61];
+    put(&mut *out, at, &four)
+}
+
+fn put_two(out: &mut [u8], at: usize, x: u8, y: u8) -> usize
+    requires { ⌜ at + 4 < 18446744073709551616 ⌝ }
+    ensures { λ d. ⌜ Laid (now (out .entry)) at (sixText (x ∷ y ∷ [])) d (now (out .exit)) ⌝ }
+{
+    let four = [
+        six_digit(x / 4),
+        six_digit(x % 4 * 16 + y / 16),
+        six_digit(y % 16 * 4),
+        61,
+    ];
+    put(&mut *out, at, &four)
+}
+
+fn put_three(out: &mut [u8], at: usize, x: u8, y: u8, z: u8) -> usize
+    requires { ⌜ at + 4 < 18446744073709551616 ⌝ }
+    ensures { λ d. ⌜ Laid (now (out .entry)) at (sixText (x ∷ y ∷ z ∷ [])) d (now (out .exit)) ⌝ }
+{
+    let four = [
+        six_digit(x / 4),
+        six_digit(x % 4 * 16 + y / 16),
+        six_digit(y % 16 * 4 + z / 64),
+        six_digit(z % 64),
+    ];
+    put(&mut *out, at, &four)
+}
+
+// The text of `v`.
+pub fn six_text(out: &mut [u8], at: usize, v: &[u8]) -> usize
+    requires { ⌜ at + length (sixText (now v)) < 18446744073709551616 ⌝ }
+    ensures { λ d. ⌜ Laid (now (out .entry)) at (sixText (now (v .entry))) d (now (out .exit)) ⌝ }
+{
+    let mut i: usize = 0;
+    let mut p = at;
+    while 2 < v.len() - i {
+        p = put_three(&mut *out, p, v[i], v[i + 1], v[i + 2]);
+        i += 3;
+    }
+    let left = v.len() - i;
+    if left == 2 {
+        return put_two(&mut *out, p, v[i], v[i + 1]);
+    }
+    if left == 1 {
+        return put_one(&mut *out, p, v[i]);
+    }
+    p
 }
