@@ -1,0 +1,33 @@
+use Rattle.filters.specs.TextLoop.{two-laid}
+use borrow.Author.Needs.{needs}
+use Rattle.filters.proofs.hex.put_octet.Statement.{statement}
+use Rattle.filters.proofs.hex.put_octet.Tie as tie
+
+hex-digit-requires : tie.Need-hex-digit-requires
+hex-digit-requires c κs = search needs
+
+hex-digit-requires-2 : tie.Need-hex-digit-requires-2
+hex-digit-requires-2 c κs = search needs
+
+slice-aggregate-put : tie.Need-slice-aggregate-put
+slice-aggregate-put c = search needs
+
+put-requires : tie.Need-put-requires
+put-requires c κs = search needs
+
+same-length : tie.Need-same-length
+same-length c = search needs
+
+returns : tie.Need-returns
+returns c = two-laid (c .before .before .before .before .before .before .hex-digit .ensures) (c .before .before .before .before .before .hex-digit2 .ensures) (c .before .before .put .ensures)
+
+pub put-octet-spec : {M : Type 1} → statement M
+put-octet-spec =
+    tie.close
+    (tie.spec
+    hex-digit-requires
+    hex-digit-requires-2
+    slice-aggregate-put
+    put-requires
+    same-length
+    returns)

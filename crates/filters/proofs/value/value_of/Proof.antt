@@ -1,0 +1,61 @@
+use Rattle.filters.specs.FiltersLaws.{wrote-bad, wrote-long, wrote-full, wrote-done}
+use borrow.Author.Needs.{needs}
+use Rattle.filters.proofs.value.value_of.Statement.{statement}
+use Rattle.filters.proofs.value.value_of.Tie as tie
+
+slice-aggregate-value-into : tie.Need-slice-aggregate-value-into
+slice-aggregate-value-into c = search needs
+
+value-into-requires : tie.Need-value-into-requires
+value-into-requires c κs = search needs
+
+enum-told : tie.Need-enum-told
+enum-told c = search needs
+
+refused-requires : tie.Need-refused-requires
+refused-requires c κs = search needs
+
+enum-known-m : tie.Need-enum-known-m
+enum-known-m c = search needs
+
+refused-requires-2 : tie.Need-refused-requires-2
+refused-requires-2 c κs = search needs
+
+returns : tie.Need-returns
+returns c = search (wrote-long, needs)
+
+refused-requires-3 : tie.Need-refused-requires-3
+refused-requires-3 c κs = search needs
+
+returns-2 : tie.Need-returns-2
+returns-2 c = search (wrote-full, needs)
+
+value-into-requires-2 : tie.Need-value-into-requires-2
+value-into-requires-2 c κs = search needs
+
+returns-3 : tie.Need-returns-3
+returns-3 c = search (wrote-bad, needs)
+
+same-length : tie.Need-same-length
+same-length c = search needs
+
+returns-4 : tie.Need-returns-4
+returns-4 c = search (wrote-done, needs)
+
+pub value-of-spec : {M : Type 1} → statement M
+value-of-spec =
+    tie.close
+    (tie.spec
+    slice-aggregate-value-into
+    value-into-requires
+    enum-told
+    refused-requires
+    enum-known-m
+    refused-requires-2
+    returns
+    refused-requires-3
+    returns-2
+    value-into-requires-2
+    returns-3
+    same-length
+    returns-4)

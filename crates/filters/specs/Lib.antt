@@ -1,0 +1,18 @@
+-- the definitions, in reading order
+pub mod Octets
+pub mod Hex
+pub mod Six
+pub mod Filters
+-- how the code reads: octets of content two or four at a time, into a buffer
+pub mod Pieces
+pub mod Decoding
+-- what is proved
+pub mod Table
+pub mod HexLaws
+pub mod SixLaws
+pub mod PiecesLaws
+pub mod DecodingLaws
+pub mod HexLoop
+pub mod SixLoop
+pub mod TextLoop
+pub mod FiltersLaws

@@ -1,0 +1,41 @@
+-- What a call that writes a text answers, and what it leaves in the lent buffer.
+use Prim.Native.Nat.{ℕ, _+_}
+use mathlib.Core.List.{List, [], _∷_, _++_}
+use mathlib.Core.Bool.{Bool, true, false, cond}
+use mathlib.Core.Path.{_≡_}
+use lib.Dec.{ltb}
+use lib.ListN.{length, drop}
+use Rattle.syntax.specs.declared.Refusal.{Refusal}
+use Rattle.writing.specs.declared.Written.{Written}
+use Rattle.writing.specs.declared.Written.the-variants.{Length, Refused}
+
+-- the text that is to be written, or the paper's number and place where there is none
+pub data Text : Type 0 where
+  text : List ℕ → Text
+  noText : ℕ → ℕ → Text
+
+abbrev pub refusedAs : ℕ → ℕ → Written
+refusedAs number place = Refused (record { number = number; place = place })
+
+-- "result longer than the lent buffer or than 65,535"
+abbrev pub tooLong : List ℕ → List ℕ → Bool
+tooLong out t = cond (ltb 65535 (length t)) true (ltb (length out) (length t))
+
+abbrev pub writtenAs : Text → List ℕ → Written
+writtenAs (noText number place) out = refusedAs number place
+writtenAs (text t) out = cond (tooLong out t) (refusedAs 15 0) (Length (length t))
+
+-- the text first and the rest as it was; all as it was where the call refuses
+abbrev pub leftIn : Text → List ℕ → List ℕ
+leftIn (noText number place) out = out
+leftIn (text t) out = cond (tooLong out t) out (t ++ drop (length t) out)
+
+-- the answer r and the octets out′ of a call that is to write x into out
+pub record Writes (x : Text) (out : List ℕ) (r : Written) (out′ : List ℕ) : Type 0 where
+  pub answer : r ≡ writtenAs x out
+  pub octets : out′ ≡ leftIn x out
+
+-- the paper's number and place, then the length; 0 where there is none
+abbrev pub toldWritten : Written → List ℕ
+toldWritten (Length n) = 0 ∷ 0 ∷ n ∷ []
+toldWritten (Refused f) = f .number ∷ f .place ∷ 0 ∷ []

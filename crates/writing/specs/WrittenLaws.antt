@@ -1,0 +1,29 @@
+-- A call that measures its text, refuses what is too long, and then lays it.
+use Prim.Native.Nat.{ℕ, _+_, _≤_, _<_}
+use native.Mathlib.Omega.{arith}
+use mathlib.Core.List.{List, [], _∷_, _++_}
+use mathlib.Core.Path.{_≡_, refl, ap, sym, _∙_}
+use mathlib.Core.Bool.{Bool, true, false, cond}
+use lib.Dec.{ltb}
+use lib.ListN.{length, drop}
+use borrow.Author.Tests.{lt-ltb, le-ltb}
+use Rattle.writing.specs.Laid.{Laid}
+use Rattle.writing.specs.LaidLaws.{laid-all, laid-front}
+use Rattle.writing.specs.Written.{Text, text, noText, refusedAs, tooLong, writtenAs, leftIn, Writes}
+use Rattle.writing.specs.declared.Written.{Written}
+use Rattle.writing.specs.declared.Written.the-variants.{Length, Refused}
+
+pub writes-none : {number place : ℕ} {out : List ℕ} {r : Written} → r ≡ refusedAs number place → Writes (noText number place) out r out
+writes-none e = record { answer = e; octets = refl }
+
+module _ {t : List ℕ} {m : ℕ} (e : m ≡ length t) where
+  pub writes-long : {out : List ℕ} {r : Written} → 65535 < m → r ≡ refusedAs 15 0 → Writes (text t) out r out
+  writes-long h q = record { answer = q ∙ rw (← e, lt-ltb _ _ h); octets = rw (← e, lt-ltb _ _ h) }
+
+  pub writes-full : {out : List ℕ} {r : Written} → m ≤ 65535 → length out < m → r ≡ refusedAs 15 0 → Writes (text t) out r out
+  writes-full l h q = record { answer = q ∙ rw (← e, le-ltb _ _ l, lt-ltb _ _ h); octets = rw (← e, le-ltb _ _ l, lt-ltb _ _ h) }
+
+  pub writes-done : {out out′ : List ℕ} {k : ℕ} → m ≤ 65535 → m ≤ length out → Laid out 0 t k out′ → Writes (text t) out (Length m) out′
+  writes-done {out} l h g =
+      let f : length t ≤ length out = omega arith in
+      record { answer = rw (← e, le-ltb _ _ l, le-ltb _ _ h); octets = laid-front g f ∙ rw (← e, le-ltb _ _ l, le-ltb _ _ h) }
