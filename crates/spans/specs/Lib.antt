@@ -1,0 +1,4 @@
+pub mod Span
+pub mod SpanLaws
+pub mod Spanning
+pub mod SpanningLaws

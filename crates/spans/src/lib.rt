@@ -1,0 +1,2 @@
+// The F01 run of an interchange.
+pub mod span;
