@@ -2,7 +2,9 @@ pub mod Stand
 pub mod Groups
 pub mod Links
 pub mod Calls
+pub mod Parts
 pub mod StandLaws
 pub mod GroupsLaws
 pub mod LinksLaws
 pub mod CallsLaws
+pub mod PartsLaws

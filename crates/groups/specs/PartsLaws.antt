@@ -1,0 +1,117 @@
+-- Where the parts of the message that is named stand; and that the groups which the code finds are those of the reading.
+use Prim.Native.Nat.{ℕ, _+_, _≤_}
+use native.Mathlib.Omega.{arith}
+use mathlib.Core.Path.{_≡_, refl, ap, _∙_, sym, subst, fun-ext}
+use mathlib.Core.List.{List, [], _∷_}
+use mathlib.Core.Option.{Option, none, some}
+use lib.ListN.{length, getD}
+use Rattle.syntax.specs.Tree.{Segment, printS}
+use Rattle.syntax.specs.declared.Service.{Service}
+use Rattle.syntax.specs.declared.Syntax.{Syntax}
+use Rattle.syntax.specs.declared.Refusal.{Refusal}
+use Rattle.grammar.specs.Lists.{Snoc, nil, _▷_, _+++_, joined, size}
+use Rattle.grammar.specs.Segments.{Unh, Unt, seg}
+use Rattle.grammar.specs.Interchange.{Leaf, Header, Trailer, Body, Open, msg, Message, message, showHeader, showTrailer, showBody, showOpen, showMessage}
+use Rattle.grammar.specs.Rules.{refH, refT}
+use Rattle.grammar.specs.Valid.{Interchange}
+use Rattle.grammar.specs.Verdict.{Verdict, verdictOf}
+use Rattle.grammar.specs.Places.{wide}
+use Rattle.grammar.specs.PlacesLaws.{wide-join}
+use Rattle.grammar.specs.Named.{Placed, placed}
+use Rattle.message.specs.Heads.{upto}
+use Rattle.walk.specs.Layout.{headsAt, bodyAt, tailAt}
+use Rattle.walk.specs.Sections.{Laid}
+use Rattle.walk.specs.declared.sections.Layout.{Layout}
+use Rattle.groups.specs.Stand.{Stand}
+use Rattle.groups.specs.StandLaws.{stand-front, stand-back}
+use Rattle.groups.specs.Groups.{soughtIn, rangeOf}
+use Rattle.groups.specs.GroupsLaws.{sought-chosen, names-stand, header-named, trailer-named}
+use Rattle.groups.specs.Parts.{headerNamed, trailerNamed}
+use Rattle.groups.specs.Calls.{refusedAs, orMissing, answeredBy, then, messageIn, Holds, Missed, refuses, missing}
+
+-- ---- a call that names a message: where it is refused, and where the message is found
+
+module _ {A : Type 0} (s m : List ℕ) (ask : Interchange → Placed → Option A) where
+  -- what a call asks of the message it names
+  abbrev asks : Interchange → Option A
+  asks i = then (messageIn i m) (ask i)
+
+  pub call-missed : {f : Refusal} → Missed s m f → answeredBy (verdictOf s) asks ≡ refusedAs (f .number) (f .place)
+  call-missed (refuses e) = ap (λ (v : Verdict). answeredBy v asks) e
+  call-missed (missing i e d k) =
+      ap (λ (v : Verdict). answeredBy v asks) e ∙ ap (λ (o : Option Placed). orMissing (then o (ask i))) d
+      ∙ ap (λ (f : Refusal). refusedAs (f .number) (f .place)) (sym k)
+
+  pub call-holds : {y : Syntax} {c : Layout} {rows : List ℕ} (h : Holds s m y c rows)
+      → answeredBy (verdictOf s) asks ≡ orMissing (ask (h .i) (placed (message (h .o) (h .t)) (h .q)))
+  call-holds h = ap (λ (v : Verdict). answeredBy v asks) (h .read) ∙ ap (λ (o : Option Placed). orMissing (then o (ask (h .i)))) (h .named)
+
+-- ---- the parts of a message that stands at q
+
+module _ (σ : Service) (s : List ℕ) (q : ℕ) (h : Leaf) (hs : Snoc Header) (b : Body) (ts : Snoc Trailer) (t : Leaf)
+    (w : Stand σ s q (showMessage (message (msg h hs b ts) t))) where
+  open-stands : Stand σ s q (nil ▷ seg Unh h +++ joined showHeader hs +++ showBody b +++ joined showTrailer ts)
+  open-stands = stand-front σ s q (showOpen (msg h hs b ts)) (nil ▷ seg Unt t) w
+
+  at-heads : q + wide σ (nil ▷ seg Unh h) ≡ headsAt σ q (msg h hs b ts)
+  at-heads = omega arith
+
+  pub headers-stand : Stand σ s (headsAt σ q (msg h hs b ts)) (joined showHeader hs)
+  headers-stand =
+      subst (λ (i : ℕ). Stand σ s i (joined showHeader hs)) at-heads
+      (stand-back σ s q (nil ▷ seg Unh h) (joined showHeader hs)
+      (stand-front σ s q (nil ▷ seg Unh h +++ joined showHeader hs) (showBody b)
+      (stand-front σ s q (nil ▷ seg Unh h +++ joined showHeader hs +++ showBody b) (joined showTrailer ts) open-stands)))
+
+  pub body-stands : Stand σ s (bodyAt σ q (msg h hs b ts)) (showBody b)
+  body-stands =
+      let e : q + wide σ (nil ▷ seg Unh h +++ joined showHeader hs) ≡ bodyAt σ q (msg h hs b ts) = omega (arith, wide-join σ (nil ▷ seg Unh h) (joined showHeader hs)) in
+      subst (λ (i : ℕ). Stand σ s i (showBody b)) e
+      (stand-back σ s q (nil ▷ seg Unh h +++ joined showHeader hs) (showBody b)
+      (stand-front σ s q (nil ▷ seg Unh h +++ joined showHeader hs +++ showBody b) (joined showTrailer ts) open-stands))
+
+  pub trailers-stand : Stand σ s (tailAt σ q (msg h hs b ts)) (joined showTrailer ts)
+  trailers-stand =
+      let e : q + wide σ (nil ▷ seg Unh h +++ joined showHeader hs +++ showBody b) ≡ tailAt σ q (msg h hs b ts) =
+      omega (arith, wide-join σ (nil ▷ seg Unh h +++ joined showHeader hs) (showBody b), wide-join σ (nil ▷ seg Unh h) (joined showHeader hs)) in
+      subst (λ (i : ℕ). Stand σ s i (joined showTrailer ts)) e
+      (stand-back σ s q (nil ▷ seg Unh h +++ joined showHeader hs +++ showBody b) (joined showTrailer ts) open-stands)
+
+  pub unt-behind : q + wide σ (showOpen (msg h hs b ts)) ≡ tailAt σ q (msg h hs b ts) + wide σ (joined showTrailer ts)
+  unt-behind =
+      omega (
+        arith,
+        wide-join σ (nil ▷ seg Unh h +++ joined showHeader hs +++ showBody b) (joined showTrailer ts),
+        wide-join σ (nil ▷ seg Unh h +++ joined showHeader hs) (showBody b),
+        wide-join σ (nil ▷ seg Unh h) (joined showHeader hs),
+      )
+
+-- ---- the header and the trailer that are found
+
+module _ {s m : List ℕ} {y : Syntax} {c : Layout} {rows : List ℕ} (h : Holds s m y c rows) (r : List ℕ) where
+  pub header-found : soughtIn (y .service) s rows 0 2 r (c .headers) (c .body) ≡ rangeOf showHeader (y .service) (headsAt (y .service) (h .q) (h .o)) (headerNamed (h .o) r)
+  header-found = by (h .o) (h .laid) (h .stands)
+    where
+      by : (o : Open) → Laid (y .service) s (h .q) o (h .t) c rows → Stand (y .service) s (h .q) (showMessage (message o (h .t)))
+          → soughtIn (y .service) s rows 0 2 r (c .headers) (c .body) ≡ rangeOf showHeader (y .service) (headsAt (y .service) (h .q) o) (headerNamed o r)
+      by (msg u hs b ts) l w =
+          ap (λ (n : ℕ). soughtIn (y .service) s rows 0 2 r n (c .body)) (l .headers)
+          ∙ sought-chosen showHeader refH (y .service) s rows 0 2 r (headsAt (y .service) (h .q) (msg u hs b ts)) hs (c .body)
+          (zeros (size hs) ∙ l .starts .heads) (l .body)
+          (names-stand showHeader refH (y .service) s rows 0 2 r (headsAt (y .service) (h .q) (msg u hs b ts)) (λ i a x. header-named (y .service) (h .fits) s i a x) hs
+          (headers-stand (y .service) s (h .q) u hs b ts (h .t) w))
+        where
+          zeros : (n : ℕ) → upto n (λ (i : ℕ). getD rows (0 + i) 0) ≡ upto n (λ (i : ℕ). getD rows i 0)
+          zeros n = ap (upto n) (fun-ext (λ i. let e : 0 + i ≡ i = omega arith in ap (λ (j : ℕ). getD rows j 0) e))
+
+  pub trailer-found : soughtIn (y .service) s rows 9 1 r (c .trailers) (c .unt) ≡ rangeOf showTrailer (y .service) (tailAt (y .service) (h .q) (h .o)) (trailerNamed (h .o) r)
+  trailer-found = by (h .o) (h .laid) (h .stands)
+    where
+      by : (o : Open) → Laid (y .service) s (h .q) o (h .t) c rows → Stand (y .service) s (h .q) (showMessage (message o (h .t)))
+          → soughtIn (y .service) s rows 9 1 r (c .trailers) (c .unt) ≡ rangeOf showTrailer (y .service) (tailAt (y .service) (h .q) o) (trailerNamed o r)
+      by (msg u hs b ts) l w =
+          ap (λ (n : ℕ). soughtIn (y .service) s rows 9 1 r n (c .unt)) (l .trailers)
+          ∙ sought-chosen showTrailer refT (y .service) s rows 9 1 r (tailAt (y .service) (h .q) (msg u hs b ts)) ts (c .unt)
+          (l .starts .tails) (l .unt ∙ unt-behind (y .service) s (h .q) u hs b ts (h .t) w)
+          (names-stand showTrailer refT (y .service) s rows 9 1 r (tailAt (y .service) (h .q) (msg u hs b ts)) (λ i a x. trailer-named (y .service) (h .fits) s i a x) ts
+          (trailers-stand (y .service) s (h .q) u hs b ts (h .t) w))
