@@ -97,6 +97,21 @@ module _ {A : Type 0} (show : A → Snoc Segment) (name : A → List ℕ) (σ : 
   names-stand h (xs ▷ a) x =
       (names-stand h xs (stand-front σ s p (joined show xs) (show a) x), h (p + wide σ (joined show xs)) a (stand-back σ s p (joined show xs) (show a) x))
 
+  -- ---- the chosen one stands where it is said to
+
+  pub chosen-stands : (xs : Snoc A) {ys : Snoc A} {a : A} → chosenBy name xs r ≡ some (chosen ys a) → Stand σ s p (joined show xs) → Stand σ s (p + wide σ (joined show ys)) (show a)
+  chosen-stands nil e w = let z : _≡_ {A = ℕ} 0 1 = cc in absurd (omega arith)
+  chosen-stands (xs ▷ x) {ys} {a} e w = by (same (name x) r) (λ k v. chosen-stands xs k v) e
+    where
+      by : (b : Bool) → (chosenBy name xs r ≡ some (chosen ys a) → Stand σ s p (joined show xs) → Stand σ s (p + wide σ (joined show ys)) (show a))
+          → cond b (some (chosen xs x)) (chosenBy name xs r) ≡ some (chosen ys a) → Stand σ s (p + wide σ (joined show ys)) (show a)
+      by true f e =
+          let k : xs ≡ ys = cc in
+          let j : x ≡ a = cc in
+          subst (λ (z : A). Stand σ s (p + wide σ (joined show ys)) (show z)) j
+          (subst (λ (zs : Snoc A). Stand σ s (p + wide σ (joined show zs)) (show x)) k (stand-back σ s p (joined show xs) (show x) w))
+      by false f e = f e (stand-front σ s p (joined show xs) (show x) w)
+
 -- ---- a header has its 0534 in the second element of its USH, a trailer in the first of its UST
 
 module _ (σ : Service) (fits : T (fit σ)) (s : List ℕ) (q : ℕ) where

@@ -24,9 +24,9 @@ use Rattle.walk.specs.Sections.{Laid}
 use Rattle.walk.specs.declared.sections.Layout.{Layout}
 use Rattle.groups.specs.Stand.{Stand}
 use Rattle.groups.specs.StandLaws.{stand-front, stand-back}
-use Rattle.groups.specs.Groups.{soughtIn, rangeOf}
-use Rattle.groups.specs.GroupsLaws.{sought-chosen, names-stand, header-named, trailer-named}
-use Rattle.groups.specs.Parts.{headerNamed, trailerNamed}
+use Rattle.groups.specs.Groups.{chosen, soughtIn, rangeOf}
+use Rattle.groups.specs.GroupsLaws.{sought-chosen, chosen-stands, names-stand, header-named, trailer-named}
+use Rattle.groups.specs.Parts.{headerNamed, trailerNamed, headerAt, trailerAt}
 use Rattle.groups.specs.Calls.{refusedAs, orMissing, answeredBy, then, messageIn, Holds, Missed, refuses, missing}
 
 -- ---- a call that names a message: where it is refused, and where the message is found
@@ -115,3 +115,21 @@ module _ {s m : List ℕ} {y : Syntax} {c : Layout} {rows : List ℕ} (h : Holds
           (l .starts .tails) (l .unt ∙ unt-behind (y .service) s (h .q) u hs b ts (h .t) w)
           (names-stand showTrailer refT (y .service) s rows 9 1 r (tailAt (y .service) (h .q) (msg u hs b ts)) (λ i a x. trailer-named (y .service) (h .fits) s i a x) ts
           (trailers-stand (y .service) s (h .q) u hs b ts (h .t) w))
+
+  -- they stand where they are said to
+  pub header-there : {hs : Snoc Header} {x : Header} → headerNamed (h .o) r ≡ some (chosen hs x) → Stand (y .service) s (headerAt (y .service) (h .q) (h .o) (chosen hs x)) (showHeader x)
+  header-there {hs} {x} e = by (h .o) e (h .stands)
+    where
+      by : (o : Open) → headerNamed o r ≡ some (chosen hs x) → Stand (y .service) s (h .q) (showMessage (message o (h .t)))
+          → Stand (y .service) s (headerAt (y .service) (h .q) o (chosen hs x)) (showHeader x)
+      by (msg u ks b ts) e w =
+          chosen-stands showHeader refH (y .service) s rows 0 2 r (headsAt (y .service) (h .q) (msg u ks b ts)) ks e (headers-stand (y .service) s (h .q) u ks b ts (h .t) w)
+
+  pub trailer-there : {ts : Snoc Trailer} {x : Trailer} → trailerNamed (h .o) r ≡ some (chosen ts x)
+      → Stand (y .service) s (trailerAt (y .service) (h .q) (h .o) (chosen ts x)) (showTrailer x)
+  trailer-there {ts} {x} e = by (h .o) e (h .stands)
+    where
+      by : (o : Open) → trailerNamed o r ≡ some (chosen ts x) → Stand (y .service) s (h .q) (showMessage (message o (h .t)))
+          → Stand (y .service) s (trailerAt (y .service) (h .q) o (chosen ts x)) (showTrailer x)
+      by (msg u hs b ks) e w =
+          chosen-stands showTrailer refT (y .service) s rows 9 1 r (tailAt (y .service) (h .q) (msg u hs b ks)) ks e (trailers-stand (y .service) s (h .q) u hs b ks (h .t) w)
