@@ -3,11 +3,12 @@ pub mod Octets
 pub mod Hex
 pub mod Six
 pub mod Filters
+pub mod Example
 -- how the code reads: octets of content two or four at a time, into a buffer
 pub mod Pieces
 pub mod Decoding
 -- what is proved
-pub mod Table
+pub mod Below
 pub mod HexLaws
 pub mod SixLaws
 pub mod PiecesLaws
