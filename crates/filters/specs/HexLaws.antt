@@ -8,7 +8,7 @@ use mathlib.Core.Option.{Option, none, some}
 use lib.Dec.{T, ltb, eqb, eqb→eq}
 use lib.ListN.{length}
 use borrow.Author.Tests.{lt-ltb, ltb-true, ltb-false}
-use Rattle.filters.specs.Below.{at-each}
+use Rattle.filters.specs.BelowLaws.{at-each}
 use Rattle.filters.specs.Octets.{Octets, before}
 use Rattle.filters.specs.Hex.{hexDigit, hexText, halfOf, hexValue}
 

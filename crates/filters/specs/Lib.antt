@@ -8,12 +8,12 @@ pub mod Example
 pub mod Pieces
 pub mod Decoding
 -- what is proved
-pub mod Below
+pub mod BelowLaws
 pub mod HexLaws
 pub mod SixLaws
 pub mod PiecesLaws
 pub mod DecodingLaws
-pub mod HexLoop
-pub mod SixLoop
-pub mod TextLoop
+pub mod HexLoopLaws
+pub mod SixLoopLaws
+pub mod TextLoopLaws
 pub mod FiltersLaws

@@ -8,7 +8,7 @@ use mathlib.Core.Option.{Option, none, some}
 use lib.Dec.{T, ltb, eqb, eqb→eq, eqb·suc-zero}
 use lib.ListN.{length}
 use borrow.Author.Tests.{lt-ltb, le-ltb, ltb-true, ltb-false, eqb-true}
-use Rattle.filters.specs.Below.{at-each}
+use Rattle.filters.specs.BelowLaws.{at-each}
 use Rattle.filters.specs.Octets.{Octets, before}
 use Rattle.filters.specs.Six.{sixDigit, sixText, bitsOf, sizeOf, firstOf, secondOf, thirdOf, groupOf, sixValue}
 

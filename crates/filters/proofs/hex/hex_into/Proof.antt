@@ -1,7 +1,7 @@
 use Prim.Native.Nat.{_-_}
 use mathlib.Core.Path.{_≡_, refl}
 use lib.ListN.{length}
-use Rattle.filters.specs.HexLoop.{Hexing, hexing-start, hexing-end, hexing-odd, hexing-less, hexing-fits, hexing-high, hexing-low, hexing-on}
+use Rattle.filters.specs.HexLoopLaws.{Hexing, hexing-start, hexing-end, hexing-odd, hexing-less, hexing-fits, hexing-high, hexing-low, hexing-on}
 use borrow.Author.Needs.{needs}
 use Rattle.filters.proofs.hex.hex_into.Statement.{statement}
 use Rattle.filters.proofs.hex.hex_into.Tie as tie

@@ -1,7 +1,7 @@
 use Prim.Native.Nat.{_-_}
 use mathlib.Core.Path.{_≡_, refl}
 use lib.ListN.{length}
-use Rattle.filters.specs.SixLoop.{Sixing, low-size, sixing-start, sixing-end, sixing-short, sixing-less, sixing-fits, sixing-last, sixing-on}
+use Rattle.filters.specs.SixLoopLaws.{Sixing, low-size, sixing-start, sixing-end, sixing-short, sixing-less, sixing-fits, sixing-last, sixing-on}
 use borrow.Author.Needs.{needs}
 use Rattle.filters.proofs.six.six_into.Statement.{statement}
 use Rattle.filters.proofs.six.six_into.Tie as tie
