@@ -1,11 +1,10 @@
 -- Reading under way: what is right for the rest is right for the whole.
 use Prim.Native.Nat.{ℕ, _+_}
 use native.Mathlib.Omega.{arith}
-use mathlib.Core.List.{List, [], _∷_, _++_}
+use mathlib.Core.List.{List, [], _++_}
 use mathlib.Core.Path.{_≡_, refl, ap, sym, _∙_}
 use mathlib.Core.Option.{Option, none, some}
-use lib.ListN.{length, set, length-append}
-use lib.Seq.{sets}
+use lib.ListN.{length, length-append}
 use Rattle.writing.specs.Laid.{Laid}
 use Rattle.writing.specs.LaidLaws.{sets-joined}
 use Rattle.filters.specs.Octets.{before}

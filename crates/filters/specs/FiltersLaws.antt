@@ -1,8 +1,8 @@
 -- The value call: which filter reads, and what the call answers and leaves by what was read.
 use Prim.Native.Nat.{ℕ, _+_, _≤_, _<_}
 use native.Mathlib.Omega.{arith}
-use mathlib.Core.List.{List, [], _∷_}
-use mathlib.Core.Path.{_≡_, refl, ap, sym, _∙_}
+use mathlib.Core.List.{List}
+use mathlib.Core.Path.{_≡_, sym, _∙_}
 use mathlib.Core.Bool.{Bool, true, false}
 use mathlib.Core.Option.{Option, none, some}
 use lib.Dec.{eqb}
@@ -16,7 +16,7 @@ use Rattle.writing.specs.declared.Written.the-variants.{Length as Wrote}
 use Rattle.filters.specs.Hex.{hexValue}
 use Rattle.filters.specs.Six.{sixValue}
 use Rattle.filters.specs.Filters.{valueBy, orBad}
-use Rattle.filters.specs.Decoding.{DecodesBy, Decodes}
+use Rattle.filters.specs.Decoding.{Decodes}
 use Rattle.filters.specs.declared.Decoded.{Decoded}
 use Rattle.filters.specs.declared.Decoded.the-variants.{Length, Bad}
 

@@ -1,24 +1,24 @@
 -- Texts of code 2 and values are one to one.
-use Prim.Native.Nat.{ℕ, zero, suc, _+_, _-_, _*_, _/_, _%_, _≤_, _<_}
+use Prim.Native.Nat.{ℕ, _+_, _-_, _*_, _/_, _%_, _<_}
 use native.Mathlib.Omega.{arith}
-use mathlib.Core.List.{List, [], _∷_, _++_}
-use mathlib.Core.Path.{_≡_, refl, ap, sym, _∙_}
+use mathlib.Core.List.{List, [], _∷_}
+use mathlib.Core.Path.{_≡_, refl}
 use mathlib.Core.Bool.{Bool, true, false, cond}
 use mathlib.Core.Option.{Option, none, some}
-use lib.Dec.{T, ltb, leb, eqb, eqb→eq}
-use lib.ListN.{length, replicate}
+use lib.Dec.{T, ltb, eqb, eqb→eq}
+use lib.ListN.{length}
 use borrow.Author.Tests.{lt-ltb, ltb-true, ltb-false}
-use Rattle.filters.specs.Table.{at}
+use Rattle.filters.specs.BelowLaws.{at-each}
 use Rattle.filters.specs.Octets.{Octets, before}
 use Rattle.filters.specs.Hex.{hexDigit, hexText, halfOf, hexValue}
 
 -- ---- digits and halves, by computation
 
 half-digit : (n : ℕ) → n < 16 → halfOf (hexDigit n) ≡ n
-half-digit n h = eqb→eq _ _ (at (λ k x. eqb (halfOf (hexDigit k)) k) (replicate 16 0) tt n h)
+half-digit n h = eqb→eq _ _ (at-each (λ k. eqb (halfOf (hexDigit k)) k) 16 tt n h)
 
 digit-low : (c : ℕ) → c < 71 → T (cond (ltb (halfOf c) 16) (eqb (hexDigit (halfOf c)) c) true)
-digit-low c h = at (λ k x. cond (ltb (halfOf k) 16) (eqb (hexDigit (halfOf k)) k) true) (replicate 71 0) tt c h
+digit-low c h = at-each (λ k. cond (ltb (halfOf k) 16) (eqb (hexDigit (halfOf k)) k) true) 71 tt c h
 
 digit-half : (c : ℕ) → halfOf c < 16 → hexDigit (halfOf c) ≡ c
 digit-half c h = by (ltb 70 c) refl

@@ -3,16 +3,17 @@ pub mod Octets
 pub mod Hex
 pub mod Six
 pub mod Filters
+pub mod Example
 -- how the code reads: octets of content two or four at a time, into a buffer
 pub mod Pieces
 pub mod Decoding
 -- what is proved
-pub mod Table
+pub mod BelowLaws
 pub mod HexLaws
 pub mod SixLaws
 pub mod PiecesLaws
 pub mod DecodingLaws
-pub mod HexLoop
-pub mod SixLoop
-pub mod TextLoop
+pub mod HexLoopLaws
+pub mod SixLoopLaws
+pub mod TextLoopLaws
 pub mod FiltersLaws

@@ -1,20 +1,19 @@
 -- What reading two or four octets of content learns.
-use Prim.Native.Nat.{ℕ, suc, _+_, _-_, _≤_, _<_}
+use Prim.Native.Nat.{ℕ, suc, _-_}
 use native.Mathlib.Omega.{arith}
-use mathlib.Core.List.{List, [], _∷_, _++_}
-use mathlib.Core.Path.{_≡_, refl, ap, sym, _∙_}
-use mathlib.Core.Bool.{Bool, true, false}
+use mathlib.Core.List.{List, [], _∷_}
+use mathlib.Core.Path.{_≡_, ap, sym, _∙_}
+use mathlib.Core.Bool.{true, false}
 use lib.Dec.{eqb}
-use borrow.Author.Tests.{eq-eqb, ne-eqb}
+use borrow.Author.Tests.{ne-eqb}
 use lib.ListN.{length, drop}
 use Rattle.syntax.specs.Content.{content, nextOf}
-use Rattle.syntax.specs.ContentLaws.{Stepped, next-steps, next-over}
+use Rattle.syntax.specs.ContentLaws.{next-steps, next-over}
 use Rattle.syntax.specs.declared.content.Next.{Next}
 use Rattle.syntax.specs.declared.content.Next.the-variants.{Octet, Over as NoOctet}
-use Rattle.filters.specs.Pieces.{Taken, Few, PairBy, PairAt, FourBy, FourAt}
+use Rattle.filters.specs.Pieces.{Taken, Few, PairBy, PairAt, FourAt}
 use Rattle.filters.specs.declared.pieces.Pair.{Pair}
 use Rattle.filters.specs.declared.pieces.Pair.the-variants.{Of as Two, Short as Odd, Over as NoPair}
-use Rattle.filters.specs.declared.pieces.Four.{Four}
 use Rattle.filters.specs.declared.pieces.Four.the-variants.{Of, Short, Over}
 
 module _ (ρ : ℕ) (x : List ℕ) (i : ℕ) {r : Next} (e : r ≡ nextOf ρ (drop i x) i) where

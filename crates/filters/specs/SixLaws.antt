@@ -1,24 +1,24 @@
 -- Texts of code 7 and values are one to one.
-use Prim.Native.Nat.{ℕ, zero, suc, _+_, _-_, _*_, _/_, _%_, _≤_, _<_}
+use Prim.Native.Nat.{ℕ, zero, suc, _+_, _-_, _*_, _/_, _%_, _<_}
 use native.Mathlib.Omega.{arith}
 use mathlib.Core.List.{List, [], _∷_, _++_}
-use mathlib.Core.Path.{_≡_, refl, ap, sym, _∙_}
+use mathlib.Core.Path.{_≡_, refl, sym, _∙_}
 use mathlib.Core.Bool.{Bool, true, false, cond}
 use mathlib.Core.Option.{Option, none, some}
-use lib.Dec.{T, ltb, leb, eqb, eqb→eq, eqb·suc-zero}
-use lib.ListN.{length, replicate}
+use lib.Dec.{T, ltb, eqb, eqb→eq, eqb·suc-zero}
+use lib.ListN.{length}
 use borrow.Author.Tests.{lt-ltb, le-ltb, ltb-true, ltb-false, eqb-true}
-use Rattle.filters.specs.Table.{at}
+use Rattle.filters.specs.BelowLaws.{at-each}
 use Rattle.filters.specs.Octets.{Octets, before}
 use Rattle.filters.specs.Six.{sixDigit, sixText, bitsOf, sizeOf, firstOf, secondOf, thirdOf, groupOf, sixValue}
 
 -- ---- digits and bits, by computation
 
 bits-digit : (n : ℕ) → n < 64 → bitsOf (sixDigit n) ≡ n
-bits-digit n h = eqb→eq _ _ (at (λ k x. eqb (bitsOf (sixDigit k)) k) (replicate 64 0) tt n h)
+bits-digit n h = eqb→eq _ _ (at-each (λ k. eqb (bitsOf (sixDigit k)) k) 64 tt n h)
 
 digit-low : (c : ℕ) → c < 123 → T (cond (ltb (bitsOf c) 64) (eqb (sixDigit (bitsOf c)) c) true)
-digit-low c h = at (λ k x. cond (ltb (bitsOf k) 64) (eqb (sixDigit (bitsOf k)) k) true) (replicate 123 0) tt c h
+digit-low c h = at-each (λ k. cond (ltb (bitsOf k) 64) (eqb (sixDigit (bitsOf k)) k) true) 123 tt c h
 
 digit-bits : (c : ℕ) → bitsOf c < 64 → sixDigit (bitsOf c) ≡ c
 digit-bits c h = by (ltb 122 c) refl
@@ -28,7 +28,7 @@ digit-bits c h = by (ltb 122 c) refl
     by false e = let t = digit-low c (omega (arith, ltb-false 122 c e)) in eqb→eq _ _ (rw (lt-ltb _ _ h) at t)
 
 pad-low : (c : ℕ) → c < 123 → T (cond (eqb (bitsOf c) 65) (eqb c 61) true)
-pad-low c h = at (λ k x. cond (eqb (bitsOf k) 65) (eqb k 61) true) (replicate 123 0) tt c h
+pad-low c h = at-each (λ k. cond (eqb (bitsOf k) 65) (eqb k 61) true) 123 tt c h
 
 pad-is : (c : ℕ) → bitsOf c ≡ 65 → c ≡ 61
 pad-is c h = by (ltb 122 c) refl

@@ -1,5 +1,4 @@
 // The value of a text under the filter that a 0505 names.
-ghost use mathlib.Core.Path.{_≡_};
 ghost use Rattle.syntax.specs.Content.{content};
 ghost use Rattle.writing.specs.Written.{Writes};
 ghost use Rattle.filters.specs.Filters.{valueBy, orBad};

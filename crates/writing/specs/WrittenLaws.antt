@@ -1,17 +1,15 @@
 -- A call that measures its text, refuses what is too long, and then lays it.
-use Prim.Native.Nat.{ℕ, _+_, _≤_, _<_}
+use Prim.Native.Nat.{ℕ, _≤_, _<_}
 use native.Mathlib.Omega.{arith}
-use mathlib.Core.List.{List, [], _∷_, _++_}
-use mathlib.Core.Path.{_≡_, refl, ap, sym, _∙_}
-use mathlib.Core.Bool.{Bool, true, false, cond}
-use lib.Dec.{ltb}
-use lib.ListN.{length, drop}
+use mathlib.Core.List.{List}
+use mathlib.Core.Path.{_≡_, refl, _∙_}
+use lib.ListN.{length}
 use borrow.Author.Tests.{lt-ltb, le-ltb}
 use Rattle.writing.specs.Laid.{Laid}
-use Rattle.writing.specs.LaidLaws.{laid-all, laid-front}
-use Rattle.writing.specs.Written.{Text, text, noText, refusedAs, tooLong, writtenAs, leftIn, Writes}
+use Rattle.writing.specs.LaidLaws.{laid-front}
+use Rattle.writing.specs.Written.{text, noText, refusedAs, Writes}
 use Rattle.writing.specs.declared.Written.{Written}
-use Rattle.writing.specs.declared.Written.the-variants.{Length, Refused}
+use Rattle.writing.specs.declared.Written.the-variants.{Length}
 
 pub writes-none : {number place : ℕ} {out : List ℕ} {r : Written} → r ≡ refusedAs number place → Writes (noText number place) out r out
 writes-none e = record { answer = e; octets = refl }

@@ -1,7 +1,7 @@
 use Prim.Native.Nat.{_-_}
 use mathlib.Core.Path.{_≡_, refl}
 use lib.ListN.{length}
-use Rattle.filters.specs.HexLoop.{Hexing, hexing-start, hexing-end, hexing-odd, hexing-less, hexing-fits, hexing-high, hexing-low, hexing-on}
+use Rattle.filters.specs.HexLoopLaws.{Hexing, hexing-start, hexing-end, hexing-odd, hexing-less, hexing-fits, hexing-high, hexing-low, hexing-on}
 use borrow.Author.Needs.{needs}
 use Rattle.filters.proofs.hex.hex_into.Statement.{statement}
 use Rattle.filters.proofs.hex.hex_into.Tie as tie
@@ -25,7 +25,7 @@ same-length : tie.Need-same-length Inv-loop μ-loop
 same-length c = search needs
 
 returns : tie.Need-returns Inv-loop μ-loop
-returns c = search (hexing-end, needs)
+returns c = hexing-end (c .before .before .before .loop .inv .0) (c .before .before .next-pair .ensures) (c .enum-told .given .1)
 
 enum-told-2 : tie.Need-enum-told-2 Inv-loop μ-loop
 enum-told-2 c = search needs
@@ -34,7 +34,7 @@ same-length-2 : tie.Need-same-length-2 Inv-loop μ-loop
 same-length-2 c = search needs
 
 returns-2 : tie.Need-returns-2 Inv-loop μ-loop
-returns-2 c = search (hexing-odd, needs)
+returns-2 c = hexing-odd (c .before .before .before .loop .inv .0) (c .before .before .next-pair .ensures) (c .enum-told2 .given .1)
 
 enum-known-c : tie.Need-enum-known-c Inv-loop μ-loop
 enum-known-c c = search needs
@@ -49,13 +49,13 @@ same-length-3 : tie.Need-same-length-3 Inv-loop μ-loop
 same-length-3 c = search needs
 
 returns-3 : tie.Need-returns-3 Inv-loop μ-loop
-returns-3 c = search (hexing-high, needs)
+returns-3 c = hexing-high (c .before .before .before .before .before .before .before .loop .inv .0) (c .before .before .before .before .before .before .next-pair .ensures) (c .before .before .before .before .c .given .1) (c .before .before .half-of .ensures) (c .before .half-of2 .ensures) (c .if1 .taken)
 
 same-length-4 : tie.Need-same-length-4 Inv-loop μ-loop
 same-length-4 c = search needs
 
 returns-4 : tie.Need-returns-4 Inv-loop μ-loop
-returns-4 c = search (hexing-low, needs)
+returns-4 c = hexing-low (c .before .before .before .before .before .before .before .before .loop .inv .0) (c .before .before .before .before .before .before .before .next-pair .ensures) (c .before .before .before .before .before .c .given .1) (c .before .before .before .half-of .ensures) (c .before .before .half-of2 .ensures) (c .before .if1 .left) (c .if2 .taken)
 
 mul-store : tie.Need-mul-store Inv-loop μ-loop
 mul-store c = search needs
@@ -70,10 +70,10 @@ add-n : tie.Need-add-n Inv-loop μ-loop
 add-n c = let h = hexing-fits (c .before .before .before .before .before .before .before .before .before .before .before .before .loop .inv .0) (c .before .before .before .before .before .before .before .before .before .before .before .next-pair .ensures) (c .before .before .before .before .before .before .before .before .before .c .given .1) in search needs
 
 loop-less : tie.Need-loop-less Inv-loop μ-loop
-loop-less c = search (hexing-less, needs)
+loop-less c = hexing-less (c .before .before .before .before .before .before .before .before .before .before .before .before .loop .inv .0) (c .before .before .before .before .before .before .before .before .before .before .before .next-pair .ensures) (c .before .before .before .before .before .before .before .before .before .c .given .1)
 
 loop-again : tie.Need-loop-again Inv-loop μ-loop
-loop-again c = (search (hexing-on, needs), search needs)
+loop-again c = (hexing-on (c .before .before .before .before .before .before .before .before .before .before .before .before .loop .inv .0) (c .before .before .before .before .before .before .before .before .before .before .before .next-pair .ensures) (c .before .before .before .before .before .before .before .before .before .c .given .1) (c .before .before .before .before .before .before .before .half-of .ensures) (c .before .before .before .before .before .before .half-of2 .ensures) (c .before .before .before .before .before .if1 .left) (c .before .before .before .before .if2 .left) (c .before .before .store .ensures), search needs)
 
 pub hex-into-spec : {M : Type 1} → statement M
 hex-into-spec =

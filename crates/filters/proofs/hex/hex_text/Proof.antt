@@ -1,7 +1,7 @@
 use Prim.Native.Nat.{_-_}
 use mathlib.Core.Path.{_≡_, refl}
 use lib.ListN.{length}
-use Rattle.filters.specs.TextLoop.{Hexed, hexed-start, hexed-end, hexed-room, hexed-on}
+use Rattle.filters.specs.TextLoopLaws.{Hexed, hexed-start, hexed-end, hexed-room, hexed-on}
 use borrow.Author.Needs.{needs}
 use Rattle.filters.proofs.hex.hex_text.Statement.{statement}
 use Rattle.filters.proofs.hex.hex_text.Tie as tie

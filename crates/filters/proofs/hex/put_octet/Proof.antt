@@ -1,4 +1,4 @@
-use Rattle.filters.specs.TextLoop.{two-laid}
+use Rattle.filters.specs.TextLoopLaws.{two-laid}
 use borrow.Author.Needs.{needs}
 use Rattle.filters.proofs.hex.put_octet.Statement.{statement}
 use Rattle.filters.proofs.hex.put_octet.Tie as tie

@@ -1,4 +1,4 @@
-use Rattle.filters.specs.SixLoop.{low-size, last-inner, last-bad, last-one, last-two}
+use Rattle.filters.specs.SixLoopLaws.{low-size, last-inner, last-bad, last-one, last-two}
 use borrow.Author.Needs.{needs}
 use Rattle.filters.proofs.six.last_group.Statement.{statement}
 use Rattle.filters.proofs.six.last_group.Tie as tie

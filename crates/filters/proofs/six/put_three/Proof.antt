@@ -1,4 +1,4 @@
-use Rattle.filters.specs.TextLoop.{four-laid}
+use Rattle.filters.specs.TextLoopLaws.{four-laid}
 use borrow.Author.Needs.{needs}
 use Rattle.filters.proofs.six.put_three.Statement.{statement}
 use Rattle.filters.proofs.six.put_three.Tie as tie

@@ -1,5 +1,5 @@
 use mathlib.Core.Path.{refl}
-use Rattle.filters.specs.TextLoop.{four-laid}
+use Rattle.filters.specs.TextLoopLaws.{four-laid}
 use borrow.Author.Needs.{needs}
 use Rattle.filters.proofs.six.put_two.Statement.{statement}
 use Rattle.filters.proofs.six.put_two.Tie as tie

@@ -1,7 +1,7 @@
 use Prim.Native.Nat.{_-_}
 use mathlib.Core.Path.{_≡_, refl}
 use lib.ListN.{length}
-use Rattle.filters.specs.SixLoop.{Sixing, low-size, sixing-start, sixing-end, sixing-short, sixing-less, sixing-fits, sixing-last, sixing-on}
+use Rattle.filters.specs.SixLoopLaws.{Sixing, low-size, sixing-start, sixing-end, sixing-short, sixing-less, sixing-fits, sixing-last, sixing-on}
 use borrow.Author.Needs.{needs}
 use Rattle.filters.proofs.six.six_into.Statement.{statement}
 use Rattle.filters.proofs.six.six_into.Tie as tie
@@ -25,7 +25,7 @@ same-length : tie.Need-same-length Inv-loop μ-loop
 same-length c = search needs
 
 returns : tie.Need-returns Inv-loop μ-loop
-returns c = search (sixing-end, needs)
+returns c = sixing-end (c .before .before .before .loop .inv .0) (c .before .before .next-four .ensures) (c .enum-told .given .1)
 
 enum-told-2 : tie.Need-enum-told-2 Inv-loop μ-loop
 enum-told-2 c = search needs
@@ -34,7 +34,7 @@ same-length-2 : tie.Need-same-length-2 Inv-loop μ-loop
 same-length-2 c = search needs
 
 returns-2 : tie.Need-returns-2 Inv-loop μ-loop
-returns-2 c = search (sixing-short, needs)
+returns-2 c = sixing-short (c .before .before .before .loop .inv .0) (c .before .before .next-four .ensures) (c .enum-told2 .given .1)
 
 enum-known-a : tie.Need-enum-known-a Inv-loop μ-loop
 enum-known-a c = search needs
@@ -64,7 +64,7 @@ same-length-3 : tie.Need-same-length-3 Inv-loop μ-loop
 same-length-3 c = search needs
 
 returns-3 : tie.Need-returns-3 Inv-loop μ-loop
-returns-3 c = search (sixing-last, needs)
+returns-3 c = sixing-last (c .before .before .before .before .before .before .before .before .before .before .before .before .before .before .before .loop .inv .0) (c .before .before .before .before .before .before .before .before .before .before .before .before .before .before .next-four .ensures) (c .before .before .before .before .before .before .before .before .before .before .before .before .a .given .1) (c .before .before .before .before .before .before .before .before .before .before .bits-of .ensures) (c .before .before .before .before .before .before .before .before .before .bits-of2 .ensures) (c .before .before .before .before .before .before .before .before .bits-of3 .ensures) (c .before .before .before .before .before .before .before .bits-of4 .ensures) (c .before .before .before .before .before .before .size-of .ensures) (c .before .before .before .before .before .if1 .taken) (c .before .before .before .before .is-over .ensures) (c .before .before .last-group .ensures)
 
 first-of-requires : tie.Need-first-of-requires Inv-loop μ-loop
 first-of-requires c κs = low-size (c .before .before .before .before .before .bits-of .result) (c .before .before .before .before .bits-of2 .result) (c .before .before .before .bits-of3 .result) (c .before .before .bits-of4 .result) (c .before .size-of .ensures) .first (search needs)
@@ -82,10 +82,10 @@ put-requires : tie.Need-put-requires Inv-loop μ-loop
 put-requires c κs = let h = sixing-fits (c .before .before .before .before .before .before .before .before .before .before .before .before .before .before .before .loop .inv .0) (c .before .before .before .before .before .before .before .before .before .before .before .before .before .before .next-four .ensures) (c .before .before .before .before .before .before .before .before .before .before .before .before .a .given .1) in search needs
 
 loop-less : tie.Need-loop-less Inv-loop μ-loop
-loop-less c = search (sixing-less, needs)
+loop-less c = sixing-less (c .before .before .before .before .before .before .before .before .before .before .before .before .before .before .before .before .before .before .loop .inv .0) (c .before .before .before .before .before .before .before .before .before .before .before .before .before .before .before .before .before .next-four .ensures) (c .before .before .before .before .before .before .before .before .before .before .before .before .before .before .before .a .given .1)
 
 loop-again : tie.Need-loop-again Inv-loop μ-loop
-loop-again c = (search (sixing-on, needs), search needs)
+loop-again c = (sixing-on (c .before .before .before .before .before .before .before .before .before .before .before .before .before .before .before .before .before .before .loop .inv .0) (c .before .before .before .before .before .before .before .before .before .before .before .before .before .before .before .before .before .next-four .ensures) (c .before .before .before .before .before .before .before .before .before .before .before .before .before .before .before .a .given .1) (c .before .before .before .before .before .before .before .before .before .before .before .before .before .bits-of .ensures) (c .before .before .before .before .before .before .before .before .before .before .before .before .bits-of2 .ensures) (c .before .before .before .before .before .before .before .before .before .before .before .bits-of3 .ensures) (c .before .before .before .before .before .before .before .before .before .before .bits-of4 .ensures) (c .before .before .before .before .before .before .before .before .before .size-of .ensures) (c .before .before .before .before .before .before .before .before .if1 .left) (c .before .before .before .before .before .before .before .first-of .ensures) (c .before .before .before .before .before .before .second-of .ensures) (c .before .before .before .before .before .third-of .ensures) (c .before .before .put .ensures), search needs)
 
 pub six-into-spec : {M : Type 1} → statement M
 six-into-spec =

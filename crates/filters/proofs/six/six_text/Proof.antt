@@ -1,7 +1,7 @@
 use Prim.Native.Nat.{_-_}
 use mathlib.Core.Path.{_≡_, refl}
 use lib.ListN.{length}
-use Rattle.filters.specs.TextLoop.{Sixed, sixed-start, sixed-end, sixed-room-one, sixed-one, sixed-room-two, sixed-two, sixed-room, sixed-on}
+use Rattle.filters.specs.TextLoopLaws.{Sixed, sixed-start, sixed-end, sixed-room-one, sixed-one, sixed-room-two, sixed-two, sixed-room, sixed-on}
 use borrow.Author.Needs.{needs}
 use Rattle.filters.proofs.six.six_text.Statement.{statement}
 use Rattle.filters.proofs.six.six_text.Tie as tie

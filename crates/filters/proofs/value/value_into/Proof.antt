@@ -1,3 +1,4 @@
+use Rattle.syntax.specs.Content.{content}
 use Rattle.filters.specs.FiltersLaws.{value-empty, value-hex, value-six, value-none}
 use borrow.Author.Needs.{needs}
 use Rattle.filters.proofs.value.value_into.Statement.{statement}
@@ -7,7 +8,7 @@ is-over-requires : tie.Need-is-over-requires
 is-over-requires c κs = search needs
 
 returns : tie.Need-returns
-returns c = search (value-empty, needs)
+returns c = value-empty (content (c .before .before .before .before .before .args .release) (c .before .before .before .before .before .args .code .now)) (content (c .before .before .before .before .before .args .release) (c .before .before .before .before .before .args .text .now)) (c .before .is-over .ensures) (c .if1 .taken)
 
 slice-aggregate-content-is : tie.Need-slice-aggregate-content-is
 slice-aggregate-content-is c = search needs
@@ -22,7 +23,7 @@ same-length : tie.Need-same-length
 same-length c = search needs
 
 returns-2 : tie.Need-returns-2
-returns-2 c = search (value-hex, needs)
+returns-2 c = value-hex (content (c .before .before .before .before .before .before .before .before .before .before .before .before .args .release) (c .before .before .before .before .before .before .before .before .before .before .before .before .args .code .now)) (content (c .before .before .before .before .before .before .before .before .before .before .before .before .args .release) (c .before .before .before .before .before .before .before .before .before .before .before .before .args .text .now)) (c .before .before .before .before .before .before .before .before .is-over .ensures) (c .before .before .before .before .before .before .before .if1 .left) (c .before .before .before .before .before .content-is .ensures) (c .before .before .before .before .if2 .taken) (c .before .before .hex-into .ensures)
 
 slice-aggregate-content-is-2 : tie.Need-slice-aggregate-content-is-2
 slice-aggregate-content-is-2 c = search needs
@@ -37,10 +38,10 @@ same-length-2 : tie.Need-same-length-2
 same-length-2 c = search needs
 
 returns-3 : tie.Need-returns-3
-returns-3 c = search (value-six, needs)
+returns-3 c = value-six (content (c .before .before .before .before .before .before .before .before .before .before .before .before .before .before .before .args .release) (c .before .before .before .before .before .before .before .before .before .before .before .before .before .before .before .args .code .now)) (content (c .before .before .before .before .before .before .before .before .before .before .before .before .before .before .before .args .release) (c .before .before .before .before .before .before .before .before .before .before .before .before .before .before .before .args .text .now)) (c .before .before .before .before .before .before .before .before .before .before .before .is-over .ensures) (c .before .before .before .before .before .before .before .before .before .before .if1 .left) (c .before .before .before .before .before .before .before .before .content-is .ensures) (c .before .before .before .before .before .before .before .if2 .left) (c .before .before .before .before .before .content-is2 .ensures) (c .before .before .before .before .if3 .taken) (c .before .before .six-into .ensures)
 
 returns-4 : tie.Need-returns-4
-returns-4 c = search (value-none, needs)
+returns-4 c = value-none (content (c .before .before .before .before .before .before .before .before .before .before .before .args .release) (c .before .before .before .before .before .before .before .before .before .before .before .args .code .now)) (content (c .before .before .before .before .before .before .before .before .before .before .before .args .release) (c .before .before .before .before .before .before .before .before .before .before .before .args .text .now)) (c .before .before .before .before .before .before .before .is-over .ensures) (c .before .before .before .before .before .before .if1 .left) (c .before .before .before .before .content-is .ensures) (c .before .before .before .if2 .left) (c .before .content-is2 .ensures) (c .if3 .left)
 
 pub value-into-spec : {M : Type 1} → statement M
 value-into-spec =

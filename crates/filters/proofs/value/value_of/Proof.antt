@@ -1,3 +1,5 @@
+use Rattle.syntax.specs.Content.{content}
+use Rattle.filters.specs.Filters.{valueBy}
 use Rattle.filters.specs.FiltersLaws.{wrote-bad, wrote-long, wrote-full, wrote-done}
 use borrow.Author.Needs.{needs}
 use Rattle.filters.proofs.value.value_of.Statement.{statement}
@@ -22,25 +24,25 @@ refused-requires-2 : tie.Need-refused-requires-2
 refused-requires-2 c κs = search needs
 
 returns : tie.Need-returns
-returns c = search (wrote-long, needs)
+returns c = wrote-long (valueBy (content (c .before .before .before .before .before .before .before .before .before .before .before .args .release) (c .before .before .before .before .before .before .before .before .before .before .before .args .code .now)) (content (c .before .before .before .before .before .before .before .before .before .before .before .args .release) (c .before .before .before .before .before .before .before .before .before .before .before .args .text .now))) (c .before .before .before .before .before .before .value-into .ensures) (c .before .before .before .m .given .1) (c .before .if1 .taken) (c .refused2 .ensures)
 
 refused-requires-3 : tie.Need-refused-requires-3
 refused-requires-3 c κs = search needs
 
 returns-2 : tie.Need-returns-2
-returns-2 c = search (wrote-full, needs)
+returns-2 c = wrote-full (valueBy (content (c .before .before .before .before .before .before .before .before .before .before .before .before .args .release) (c .before .before .before .before .before .before .before .before .before .before .before .before .args .code .now)) (content (c .before .before .before .before .before .before .before .before .before .before .before .before .args .release) (c .before .before .before .before .before .before .before .before .before .before .before .before .args .text .now))) (c .before .before .before .before .before .before .before .value-into .ensures) (c .before .before .before .before .m .given .1) (c .before .before .if1 .left) (c .before .if2 .taken) (c .refused3 .ensures)
 
 value-into-requires-2 : tie.Need-value-into-requires-2
 value-into-requires-2 c κs = search needs
 
 returns-3 : tie.Need-returns-3
-returns-3 c = search (wrote-bad, needs)
+returns-3 c = wrote-bad (valueBy (content (c .before .before .before .before .before .before .before .before .before .args .release) (c .before .before .before .before .before .before .before .before .before .args .code .now)) (content (c .before .before .before .before .before .before .before .before .before .args .release) (c .before .before .before .before .before .before .before .before .before .args .text .now))) (c .before .before .before .before .value-into .ensures) (c .before .enum-told .given .1) (c .refused .ensures)
 
 same-length : tie.Need-same-length
 same-length c = search needs
 
 returns-4 : tie.Need-returns-4
-returns-4 c = search (wrote-done, needs)
+returns-4 c = wrote-done (valueBy (content (c .before .before .before .before .before .before .before .before .before .before .before .before .before .before .before .args .release) (c .before .before .before .before .before .before .before .before .before .before .before .before .before .before .before .args .code .now)) (content (c .before .before .before .before .before .before .before .before .before .before .before .before .before .before .before .args .release) (c .before .before .before .before .before .before .before .before .before .before .before .before .before .before .before .args .text .now))) (c .before .before .before .before .before .before .before .before .before .before .value-into .ensures) (c .before .before .before .before .before .before .before .m .given .1) (c .before .before .before .before .before .if1 .left) (c .before .before .before .before .if2 .left) (c .before .before .value-into2 .ensures)
 
 pub value-of-spec : {M : Type 1} → statement M
 value-of-spec =

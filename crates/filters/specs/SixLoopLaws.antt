@@ -1,18 +1,18 @@
 -- The loop that reads base 64: n octets are laid, and the content from i on is left.
-use Prim.Native.Nat.{ℕ, _+_, _-_, _*_, _≤_, _<_}
+use Prim.Native.Nat.{ℕ, _+_, _-_, _≤_, _<_}
 use native.Mathlib.Omega.{arith}
 use mathlib.Core.List.{List, [], _∷_}
-use mathlib.Core.Path.{_≡_, refl, ap, _∙_}
+use mathlib.Core.Path.{_≡_, refl, _∙_}
 use mathlib.Core.Bool.{Bool, true, false}
-use mathlib.Core.Option.{Option, none, some}
+use mathlib.Core.Option.{none, some}
 use lib.Dec.{eqb}
-use borrow.Author.Tests.{eq-eqb, ne-eqb}
+use borrow.Author.Tests.{ne-eqb}
 use lib.ListN.{length, drop}
 use Rattle.syntax.specs.Content.{content}
 use Rattle.writing.specs.Laid.{Laid}
 use Rattle.filters.specs.Six.{bitsOf, sizeOf, firstOf, secondOf, thirdOf, lastGroup, groupOf, sixValue}
 use Rattle.filters.specs.SixLaws.{Sized, sized}
-use Rattle.filters.specs.Pieces.{Taken, Few, FourBy, FourAt}
+use Rattle.filters.specs.Pieces.{Taken, Few, FourAt}
 use Rattle.filters.specs.Decoding.{Decodes}
 use Rattle.filters.specs.DecodingLaws.{Decoding, decoding-start, decoding-same, decoding-laid, decoding-bad, decoding-end, decodes-laid, decodes-bad}
 use Rattle.filters.specs.declared.Decoded.{Decoded}

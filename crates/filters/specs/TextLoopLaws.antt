@@ -1,15 +1,15 @@
 -- The loops that write the text of octets: what is left to write is the text of the octets from i on.
-use Prim.Native.Nat.{ℕ, suc, _+_, _-_, _*_, _/_, _%_, _≤_, _<_}
+use Prim.Native.Nat.{ℕ, _+_, _-_, _≤_, _<_}
 use native.Mathlib.Omega.{arith}
 use native.Mathlib.Numerals.{add-one}
 use mathlib.Core.List.{List, [], _∷_, _++_}
-use mathlib.Core.Path.{_≡_, refl, ap, sym, _∙_}
+use mathlib.Core.Path.{_≡_, refl, _∙_}
 use lib.ListN.{length, getD, drop, drop-of-length-le}
 use lib.Seq.{drop-cons}
 use Rattle.writing.specs.Laid.{Laid}
 use Rattle.writing.specs.LaidLaws.{Rest, rest-start, rest-same, rest-laid, rest-end}
-use Rattle.filters.specs.Hex.{hexDigit, hexText}
-use Rattle.filters.specs.Six.{sixDigit, sixText}
+use Rattle.filters.specs.Hex.{hexText}
+use Rattle.filters.specs.Six.{sixText}
 
 -- ---- digits that are put are those of the text
 

@@ -2,13 +2,13 @@
 use Prim.Native.Nat.{ℕ, _+_, _-_, _*_, _≤_, _<_}
 use native.Mathlib.Omega.{arith}
 use mathlib.Core.List.{List, [], _∷_}
-use mathlib.Core.Path.{_≡_, refl, ap, _∙_}
-use mathlib.Core.Option.{Option, none, some}
+use mathlib.Core.Path.{_≡_, refl, _∙_}
+use mathlib.Core.Option.{none, some}
 use borrow.Author.Tests.{lt-ltb, le-ltb}
 use lib.ListN.{length, set, drop}
 use Rattle.syntax.specs.Content.{content}
 use Rattle.filters.specs.Hex.{halfOf, pairOf, hexValue}
-use Rattle.filters.specs.Pieces.{Taken, Few, PairBy, PairAt}
+use Rattle.filters.specs.Pieces.{Taken, Few, PairAt}
 use Rattle.filters.specs.Decoding.{Decodes}
 use Rattle.filters.specs.DecodingLaws.{Decoding, decoding-start, decoding-same, decoding-laid, decoding-bad, decoding-end}
 use Rattle.filters.specs.declared.Decoded.the-variants.{Length, Bad}

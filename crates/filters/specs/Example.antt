@@ -1,0 +1,51 @@
+-- Texts and their values by computation: P10 of document 01, vectors of base 64, and the traps of the rulings.
+use mathlib.Core.List.{[], _∷_}
+use mathlib.Core.Option.{none, some}
+use mathlib.Core.Path.{_≡_, refl}
+use Rattle.syntax.specs.Octets.{octets}
+use Rattle.filters.specs.Six.{sixText}
+use Rattle.filters.specs.Filters.{valueBy}
+
+-- "P10 value of P7 is 0F A0"
+pub p10 : valueBy (octets "2") (octets "0FA0") ≡ some (15 ∷ 160 ∷ [])
+p10 = refl
+
+pub lower-case : valueBy (octets "2") (octets "0fA0") ≡ none
+lower-case = refl
+
+pub odd : valueBy (octets "2") (octets "0FA") ≡ none
+odd = refl
+
+pub empty : valueBy (octets "2") [] ≡ none
+empty = refl
+
+-- only `2` is code 2
+pub unknown : valueBy (octets "02") (octets "0FA0") ≡ none
+unknown = refl
+
+pub one : sixText (octets "f") ≡ octets "Zg=="
+one = refl
+
+pub two : sixText (octets "fo") ≡ octets "Zm8="
+two = refl
+
+pub six : sixText (octets "foobar") ≡ octets "Zm9vYmFy"
+six = refl
+
+pub read : valueBy (octets "7") (octets "Zm8=") ≡ some (octets "fo")
+read = refl
+
+-- "`====` and `A===` bad"
+pub pads : valueBy (octets "7") (octets "====") ≡ none
+pads = refl
+
+pub three-pads : valueBy (octets "7") (octets "A===") ≡ none
+three-pads = refl
+
+-- "padding in the last group only"
+pub inner-pad : valueBy (octets "7") (octets "Zg==Zg==") ≡ none
+inner-pad = refl
+
+-- "spare bits zero"
+pub spare : valueBy (octets "7") (octets "Zm9=") ≡ none
+spare = refl
