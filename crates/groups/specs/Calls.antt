@@ -11,8 +11,8 @@ use Rattle.syntax.specs.Service.{fit}
 use Rattle.syntax.specs.Repertoire.{Table}
 use Rattle.syntax.specs.declared.Service.{Service}
 use Rattle.syntax.specs.declared.Syntax.{Syntax}
-use Rattle.syntax.specs.declared.Refusal.{Refusal}
-use Rattle.grammar.specs.Segments.{text}
+use Rattle.grammar.specs.Lists.{holds}
+use Rattle.grammar.specs.Rules.{okMessage}
 use Rattle.grammar.specs.Interchange.{Leaf, Header, header, Open, msg, Message, message, showMessage}
 use Rattle.grammar.specs.Valid.{Interchange, interchange, syntaxIn, inForce, openingIn}
 use Rattle.grammar.specs.Verdict.{Verdict, accepted, refusedWith, verdictOf}
@@ -22,7 +22,7 @@ use Rattle.walk.specs.declared.sections.Layout.{Layout}
 use Rattle.groups.specs.Stand.{Stand}
 use Rattle.groups.specs.declared.calls.Opened.{Opened}
 use Rattle.groups.specs.declared.calls.Named.{Named}
-use Rattle.groups.specs.declared.calls.Named.the-variants.{Message as Here, Refused as NotHere}
+use Rattle.groups.specs.declared.calls.Named.the-variants.{Message as Here, Missing as NoneSuch, Refused as NotHere}
 
 -- ---- an answer: "Calls give 1 to 12 first .., then 13", at 0
 
@@ -64,13 +64,10 @@ pub record Holds (s m : List ℕ) (y : Syntax) (c : Layout) (rows : List ℕ) : 
   pub named : messageIn i m ≡ some (placed (message o t) q)
   pub laid : Laid (y .service) s q o t c rows
   pub stands : Stand (y .service) s q (showMessage (message o t))
+  pub ordered : holds (okMessage (message o t))
   pub few : (c .headers ≤ 9) × (c .trailers ≤ 9) × (length rows ≡ 18)
-
--- the interchange is refused, or no message has that 0062
-pub data Missed (s m : List ℕ) (f : Refusal) : Type 0 where
-  refuses : verdictOf s ≡ refusedWith (f .number) (f .place) → Missed s m f
-  missing : (i : Interchange) → verdictOf s ≡ accepted i → messageIn i m ≡ none → f ≡ record { number = 13; place = 0 } → Missed s m f
 
 abbrev pub NamedIs : List ℕ → List ℕ → Named → List ℕ → List ℕ → Type 0
 NamedIs s m (Here x) t rows = Table (x .syntax) t × Holds s m (x .syntax) (x .layout) rows
-NamedIs s m (NotHere f) t rows = Missed s m f
+NamedIs s m NoneSuch t rows = (i : Interchange) × ((verdictOf s ≡ accepted i) × (messageIn i m ≡ none))
+NamedIs s m (NotHere f) t rows = verdictOf s ≡ refusedWith (f .number) (f .place)

@@ -40,10 +40,10 @@ use Rattle.judge.specs.declared.find.Found.{Found}
 use Rattle.judge.specs.declared.find.Found.the-variants.{Message as There, Missing, Refused as NotRead}
 use Rattle.groups.specs.Stand.{Stand}
 use Rattle.groups.specs.StandLaws.{stand-front, stand-back}
-use Rattle.groups.specs.Calls.{serviceIn, messageIn, Holds, Missed, refuses, missing, NamedIs}
+use Rattle.groups.specs.Calls.{serviceIn, messageIn, Holds, NamedIs}
 use Rattle.groups.specs.declared.calls.Opened.{Opened}
 use Rattle.groups.specs.declared.calls.Named.{Named}
-use Rattle.groups.specs.declared.calls.Named.the-variants.{Message as Here, Refused as NotHere}
+use Rattle.groups.specs.declared.calls.Named.the-variants.{Message as Here, Missing as NoneSuch, Refused as NotHere}
 
 -- ---- a message of the reading, by its 0062
 
@@ -127,23 +127,22 @@ few-tails (msg h hs b ts) t q = few-trailers (msg h hs b ts) (q .0)
 
 module _ (s m : List ℕ) {g : Begun} where
   pub named-refused : {f : Refusal} (t rows : List ℕ) → g ≡ begunOf s → g ≡ Refuses f → NamedIs s m (NotHere f) t rows
-  named-refused t rows e d = refuses (ap (verdictBy s) (sym e ∙ d))
+  named-refused t rows e d = ap (verdictBy s) (sym e ∙ d)
 
   module _ {x : Start} (e : g ≡ begunOf s) (d : g ≡ Begins x) where
     found-as : (rows : List ℕ) {r f : Found} → r ≡ f → FoundIs (x .syntax) s (x .at) m r rows → FoundIs (x .syntax) s (x .at) m f rows
     found-as rows k q = subst (λ (f : Found). FoundIs (x .syntax) s (x .at) m f rows) k q
 
     pub named-not-read : (t rows : List ℕ) {r : Found} {f : Refusal} → r ≡ NotRead f → FoundIs (x .syntax) s (x .at) m r rows → NamedIs s m (NotHere f) t rows
-    named-not-read t rows k q = refuses (verdict-by s e d (found-as rows k q))
+    named-not-read t rows k q = verdict-by s e d (found-as rows k q)
 
-    pub named-missing : (t rows : List ℕ) {r : Found} {f : Refusal} → f ≡ record { number = 13; place = 0 } → r ≡ Missing → FoundIs (x .syntax) s (x .at) m r rows
-        → NamedIs s m (NotHere f) t rows
-    named-missing t rows k j w =
+    pub named-missing : (t rows : List ℕ) {r : Found} → r ≡ Missing → FoundIs (x .syntax) s (x .at) m r rows → NamedIs s m NoneSuch t rows
+    named-missing t rows j w =
         let q : WholeBy false (x .syntax) s (x .at) m noLayout rows = found-as rows j w in
         let i : Interchange = interchange (unaAt s) (q .0) (q .1) (q .2) in
         let v : verdictOf s ≡ accepted i = verdict-by s e d (q .3 .0) in
         let b = begins s i x (sym e ∙ d) v in
-        missing i v (ap (λ (z : Service). placedIn z (openingIn (unaAt s) .at) (q .0) (q .1) m) (b .service) ∙ ap (λ (n : ℕ). placedIn (x .syntax .service) n (q .0) (q .1) m) (b .at) ∙ q .3 .1) k
+        (i, (v, ap (λ (z : Service). placedIn z (openingIn (unaAt s) .at) (q .0) (q .1) m) (b .service) ∙ ap (λ (n : ℕ). placedIn (x .syntax .service) n (q .0) (q .1) m) (b .at) ∙ q .3 .1))
 
     pub named-here : (t rows : List ℕ) {c : Layout} {r : Found} → Table (x .syntax) t → r ≡ There c → FoundIs (x .syntax) s (x .at) m r rows
         → NamedIs s m (Here (record { syntax = x .syntax; layout = c })) t rows
@@ -170,5 +169,17 @@ module _ (s m : List ℕ) {g : Begun} where
               named = ap (λ (z : Service). placedIn z (openingIn (unaAt s) .at) u ms m) (b .service) ∙ ap (λ (n : ℕ). placedIn (x .syntax .service) n u ms m) (b .at) ∙ k .3 .0;
               laid = k .3 .1;
               stands = placed-stands (x .syntax .service) (x .at) u m s ms (k .3 .0) (stand-front (x .syntax .service) s (x .at) (shown (idle u ms)) (nil ▷ seg Unz z) (b .stands));
+              ordered = placed-every (x .syntax .service) (x .at) u m okMessage ms (k .3 .0) (b .valid .inOrder .0);
               few = (omega (arith, h, k .3 .1 .headers), omega (arith, h, j, k .3 .1 .trailers), k .3 .1 .starts .long);
             }
+
+-- what is told, by the case of the answer
+module _ (s m t rows : List ℕ) {r : Named} (n : NamedIs s m r t rows) where
+  pub as-here : {x : Opened} → r ≡ Here x → Table (x .syntax) t × Holds s m (x .syntax) (x .layout) rows
+  as-here e = subst (λ (v : Named). NamedIs s m v t rows) e n
+
+  pub as-missing : r ≡ NoneSuch → (i : Interchange) × ((verdictOf s ≡ accepted i) × (messageIn i m ≡ none))
+  as-missing e = subst (λ (v : Named). NamedIs s m v t rows) e n
+
+  pub as-refused : {f : Refusal} → r ≡ NotHere f → verdictOf s ≡ refusedWith (f .number) (f .place)
+  as-refused e = subst (λ (v : Named). NamedIs s m v t rows) e n

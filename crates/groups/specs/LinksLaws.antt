@@ -19,9 +19,11 @@ use Rattle.syntax.specs.CuttingLaws.{stop-in}
 use Rattle.syntax.specs.declared.Service.{Service}
 use Rattle.syntax.specs.declared.Found.{Found}
 use Rattle.syntax.specs.declared.Found.the-variants.{At as EndsAt, Nothing}
-use Rattle.grammar.specs.Lists.{Snoc, nil, _▷_, _+++_, each, joined, list}
-use Rattle.grammar.specs.Segments.{Usb, Usx, Usy, seg, elementsOf, reference, asked, Asked}
-use Rattle.grammar.specs.Interchange.{Leaf, Link, link, Body, plain, ack, showLink, showBody}
+use Rattle.grammar.specs.Lists.{Snoc, nil, _▷_, _+++_, each, joined, list, holds, every}
+use Rattle.grammar.specs.Segments.{Usb, Usx, Usy, seg, tags, kindIn, kindOf, tagText, elementsOf, reference, asked, Asked}
+use Rattle.grammar.specs.Rules.{isFree, okItem, okBody}
+use Rattle.grammar.specs.PlacingLaws.{same-eq}
+use Rattle.grammar.specs.Interchange.{Leaf, Header, Link, link, Body, plain, ack, showLink, showBody}
 use Rattle.grammar.specs.Places.{wide}
 use Rattle.grammar.specs.PlacesLaws.{wide-list}
 use Rattle.walk.specs.RunLaws.{long-print}
@@ -29,7 +31,8 @@ use Rattle.walk.specs.SectionLaws.{plain-content}
 use Rattle.groups.specs.Stand.{Row, Stand}
 use Rattle.groups.specs.StandLaws.{list-join, stand-front, stand-back, row-first, row-asked, row-rest}
 use Rattle.groups.specs.Groups.{nameAt}
-use Rattle.groups.specs.Links.{Tie, tie, orElse, firstUsy, firstLink, taggedAt, isTagged, isUsyOf, linkFrom}
+use Rattle.groups.specs.Links.{Tie, tie, orElse, firstUsy, firstLink, tieIn, taggedAt, isTagged, isUsyOf, linkFrom}
+use Rattle.groups.specs.declared.links.Places.{Places}
 use Rattle.groups.specs.declared.links.Linked.{Linked}
 use Rattle.groups.specs.declared.links.Linked.the-variants.{At, Nowhere}
 
@@ -238,3 +241,46 @@ module _ (σ : Service) (r : List ℕ) where
 -- a segment's end lies within the octets
 pub ends-in : (σ : Service) (s : List ℕ) (i : ℕ) {e : ℕ} {f : Found} → f ≡ endAt σ s i → f ≡ EndsAt e → (i ≤ e) × (e < length s)
 ends-in σ s i {e} a b = let k = stop-in σ 5 s (lit≤ tt) i e (sym a ∙ b) in (k .0, k .1)
+
+-- ---- a body that is no AUTACK's has no link
+
+free-untagged : (g : Segment) → T (isFree (kindOf g)) → isTagged g (octets "USY") ≡ false
+free-untagged g f = by (isTagged g (octets "USY")) (λ e. same-eq (tagText g) (octets "USY") (subst T (sym e) tt))
+  where
+    by : (b : Bool) → (b ≡ true → tagText g ≡ octets "USY") → b ≡ false
+    by false h = refl
+    by true h = absurd (subst (λ (t : List ℕ). T (isFree (kindIn tags t))) (h refl) f)
+
+free-none : (σ : Service) (r : List ℕ) (p x : ℕ) (b : Snoc Segment) → holds (every okItem b) → linkFrom σ p x (list b) r ≡ Nowhere
+unfolding orLink
+free-none σ r p x nil w = refl
+free-none σ r p x (b ▷ g) w =
+    from-append σ r p x (list b) (g ∷ []) ∙ ap (λ (k : Linked). orLink k (linkFrom σ (p + length (print σ (list b))) (lastFrom σ r p x (list b)) (g ∷ []) r)) (free-none σ r p x b (w .0))
+    ∙ ap
+    (λ (c : Bool). cond (c && same (reference (elementsOf g)) r)
+    (At (record { usx = cond (isTagged g (octets "USX")) (p + length (print σ (list b))) (lastFrom σ r p x (list b)); usy = p + length (print σ (list b)) })) Nowhere) (free-untagged g (w .1))
+
+-- the link of a body in order
+pub tied : (σ : Service) (r s : List ℕ) (p : ℕ) (a : Bool) (hs : Snoc Header) (b : Body) → holds (okBody a hs b) → Stand σ s p (showBody b)
+    → TieAt σ s (tieIn b r) (linkFrom σ p p (list (showBody b)) r)
+tied σ r s p a hs (plain nil) w v = nowhere
+tied σ r s p a hs (plain (b ▷ g)) w v = subst (TieAt σ s none) (sym (free-none σ r p p (b ▷ g) (w .1 .0, w .1 .1))) nowhere
+tied σ r s p a hs (ack c ls) w v = body-tied σ r s p c ls v
+
+-- what it is, by what the code finds
+pub record There (σ : Service) (s : List ℕ) (o : Option Tie) (q : Places) : Type 0 where
+  pub x : Leaf
+  pub y : Leaf
+  pub tied : o ≡ some (tie x y)
+  pub usx : Stand σ s (q .usx) (nil ▷ seg Usx x)
+  pub usy : Stand σ s (q .usy) (nil ▷ seg Usy y)
+
+pub tie-there : {σ : Service} {s : List ℕ} {o : Option Tie} {k : Linked} (q : Places) → TieAt σ s o k → At q ≡ k → There σ s o q
+tie-there q nowhere e = let z : _≡_ {A = ℕ} 0 1 = cc in absurd (omega arith)
+tie-there {σ} {s} q (there x y a b v w) e =
+    let i : record { usx = a; usy = b } ≡ q = cc in
+    subst (There σ s (some (tie x y))) i (record { x = x; y = y; tied = refl; usx = v; usy = w })
+
+pub tie-none : {σ : Service} {s : List ℕ} {o : Option Tie} {k : Linked} → TieAt σ s o k → Nowhere ≡ k → o ≡ none
+tie-none nowhere e = refl
+tie-none (there x y a b v w) e = let z : _≡_ {A = ℕ} 0 1 = cc in absurd (omega arith)

@@ -5,7 +5,7 @@ use mathlib.Core.Option.{Option}
 use Rattle.syntax.specs.declared.Service.{Service}
 use Rattle.grammar.specs.Lists.{joined}
 use Rattle.grammar.specs.Segments.{text}
-use Rattle.grammar.specs.Interchange.{Header, header, Trailer, Open, msg, showHeader, showTrailer}
+use Rattle.grammar.specs.Interchange.{Header, header, Trailer, Body, Open, msg, showHeader, showTrailer}
 use Rattle.grammar.specs.Rules.{refH, refT}
 use Rattle.grammar.specs.Places.{wide}
 use Rattle.walk.specs.Layout.{headsAt, tailAt}
@@ -32,3 +32,6 @@ headerEnd σ q o (chosen hs h) = headerAt σ q o (chosen hs h) + wide σ (showHe
 
 abbrev pub trailerAt : Service → ℕ → Open → Chosen Trailer → ℕ
 trailerAt σ q o (chosen ts t) = tailAt σ q o + wide σ (joined showTrailer ts)
+
+abbrev pub bodyIn : Open → Body
+bodyIn (msg h hs b ts) = b

@@ -9,12 +9,12 @@ use Rattle.syntax.specs.Tree.{Segment, printS}
 use Rattle.syntax.specs.declared.Service.{Service}
 use Rattle.syntax.specs.declared.Syntax.{Syntax}
 use Rattle.syntax.specs.declared.Refusal.{Refusal}
-use Rattle.grammar.specs.Lists.{Snoc, nil, _▷_, _+++_, joined, size}
+use Rattle.grammar.specs.Lists.{Snoc, nil, _▷_, _+++_, joined, list, size, holds}
 use Rattle.grammar.specs.Segments.{Unh, Unt, seg}
 use Rattle.grammar.specs.Interchange.{Leaf, Header, Trailer, Body, Open, msg, Message, message, showHeader, showTrailer, showBody, showOpen, showMessage}
-use Rattle.grammar.specs.Rules.{refH, refT}
+use Rattle.grammar.specs.Rules.{auto, okMessage, refH, refT}
 use Rattle.grammar.specs.Valid.{Interchange}
-use Rattle.grammar.specs.Verdict.{Verdict, verdictOf}
+use Rattle.grammar.specs.Verdict.{Verdict, accepted, refusedWith, verdictOf}
 use Rattle.grammar.specs.Places.{wide}
 use Rattle.grammar.specs.PlacesLaws.{wide-join}
 use Rattle.grammar.specs.Named.{Placed, placed}
@@ -22,12 +22,14 @@ use Rattle.message.specs.Heads.{upto}
 use Rattle.walk.specs.Layout.{headsAt, bodyAt, tailAt}
 use Rattle.walk.specs.Sections.{Laid}
 use Rattle.walk.specs.declared.sections.Layout.{Layout}
-use Rattle.groups.specs.Stand.{Stand}
-use Rattle.groups.specs.StandLaws.{stand-front, stand-back}
+use Rattle.groups.specs.Stand.{Row, Stand}
+use Rattle.groups.specs.StandLaws.{stand-front, stand-back, stand-row}
 use Rattle.groups.specs.Groups.{chosen, soughtIn, rangeOf}
 use Rattle.groups.specs.GroupsLaws.{sought-chosen, chosen-stands, names-stand, header-named, trailer-named}
-use Rattle.groups.specs.Parts.{headerNamed, trailerNamed, headerAt, trailerAt}
-use Rattle.groups.specs.Calls.{refusedAs, orMissing, answeredBy, then, messageIn, Holds, Missed, refuses, missing}
+use Rattle.groups.specs.Parts.{headerNamed, trailerNamed, headerAt, trailerAt, bodyIn}
+use Rattle.groups.specs.Links.{tieIn, linkFrom}
+use Rattle.groups.specs.LinksLaws.{TieAt, tied}
+use Rattle.groups.specs.Calls.{refusedAs, orMissing, answeredBy, then, messageIn, Holds}
 
 -- ---- a call that names a message: where it is refused, and where the message is found
 
@@ -36,11 +38,11 @@ module _ {A : Type 0} (s m : List ℕ) (ask : Interchange → Placed → Option 
   abbrev asks : Interchange → Option A
   asks i = then (messageIn i m) (ask i)
 
-  pub call-missed : {f : Refusal} → Missed s m f → answeredBy (verdictOf s) asks ≡ refusedAs (f .number) (f .place)
-  call-missed (refuses e) = ap (λ (v : Verdict). answeredBy v asks) e
-  call-missed (missing i e d k) =
-      ap (λ (v : Verdict). answeredBy v asks) e ∙ ap (λ (o : Option Placed). orMissing (then o (ask i))) d
-      ∙ ap (λ (f : Refusal). refusedAs (f .number) (f .place)) (sym k)
+  pub call-refused : {n p : ℕ} → verdictOf s ≡ refusedWith n p → answeredBy (verdictOf s) asks ≡ refusedAs n p
+  call-refused e = ap (λ (v : Verdict). answeredBy v asks) e
+
+  pub call-missing : (i : Interchange) × ((verdictOf s ≡ accepted i) × (messageIn i m ≡ none)) → answeredBy (verdictOf s) asks ≡ refusedAs 13 0
+  call-missing k = ap (λ (v : Verdict). answeredBy v asks) (k .1 .0) ∙ ap (λ (o : Option Placed). orMissing (then o (ask (k .0)))) (k .1 .1)
 
   pub call-holds : {y : Syntax} {c : Layout} {rows : List ℕ} (h : Holds s m y c rows)
       → answeredBy (verdictOf s) asks ≡ orMissing (ask (h .i) (placed (message (h .o) (h .t)) (h .q)))
@@ -133,3 +135,23 @@ module _ {s m : List ℕ} {y : Syntax} {c : Layout} {rows : List ℕ} (h : Holds
           → Stand (y .service) s (trailerAt (y .service) (h .q) o (chosen ts x)) (showTrailer x)
       by (msg u hs b ks) e w =
           chosen-stands showTrailer refT (y .service) s rows 9 1 r (tailAt (y .service) (h .q) (msg u hs b ks)) ks e (trailers-stand (y .service) s (h .q) u hs b ks (h .t) w)
+
+  -- the body, and the link that it has
+  pub body-row : Row (y .service) s (c .body) (list (showBody (bodyIn (h .o)))) (c .tail)
+  body-row = by (h .o) (h .laid) (h .stands)
+    where
+      by : (o : Open) → Laid (y .service) s (h .q) o (h .t) c rows → Stand (y .service) s (h .q) (showMessage (message o (h .t)))
+          → Row (y .service) s (c .body) (list (showBody (bodyIn o))) (c .tail)
+      by (msg u hs b ts) l w =
+          subst (λ (i : ℕ). Row (y .service) s (c .body) (list (showBody b)) i) (sym (l .tail))
+          (subst (λ (i : ℕ). Row (y .service) s i (list (showBody b)) (tailAt (y .service) (h .q) (msg u hs b ts))) (sym (l .body))
+          (stand-row (y .service) s (bodyAt (y .service) (h .q) (msg u hs b ts)) (showBody b) (body-stands (y .service) s (h .q) u hs b ts (h .t) w)))
+
+  pub body-tied : TieAt (y .service) s (tieIn (bodyIn (h .o)) r) (linkFrom (y .service) (c .body) (c .body) (list (showBody (bodyIn (h .o)))) r)
+  body-tied = by (h .o) (h .laid) (h .stands) (h .ordered)
+    where
+      by : (o : Open) → Laid (y .service) s (h .q) o (h .t) c rows → Stand (y .service) s (h .q) (showMessage (message o (h .t))) → holds (okMessage (message o (h .t)))
+          → TieAt (y .service) s (tieIn (bodyIn o) r) (linkFrom (y .service) (c .body) (c .body) (list (showBody (bodyIn o))) r)
+      by (msg u hs b ts) l w k =
+          subst (λ (i : ℕ). TieAt (y .service) s (tieIn b r) (linkFrom (y .service) i i (list (showBody b)) r)) (sym (l .body))
+          (tied (y .service) r s (bodyAt (y .service) (h .q) (msg u hs b ts)) (auto u) hs b (k .0 .1 .1 .0) (body-stands (y .service) s (h .q) u hs b ts (h .t) w))

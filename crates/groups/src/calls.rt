@@ -17,8 +17,10 @@ pub struct Opened {
     pub layout: Layout,
 }
 
+// The message; or that the interchange has none of that 0062; or why the interchange is refused.
 pub enum Named {
     Message(Opened),
+    Missing,
     Refused(Refusal),
 }
 
@@ -48,7 +50,7 @@ pub fn message_named(s: &[u8], message: &[u8], t: &mut [u8; 256], rows: &mut [us
                     syntax: y,
                     layout: c,
                 }),
-                Found::Missing => Named::Refused(missing()),
+                Found::Missing => Named::Missing,
                 Found::Refused(f) => Named::Refused(f),
             }
         }

@@ -10,7 +10,6 @@ use lib.ListN.{length}
 use lib.Seq.{slice}
 use Rattle.syntax.specs.Octets.{octets, same}
 use Rattle.syntax.specs.Service.{fit}
-use Rattle.syntax.specs.Repertoire.{Table}
 use Rattle.syntax.specs.Tree.{Segment, printS}
 use Rattle.syntax.specs.declared.Service.{Service}
 use Rattle.syntax.specs.declared.Syntax.{Syntax}
@@ -32,11 +31,8 @@ use Rattle.groups.specs.Stand.{Stand}
 use Rattle.groups.specs.Groups.{Chosen, chosen, chosenBy, nameAt, soughtIn, rangeOf, headersAs, trailersAs}
 use Rattle.groups.specs.GroupsLaws.{header-scope}
 use Rattle.groups.specs.Parts.{scopeH, headerNamed, trailerNamed, headerAt, headerEnd, trailerAt}
-use Rattle.groups.specs.PartsLaws.{call-missed, call-holds, header-found, trailer-found, header-there}
-use Rattle.groups.specs.Calls.{Answered, given, refusedAs, orMissing, then, serviceIn, Holds, Missed, NamedIs}
-use Rattle.groups.specs.declared.calls.Opened.{Opened}
-use Rattle.groups.specs.declared.calls.Named.{Named}
-use Rattle.groups.specs.declared.calls.Named.the-variants.{Message as Here, Refused as NotHere}
+use Rattle.groups.specs.PartsLaws.{call-refused, call-missing, call-holds, header-found, trailer-found, header-there}
+use Rattle.groups.specs.Calls.{Answered, given, refusedAs, orMissing, then, serviceIn, messageIn, Holds}
 use Rattle.groups.specs.declared.named.Groups.{Groups}
 use Rattle.groups.specs.declared.named.Range.{Range}
 use Rattle.groups.specs.declared.named.Sought.{Sought}
@@ -47,7 +43,7 @@ use Rattle.ranges.specs.declared.scopes.Scope1.{Scope1}
 use Rattle.ranges.specs.declared.scopes.Scope1.the-variants.{Of as ScopeOf, Refused as ScopeRefused}
 use Rattle.ranges.specs.declared.scopes.Run.{Run as Ran}
 use Rattle.ranges.specs.declared.scopes.Run.the-variants.{Of as RunOf, Refused as RunRefused}
-use Rattle.ranges.specs.Told.{partNumbers, toldParts, runNumbers, toldRun, PartsInside, RunInside, headerPart, bodyPart, runPart, startOf, endOf, scopedBy, headerFound, trailerFound, partsBy, runBy}
+use Rattle.ranges.specs.Told.{missingAs, partNumbers, toldParts, runNumbers, toldRun, PartsInside, RunInside, headerPart, bodyPart, runPart, startOf, endOf, scopedBy, headerFound, trailerFound, partsBy, runBy}
 
 -- ---- scope 1 and scope 2
 
@@ -55,7 +51,7 @@ none-some : {A B : Type 0} {a : A} → none ≡ some a → B
 none-some e = let z : _≡_ {A = ℕ} 0 1 = cc in absurd (omega arith)
 
 module _ {s m : List ℕ} {y : Syntax} {c : Layout} {rows : List ℕ} (h : Holds s m y c rows) (r : List ℕ) where
-  header-scoped : (code : List ℕ) → headerFound (y .service) s c rows code r ≡ rangeOf showHeader (y .service) (headsAt (y .service) (h .q) (h .o)) (headerIn code (h .o) r)
+  pub header-scoped : (code : List ℕ) → headerFound (y .service) s c rows code r ≡ rangeOf showHeader (y .service) (headsAt (y .service) (h .q) (h .o)) (headerIn code (h .o) r)
   header-scoped code = ap (scopedBy (y .service) s code) (header-found h r) ∙ by (headerNamed (h .o) r) (λ hs x e. header-there h r e)
     where
       by : (k : Option (Chosen Header)) → ((hs : Snoc Header) (x : Header) → k ≡ some (chosen hs x) → Stand (y .service) s (headerAt (y .service) (h .q) (h .o) (chosen hs x)) (showHeader x))
@@ -216,21 +212,22 @@ pub run-part : {n p a b : ℕ} (x : Answered Run) → n ∷ p ∷ a ∷ b ∷ []
 run-part (given (run a′ b′)) e = cc
 run-part (refusedAs n′ p′) e = cc
 
-module _ (s m r : List ℕ) {f : Refusal} (k : Missed s m f) where
-  pub scope1-missed : f .number ∷ f .place ∷ 0 ∷ 0 ∷ 0 ∷ 0 ∷ [] ≡ partNumbers (scope1Of s m r)
-  scope1-missed = sym (ap partNumbers (call-missed s m (λ i p. scope1At (serviceIn i) p r) k))
+module _ (s m r : List ℕ) {f : Refusal} where
+  pub scope1-refused : verdictOf s ≡ refusedWith (f .number) (f .place) → f .number ∷ f .place ∷ 0 ∷ 0 ∷ 0 ∷ 0 ∷ [] ≡ partNumbers (scope1Of s m r)
+  scope1-refused e = sym (ap partNumbers (call-refused s m (λ i p. scope1At (serviceIn i) p r) e))
 
-  pub scope2-missed : f .number ∷ f .place ∷ 0 ∷ 0 ∷ [] ≡ runNumbers (scope2Of s m r)
-  scope2-missed = sym (ap runNumbers (call-missed s m (λ i p. scope2At (serviceIn i) p r) k))
+  pub scope2-refused : verdictOf s ≡ refusedWith (f .number) (f .place) → f .number ∷ f .place ∷ 0 ∷ 0 ∷ [] ≡ runNumbers (scope2Of s m r)
+  scope2-refused e = sym (ap runNumbers (call-refused s m (λ i p. scope2At (serviceIn i) p r) e))
+
+  module _ (d : f ≡ missingAs) (k : (i : Interchange) × ((verdictOf s ≡ accepted i) × (messageIn i m ≡ none))) where
+    pub scope1-missing : f .number ∷ f .place ∷ 0 ∷ 0 ∷ 0 ∷ 0 ∷ [] ≡ partNumbers (scope1Of s m r)
+    scope1-missing =
+        ap (λ (g : Refusal). g .number ∷ g .place ∷ 0 ∷ 0 ∷ 0 ∷ 0 ∷ []) d ∙ sym (ap partNumbers (call-missing s m (λ i p. scope1At (serviceIn i) p r) k))
+
+    pub scope2-missing : f .number ∷ f .place ∷ 0 ∷ 0 ∷ [] ≡ runNumbers (scope2Of s m r)
+    scope2-missing = ap (λ (g : Refusal). g .number ∷ g .place ∷ 0 ∷ 0 ∷ []) d ∙ sym (ap runNumbers (call-missing s m (λ i p. scope2At (serviceIn i) p r) k))
 
 -- ---- the code, call by call
-
-module _ {s m : List ℕ} (t rows : List ℕ) {r : Named} (n : NamedIs s m r t rows) where
-  pub named-here : {x : Opened} → r ≡ Here x → Table (x .syntax) t × Holds s m (x .syntax) (x .layout) rows
-  named-here e = subst (λ (v : Named). NamedIs s m v t rows) e n
-
-  pub named-not : {f : Refusal} → r ≡ NotHere f → Missed s m f
-  named-not e = subst (λ (v : Named). NamedIs s m v t rows) e n
 
 module _ (σ : Service) (s : List ℕ) (c : Layout) (rows r : List ℕ) {g : Groups} {x : Sought} (e : x ≡ soughtIn σ s rows (g .first) (g .element) r (g .count) (g .end)) where
   headers-sought : g ≡ headersAs c → x ≡ soughtIn σ s rows 0 2 r (c .headers) (c .body)

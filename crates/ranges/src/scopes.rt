@@ -108,6 +108,7 @@ pub fn scope1_places(s: &[u8], message: &[u8], header: &[u8]) -> Scope1
             let c = x.layout;
             parts_by(c, header_of(s, &t, x.syntax, c, &rows, b"1", header))
         }
+        Named::Missing => Scope1::Refused(missing()),
         Named::Refused(f) => Scope1::Refused(f),
     }
 }
@@ -126,6 +127,7 @@ pub fn scope2_places(s: &[u8], message: &[u8], header: &[u8]) -> Run
             let h = header_of(s, &t, y, c, &rows, b"2", header);
             run_by(h, group_named(s, &t, y, &rows, trailers_of(c), header))
         }
+        Named::Missing => Run::Refused(missing()),
         Named::Refused(f) => Run::Refused(f),
     }
 }

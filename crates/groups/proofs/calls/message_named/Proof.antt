@@ -6,60 +6,55 @@ use Rattle.groups.proofs.calls.message_named.Statement.{statement}
 use Rattle.groups.proofs.calls.message_named.Tie as tie
 use Rattle.groups.proofs.calls.message_named.Reads as reads
 use Rattle.groups.proofs.calls.message_named.Lts as lts
-use Rattle.groups.proofs.calls.missing.Reads as missing-reads
 use Rattle.judge.proofs.find.find.Reads as find-reads
 use Rattle.syntax.proofs.opening.begin.Reads as begin-reads
 use Rattle.syntax.proofs.repertoire.table.Reads as table-reads
 
--- src/calls.rt:45:11
+-- src/calls.rt:42:11
 begin-requires : tie.Need-begin-requires
 begin-requires c κs = search needs
 
--- src/calls.rt:46:24
+-- src/calls.rt:43:24
 enum-known-f : tie.Need-enum-known-f
 enum-known-f c = search needs
 
--- src/calls.rt:47:22
+-- src/calls.rt:44:22
 enum-known-b : tie.Need-enum-known-b
 enum-known-b c = search needs
 
--- src/calls.rt:50:18
+-- src/calls.rt:47:18
 table-requires : tie.Need-table-requires
 table-requires c κs = search needs
 
--- src/calls.rt:51:19
+-- src/calls.rt:48:19
 find-requires : tie.Need-find-requires
 find-requires c κs = let w = begun-fits (c .before .before .before .before .before .before .before .before .before .before .args .s .now) (c .before .before .before .before .before .before .before .begin .ensures) (c .before .before .before .before .before .b .given .1) in (c .before .before .table .ensures, (w .0, (w .1, c .before .before .before .before .before .before .before .before .before .before .pre)))
 
--- src/calls.rt:52:32
+-- src/calls.rt:49:32
 enum-known-c : tie.Need-enum-known-c
 enum-known-c c = search needs
 
--- src/calls.rt:56:50
+-- src/calls.rt:53:35
 enum-told : tie.Need-enum-told
 enum-told c = search needs
 
--- src/calls.rt:56:50
-missing-requires : tie.Need-missing-requires
-missing-requires c κs = search needs
-
--- src/calls.rt:57:32
+-- src/calls.rt:54:32
 enum-known-f-2 : tie.Need-enum-known-f-2
 enum-known-f-2 c = search needs
 
--- src/calls.rt:36:1
+-- src/calls.rt:38:1
 returns : tie.Need-returns
 returns c = named-refused (c .before .before .before .before .before .before .args .s .now) (c .before .before .before .before .before .before .args .message .now) [] [] (c .before .before .before .begin .ensures) (c .before .f .given .1)
 
--- src/calls.rt:36:1
+-- src/calls.rt:38:1
 returns-2 : tie.Need-returns-2
 returns-2 c = named-here (c .before .before .before .before .before .before .before .before .before .before .before .before .before .before .args .s .now) (c .before .before .before .before .before .before .before .before .before .before .before .before .before .before .args .message .now) (c .before .before .before .before .before .before .before .before .before .before .before .begin .ensures) (c .before .before .before .before .before .before .before .before .before .b .given .1) _ (c .before .before .before .find .last .1 .1 .1 .1 .1 .0) (c .before .before .before .before .before .before .table .ensures) (c .before .c .given .1) (c .before .before .before .find .ensures)
 
--- src/calls.rt:36:1
+-- src/calls.rt:38:1
 returns-3 : tie.Need-returns-3
-returns-3 c = named-missing (c .before .before .before .before .before .before .before .before .before .before .before .before .before .before .args .s .now) (c .before .before .before .before .before .before .before .before .before .before .before .before .before .before .args .message .now) (c .before .before .before .before .before .before .before .before .before .before .before .begin .ensures) (c .before .before .before .before .before .before .before .before .before .b .given .1) [] (c .before .before .before .find .last .1 .1 .1 .1 .1 .0) (c .missing .ensures) (c .before .enum-told .given .1) (c .before .before .before .find .ensures)
+returns-3 c = named-missing (c .before .before .before .before .before .before .before .before .before .before .before .before .before .args .s .now) (c .before .before .before .before .before .before .before .before .before .before .before .before .before .args .message .now) (c .before .before .before .before .before .before .before .before .before .before .begin .ensures) (c .before .before .before .before .before .before .before .before .b .given .1) [] (c .before .before .find .last .1 .1 .1 .1 .1 .0) (c .enum-told .given .1) (c .before .before .find .ensures)
 
--- src/calls.rt:36:1
+-- src/calls.rt:38:1
 returns-4 : tie.Need-returns-4
 returns-4 c = named-not-read (c .before .before .before .before .before .before .before .before .before .before .before .before .before .before .args .s .now) (c .before .before .before .before .before .before .before .before .before .before .before .before .before .before .args .message .now) (c .before .before .before .before .before .before .before .before .before .before .before .begin .ensures) (c .before .before .before .before .before .before .before .before .before .b .given .1) [] (c .before .before .before .find .last .1 .1 .1 .1 .1 .0) (c .before .f2 .given .1) (c .before .before .before .find .ensures)
 
@@ -74,7 +69,6 @@ message-named-spec =
     find-requires
     enum-known-c
     enum-told
-    missing-requires
     enum-known-f-2
     returns
     returns-2

@@ -1,14 +1,15 @@
 use native.Mathlib.Omega.{arith}
 use mathlib.Core.Path.{refl, sym, ap, _∙_}
-use mathlib.Core.List.{[], _∷_}
-use mathlib.Core.Bool.{true, false}
 use borrow.Author.Needs.{needs}
-use Rattle.ranges.specs.RangesLaws.{named-here, named-not, scope1-here, scope1-inside, scope1-missed}
+use lib.ListN.{length}
+use Rattle.groups.specs.CallsLaws.{as-here, as-missing, as-refused}
+use Rattle.ranges.specs.RangesLaws.{scope1-here, scope1-inside, scope1-refused, scope1-missing}
 use Rattle.ranges.proofs.scopes.scope1_places.Statement.{statement}
 use Rattle.ranges.proofs.scopes.scope1_places.Tie as tie
 use Rattle.ranges.proofs.scopes.scope1_places.Reads as reads
 use Rattle.ranges.proofs.scopes.scope1_places.Lts as lts
 use Rattle.groups.proofs.calls.message_named.Reads as message-named-reads
+use Rattle.groups.proofs.calls.missing.Reads as missing-reads
 use Rattle.ranges.proofs.scopes.header_of.Reads as header-of-reads
 use Rattle.ranges.proofs.scopes.parts_by.Reads as parts-by-reads
 
@@ -26,23 +27,35 @@ slice-aggregate-header-of c = search needs
 
 -- src/scopes.rt:109:25
 header-of-requires : tie.Need-header-of-requires
-header-of-requires c κs = let w = named-here (c .before .before .before .before .before .before .before .message-named .last .1 .1 .0) (c .before .before .before .before .before .before .before .message-named .last .1 .1 .1 .0) (c .before .before .before .before .before .before .before .message-named .ensures) (c .before .before .before .before .before .x .given .1) in (w .0, (w .1 .few .0, w .1 .few .2))
+header-of-requires c κs = let w = as-here (c .before .before .before .before .before .before .before .before .before .before .before .before .before .args .s .now) (c .before .before .before .before .before .before .before .before .before .before .before .before .before .args .message .now) (c .before .before .before .before .before .before .before .message-named .last .1 .1 .0) (c .before .before .before .before .before .before .before .message-named .last .1 .1 .1 .0) (c .before .before .before .before .before .before .before .message-named .ensures) (c .before .before .before .before .before .x .given .1) in (w .0, (w .1 .few .0, w .1 .few .2))
 
 -- src/scopes.rt:109:13
 parts-by-requires : tie.Need-parts-by-requires
 parts-by-requires c κs = search needs
 
--- src/scopes.rt:111:24
+-- src/scopes.rt:111:43
+enum-told : tie.Need-enum-told
+enum-told c = search needs
+
+-- src/scopes.rt:111:43
+missing-requires : tie.Need-missing-requires
+missing-requires c κs = search needs
+
+-- src/scopes.rt:112:24
 enum-known-f : tie.Need-enum-known-f
 enum-known-f c = search needs
 
 -- src/scopes.rt:100:1
 returns : tie.Need-returns
-returns c = let w = named-here (c .before .before .before .before .before .before .before .before .before .message-named .last .1 .1 .0) (c .before .before .before .before .before .before .before .before .before .message-named .last .1 .1 .1 .0) (c .before .before .before .before .before .before .before .before .before .message-named .ensures) (c .before .before .before .before .before .before .before .x .given .1) in (scope1-here (w .1) (c .before .before .before .before .before .before .before .before .before .before .before .before .before .before .before .args .header .now) (c .before .header-of .ensures) (c .parts-by .ensures), scope1-inside (w .1) (c .before .before .before .before .before .before .before .before .before .before .before .before .before .before .before .args .header .now) (c .before .header-of .ensures) (c .parts-by .ensures))
+returns c = let w = as-here (c .before .before .before .before .before .before .before .before .before .before .before .before .before .before .before .args .s .now) (c .before .before .before .before .before .before .before .before .before .before .before .before .before .before .before .args .message .now) (c .before .before .before .before .before .before .before .before .before .message-named .last .1 .1 .0) (c .before .before .before .before .before .before .before .before .before .message-named .last .1 .1 .1 .0) (c .before .before .before .before .before .before .before .before .before .message-named .ensures) (c .before .before .before .before .before .before .before .x .given .1) in (scope1-here (w .1) (c .before .before .before .before .before .before .before .before .before .before .before .before .before .before .before .args .header .now) (c .before .header-of .ensures) (c .parts-by .ensures), scope1-inside (w .1) (c .before .before .before .before .before .before .before .before .before .before .before .before .before .before .before .args .header .now) (c .before .header-of .ensures) (c .parts-by .ensures))
 
 -- src/scopes.rt:100:1
 returns-2 : tie.Need-returns-2
-returns-2 c = (scope1-missed (c .before .before .before .before .before .before .before .before .before .args .s .now) (c .before .before .before .before .before .before .before .before .before .args .message .now) (c .before .before .before .before .before .before .before .before .before .args .header .now) (named-not (c .before .before .before .message-named .last .1 .1 .0) (c .before .before .before .message-named .last .1 .1 .1 .0) (c .before .before .before .message-named .ensures) (c .before .f .given .1)), tt)
+returns-2 c = (scope1-missing (c .before .before .before .before .before .before .before .before .before .args .s .now) (c .before .before .before .before .before .before .before .before .before .args .message .now) (c .before .before .before .before .before .before .before .before .before .args .header .now) (c .missing .ensures) (as-missing (c .before .before .before .before .before .before .before .before .before .args .s .now) (c .before .before .before .before .before .before .before .before .before .args .message .now) (c .before .before .before .message-named .last .1 .1 .0) (c .before .before .before .message-named .last .1 .1 .1 .0) (c .before .before .before .message-named .ensures) (c .before .enum-told .given .1)), tt)
+
+-- src/scopes.rt:100:1
+returns-3 : tie.Need-returns-3
+returns-3 c = (scope1-refused (c .before .before .before .before .before .before .before .before .before .args .s .now) (c .before .before .before .before .before .before .before .before .before .args .message .now) (c .before .before .before .before .before .before .before .before .before .args .header .now) (as-refused (c .before .before .before .before .before .before .before .before .before .args .s .now) (c .before .before .before .before .before .before .before .before .before .args .message .now) (c .before .before .before .message-named .last .1 .1 .0) (c .before .before .before .message-named .last .1 .1 .1 .0) (c .before .before .before .message-named .ensures) (c .before .f .given .1)), tt)
 
 pub scope1-places-spec : {M : Type 1} → statement M
 scope1-places-spec =
@@ -53,6 +66,9 @@ scope1-places-spec =
     slice-aggregate-header-of
     header-of-requires
     parts-by-requires
+    enum-told
+    missing-requires
     enum-known-f
     returns
-    returns-2)
+    returns-2
+    returns-3)

@@ -1,0 +1,180 @@
+// F01: the run of messages that an AUTACK seals in the interchange which it refers to.
+ghost use mathlib.Core.Path.{_≡_};
+ghost use mathlib.Core.Option.{some};
+ghost use mathlib.Core.List.{List};
+ghost use Prim.Native.Nat.{ℕ, _+_, _≤_};
+ghost use lib.Dec.{T};
+ghost use lib.ListN.{length};
+ghost use lib.Seq.{slice};
+ghost use denote.Ref.{ptr};
+ghost use Rattle.syntax.specs.Service.{fit};
+ghost use Rattle.syntax.specs.Repertoire.{Table};
+ghost use Rattle.grammar.specs.Verdict.{verdictOf};
+ghost use Rattle.groups.specs.Groups.{nameAt};
+ghost use Rattle.groups.specs.Calls.{Holds, answeredBy, then};
+ghost use Rattle.ranges.specs.F01.{runIn, f01Of};
+ghost use Rattle.ranges.specs.Referring.{referredIn, Refers, isReferred};
+ghost use Rattle.ranges.specs.Told.{runNumbers, toldRun, RunInside, runPart, startOf, endOf};
+use crate::scopes::Run;
+use crate::scopes::header_of;
+use crate::scopes::own_part;
+use groups::calls::Named;
+use groups::calls::message_named;
+use groups::calls::missing;
+use groups::links::Linked;
+use groups::links::link_named;
+use groups::named::Range;
+use groups::named::Sought;
+use spans::span::Spanned;
+use spans::span::span;
+use syntax::Refusal;
+use syntax::Syntax;
+use syntax::content::part;
+use syntax::content::same_content;
+use syntax::opening::Begun;
+use syntax::opening::begin;
+use syntax::reading::Span;
+use syntax::reading::component_part;
+use syntax::reading::component_span;
+use syntax::repertoire::table;
+use walk::sections::Layout;
+
+// Where a reference stands in the octets, and the release there.
+pub struct Referred {
+    pub start: usize,
+    pub end: usize,
+    pub release: u8,
+}
+
+// The 0020 of the first USX under which a USY names the header; or that there is none; or why the AUTACK's interchange is refused.
+pub enum Reference {
+    At(Referred),
+    Missing,
+    Refused(Refusal),
+}
+
+// The 0020 of the USX that stands at `usx`.
+fn usx_reference(s: &[u8], t: &[u8; 256], y: Syntax, usx: usize) -> Reference
+    requires { ⌜ Table y (now t) ⌝ }
+    ensures { λ r. ⌜ referredIn (now (s .entry)) r ≡ some (nameAt (y .service) (now (s .entry)) usx 1) ⌝ }
+{
+    let v = y.service;
+    match component_span(s, usx, t, y, 1, 0) {
+        Span::Part(a, e) => Reference::At(Referred {
+            start: a,
+            end: e,
+            release: v.release,
+        }),
+        Span::Absent => Reference::At(Referred {
+            start: 0,
+            end: 0,
+            release: v.release,
+        }),
+    }
+}
+
+// In the message that is named: an AUTACK's header has the scope F01, and a USY names it.
+fn reference_in(
+    s: &[u8],
+    t: &[u8; 256],
+    y: Syntax,
+    c: Layout,
+    rows: &[usize; 18],
+    header: &[u8],
+) -> Reference
+    requires { ⌜ Table y (now t) ⌝ }
+    requires { ⌜ T (fit (y .service)) × (c .headers ≤ 9) × (length (now rows) ≡ 18) ⌝ }
+    ensures { λ r. ⌜ ((m : List ℕ) → Holds (now (s .entry)) m y c (now (rows .entry)) → Refers (now (s .entry)) m (now (header .entry)) r) ⌝ }
+{
+    match header_of(s, t, y, c, rows, b"F01", header) {
+        Sought::At(_) => match link_named(s, t, y, c.body, c.tail, header) {
+            Linked::At(x) => usx_reference(s, t, y, x.usx),
+            Linked::Nowhere => Reference::Missing,
+        },
+        Sought::Nowhere => Reference::Missing,
+    }
+}
+
+fn reference_named(s: &[u8], message: &[u8], header: &[u8]) -> Reference
+    ensures { λ r. ⌜ Refers (now (s .entry)) (now (message .entry)) (now (header .entry)) r ⌝ }
+{
+    let mut t = [0u8; 256];
+    let mut rows = [0usize; 18];
+    match message_named(s, message, &mut t, &mut rows) {
+        Named::Message(x) => reference_in(s, &t, x.syntax, x.layout, &rows, header),
+        Named::Missing => Reference::Missing,
+        Named::Refused(f) => Reference::Refused(f),
+    }
+}
+
+// Whether the 0020 of the UNB at `from` is the one that the AUTACK in `autack` refers to.
+fn is_referred(s: &[u8], from: usize, t: &[u8; 256], y: Syntax, autack: &[u8], r: Reference) -> bool
+    requires { ⌜ Table y (now t) ⌝ }
+    ensures { λ b. ⌜ b ≡ isReferred (referredIn (now (autack .entry)) r) (nameAt (y .service) (now (s .entry)) from 5) ⌝ }
+{
+    match r {
+        Reference::At(x) => {
+            let v = y.service;
+            let own = component_part(s, from, t, y, 5, 0);
+            same_content(own, v.release, part(autack, x.start, x.end), x.release)
+        }
+        Reference::Missing => false,
+        Reference::Refused(_) => false,
+    }
+}
+
+// The run of the interchange `s`, if its 0020 is the one that is referred to.
+fn run_of(s: &[u8], autack: &[u8], r: Reference) -> Run
+    ensures { λ x. ⌜ toldRun x ≡ runNumbers (answeredBy (verdictOf (now (s .entry))) (λ i. then (referredIn (now (autack .entry)) r) (runIn i))) ⌝ }
+    ensures { λ x. ⌜ RunInside x (length (now (s .entry))) ⌝ }
+{
+    match begin(s) {
+        Begun::Refused(f) => Run::Refused(f),
+        Begun::Ready(b) => {
+            let y = b.syntax;
+            let at = b.at;
+            let t = table(y);
+            match span(s, at, &t, y) {
+                Spanned::Run(x) => {
+                    if is_referred(s, at, &t, y, autack, r) {
+                        return Run::Of(Range {
+                            start: x.start,
+                            end: x.end,
+                        });
+                    }
+                    Run::Refused(missing())
+                }
+                Spanned::Missing => Run::Refused(missing()),
+                Spanned::Refused(f) => Run::Refused(f),
+            }
+        }
+    }
+}
+
+// Start and end, in `referenced`, of the run that the header `header` of the AUTACK `message` in `autack` seals.
+pub fn f01_places(autack: &[u8], referenced: &[u8], message: &[u8], header: &[u8]) -> Run
+    ensures { λ r. ⌜ toldRun r ≡ runNumbers (f01Of (now (autack .entry)) (now (referenced .entry)) (now (message .entry)) (now (header .entry))) ⌝ }
+    ensures { λ r. ⌜ RunInside r (length (now (referenced .entry))) ⌝ }
+{
+    match reference_named(autack, message, header) {
+        Reference::At(x) => run_of(referenced, autack, Reference::At(x)),
+        Reference::Missing => run_of(referenced, autack, Reference::Missing),
+        Reference::Refused(f) => Run::Refused(f),
+    }
+}
+
+// The run itself: it belongs to `referenced`. Empty and at 0 where it is refused.
+pub fn f01_run<'a, 'r>(
+    autack: &'a [u8],
+    referenced: &'r [u8],
+    message: &[u8],
+    header: &[u8],
+) -> &'r [u8]
+    ensures { λ r. ⌜ now r ≡ slice (startOf (runPart (f01Of (now (autack .entry)) (now (referenced .entry)) (now (message .entry)) (now (header .entry))))) (endOf (runPart (f01Of (now (autack .entry)) (now (referenced .entry)) (now (message .entry)) (now (header .entry))))) (now (referenced .entry)) ⌝ }
+    ensures { λ r. ⌜ ptr r ≡ (ptr (referenced .entry) .0, startOf (runPart (f01Of (now (autack .entry)) (now (referenced .entry)) (now (message .entry)) (now (header .entry)))) + ptr (referenced .entry) .1) ⌝ }
+{
+    match f01_places(autack, referenced, message, header) {
+        Run::Of(r) => own_part(referenced, r.start, r.end),
+        Run::Refused(_) => own_part(referenced, 0, 0),
+    }
+}
