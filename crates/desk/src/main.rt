@@ -1,12 +1,17 @@
 // The desk: a command a line on standard input, an answer line to each, in order. A line is words parted by exactly one space:
 // the command, then its arguments. Octets are lower-case hex, and `-` is the empty string.
 //
-//     judge I          ok
+//     judge I    ok
 //     totals I MREF    ok LOADS GRAMS
+//     scope1 I MREF HREF    ok HS HE BS BE: start and end of the header part, and of the body part
+//     scope2 I MREF HREF    ok START END
+//     f01 A R MREF HREF    ok START END, in R
+//     value I MREF HREF CAP    ok HEX: the octets written into a buffer of CAP
 //
-// Either may answer `refused NUMBER PLACE`. The answer to every other line is `bad`.
+// Each may answer `refused NUMBER PLACE`. The answer to every other line is `bad`.
 ghost use Prim.Native.Nat.{_≤_, _<_};
 ghost use lib.ListN.{length};
+use groups::named::Range;
 use judge::run::Verdict;
 use judge::run::judge;
 use judge::totals::Totals;
@@ -17,8 +22,17 @@ use printing::number;
 use printing::print_refusal;
 use printing::put;
 use printing::text;
+use ranges::f01::f01_places;
+use ranges::scopes::Run;
+use ranges::scopes::Scope1;
+use ranges::scopes::scope1_places;
+use ranges::scopes::scope2_places;
+use syntax::content::Number;
 use syntax::content::content_is;
+use syntax::content::digits_value;
 use syntax::content::part;
+use values::value;
+use writing::Written;
 
 // Where the octets of a hex word end in the room, or that it is no hex word.
 enum Decoded {
@@ -53,6 +67,72 @@ fn print_totals(out: &mut [u8; 4096], n: usize, t: Totals) -> usize {
             put(out, k, b'\n')
         }
         Totals::Refused(f) => print_refusal(out, n, f),
+    }
+}
+
+// Two numbers behind a space each.
+fn print_range(out: &mut [u8; 4096], n: usize, r: Range) -> usize {
+    let mut k = put(out, n, b' ');
+    k = number(out, k, r.start as u64);
+    k = put(out, k, b' ');
+    number(out, k, r.end as u64)
+}
+
+fn print_run(out: &mut [u8; 4096], n: usize, r: Run) -> usize {
+    match r {
+        Run::Of(x) => {
+            let mut k = text(out, n, b"ok");
+            k = print_range(out, k, x);
+            put(out, k, b'\n')
+        }
+        Run::Refused(f) => print_refusal(out, n, f),
+    }
+}
+
+fn print_scope1(out: &mut [u8; 4096], n: usize, r: Scope1) -> usize {
+    match r {
+        Scope1::Of(x) => {
+            let mut k = text(out, n, b"ok");
+            k = print_range(out, k, x.header);
+            k = print_range(out, k, x.body);
+            put(out, k, b'\n')
+        }
+        Scope1::Refused(f) => print_refusal(out, n, f),
+    }
+}
+
+// Half an octet as a digit of hex.
+fn half(n: u8) -> u8 {
+    if n % 16 < 10 {
+        return 48 + n % 16;
+    }
+    87 + n % 16
+}
+
+// Octets as the desk prints them: lower-case hex, `-` for none.
+fn print_hex(out: &mut [u8; 4096], n: usize, v: &[u8]) -> usize {
+    if v.len() == 0 {
+        return put(out, n, b'-');
+    }
+    let mut k = n;
+    let mut i: usize = 0;
+    while i < v.len() {
+        k = put(out, k, half(v[i] / 16));
+        k = put(out, k, half(v[i]));
+        i += 1;
+    }
+    k
+}
+
+// What a call wrote at the front of `written`.
+fn print_written(out: &mut [u8; 4096], n: usize, w: Written, written: &[u8]) -> usize {
+    match w {
+        Written::Length(l) => {
+            let mut k = text(out, n, b"ok ");
+            k = print_hex(out, k, part(written, 0, l));
+            put(out, k, b'\n')
+        }
+        Written::Refused(f) => print_refusal(out, n, f),
     }
 }
 
@@ -134,6 +214,43 @@ fn decode_pairs(h: &[u8], room: &mut [u8; 150000], at: usize) -> Decoded {
     Decoded::To(e)
 }
 
+// A number is 1 to 15 digits.
+fn is_number(w: &[u8]) -> bool {
+    match digits_value(w, b' ') {
+        Number::Is(_) => true,
+        Number::Not => false,
+    }
+}
+
+fn keep_digits(w: &[u8], room: &mut [u8; 150000], at: usize) -> Decoded {
+    let mut k: usize = 0;
+    let mut e = at;
+    while k < w.len() {
+        if 150000 <= e {
+            return Decoded::Bad;
+        }
+        room[e] = w[k];
+        e += 1;
+        k += 1;
+    }
+    Decoded::To(e)
+}
+
+// The length that the digits of an argument give. More than the desk's buffer has is as good as all of it.
+fn capacity(w: &[u8], all: usize) -> usize
+    ensures { λ r. ⌜ r ≤ all ⌝ }
+{
+    match digits_value(w, b' ') {
+        Number::Is(n) => {
+            if n < all as u64 {
+                return n as usize;
+            }
+            all
+        }
+        Number::Not => 0,
+    }
+}
+
 // Where the word at `from` ends: at the next space, or with the line.
 fn word_end(s: &[u8], from: usize) -> usize {
     let mut i = from;
@@ -146,10 +263,13 @@ fn word_end(s: &[u8], from: usize) -> usize {
     i
 }
 
-// Reads one argument as its letter says: `h` is octets in hex. No command has an argument of another kind yet.
+// Reads one argument as its letter says: `h` is octets in hex; `n` is a number, whose digits are kept as they are.
 fn read_argument(w: &[u8], letter: u8, room: &mut [u8; 150000], at: usize) -> Decoded {
     if letter == b'h' {
         return decode(w, room, at);
+    }
+    if is_number(w) {
+        return keep_digits(w, room, at);
     }
     Decoded::Bad
 }
@@ -210,6 +330,64 @@ fn answer_totals(out: &mut [u8; 4096], n: usize, s: &[u8], room: &mut [u8; 15000
     print_bad(out, n)
 }
 
+fn answer_scope1(out: &mut [u8; 4096], n: usize, s: &[u8], room: &mut [u8; 150000]) -> usize {
+    let mut bounds = [0usize; 7];
+    if arguments(s, b"hhh", room, &mut bounds) {
+        let interchange = argument(room, &bounds, 0);
+        let message = argument(room, &bounds, 1);
+        let header = argument(room, &bounds, 2);
+        return print_scope1(out, n, scope1_places(interchange, message, header));
+    }
+    print_bad(out, n)
+}
+
+fn answer_scope2(out: &mut [u8; 4096], n: usize, s: &[u8], room: &mut [u8; 150000]) -> usize {
+    let mut bounds = [0usize; 7];
+    if arguments(s, b"hhh", room, &mut bounds) {
+        let interchange = argument(room, &bounds, 0);
+        let message = argument(room, &bounds, 1);
+        let header = argument(room, &bounds, 2);
+        return print_run(out, n, scope2_places(interchange, message, header));
+    }
+    print_bad(out, n)
+}
+
+fn answer_f01(out: &mut [u8; 4096], n: usize, s: &[u8], room: &mut [u8; 150000]) -> usize {
+    let mut bounds = [0usize; 7];
+    if arguments(s, b"hhhh", room, &mut bounds) {
+        let autack = argument(room, &bounds, 0);
+        let referenced = argument(room, &bounds, 1);
+        let message = argument(room, &bounds, 2);
+        let header = argument(room, &bounds, 3);
+        return print_run(out, n, f01_places(autack, referenced, message, header));
+    }
+    print_bad(out, n)
+}
+
+fn write_value(
+    out: &mut [u8; 4096],
+    n: usize,
+    room: &[u8; 150000],
+    bounds: &[usize; 7],
+    written: &mut [u8],
+) -> usize {
+    let interchange = argument(room, bounds, 0);
+    let message = argument(room, bounds, 1);
+    let header = argument(room, bounds, 2);
+    let most = capacity(argument(room, bounds, 3), written.len());
+    let w = value(interchange, message, header, &mut written[..most]);
+    print_written(out, n, w, written)
+}
+
+fn answer_value(out: &mut [u8; 4096], n: usize, s: &[u8], room: &mut [u8; 150000]) -> usize {
+    let mut bounds = [0usize; 7];
+    if arguments(s, b"hhhn", room, &mut bounds) {
+        let mut written = [0u8; 65536];
+        return write_value(out, n, room, &bounds, &mut written);
+    }
+    print_bad(out, n)
+}
+
 // With a space as release nothing is released, so that the octets are compared as they are.
 fn is_word(w: &[u8], t: &[u8]) -> bool {
     content_is(w, b' ', t)
@@ -224,6 +402,29 @@ fn answer(out: &mut [u8; 4096], n: usize, s: &[u8], room: &mut [u8; 150000]) -> 
     }
     if is_word(command, b"totals") {
         return answer_totals(out, n, rest, room);
+    }
+    answer_sealed(out, n, rest, room, command)
+}
+
+// The commands on what is sealed.
+fn answer_sealed(
+    out: &mut [u8; 4096],
+    n: usize,
+    rest: &[u8],
+    room: &mut [u8; 150000],
+    command: &[u8],
+) -> usize {
+    if is_word(command, b"scope1") {
+        return answer_scope1(out, n, rest, room);
+    }
+    if is_word(command, b"scope2") {
+        return answer_scope2(out, n, rest, room);
+    }
+    if is_word(command, b"f01") {
+        return answer_f01(out, n, rest, room);
+    }
+    if is_word(command, b"value") {
+        return answer_value(out, n, rest, room);
     }
     print_bad(out, n)
 }
