@@ -109,10 +109,10 @@ fn laid_out(st: State, x: Spots, at: usize, next: usize) -> Layout
         tail: x.tail,
         unt: at,
         end: next,
-        headers: m.headers,
+        headers: m.headers as usize,
         trailers: x.trailers,
         auto: m.auto,
-        loads: u.loads,
+        loads: u.loads as usize,
         grams: u.grams,
         reference: w,
     }
@@ -155,7 +155,7 @@ fn to_unt(
     let mut at = from;
     while at < s.len() {
         let m = st.message;
-        let n = nameable(s, at, m.headers);
+        let n = nameable(s, at, m.headers as usize);
         let mut found = n;
         let mut i: usize = 0;
         while i < n {
