@@ -1,10 +1,11 @@
 -- The loop over the segments of a section: what holds at its head, and one law for each way through it.
-use Prim.Native.Nat.{ℕ, _≤_, _<_}
+use Prim.Native.Nat.{ℕ, _-_, _≤_, _<_}
 use native.Mathlib.Omega.{arith}
 use mathlib.Core.Path.{_≡_, refl, ap, sym, _∙_, subst}
 use mathlib.Core.Bool.{Bool, true, false, false≢true}
 use mathlib.Core.List.{List}
-use lib.ListN.{length}
+use lib.ListN.{length, take}
+use lib.Seq.{take-all}
 use Rattle.syntax.specs.declared.Syntax.{Syntax}
 use Rattle.message.specs.declared.Group.{Group}
 use Rattle.message.specs.declared.Group.the-variants.{Opened as Fresh}
@@ -19,6 +20,7 @@ use Rattle.walk.specs.SectionLaws.{Since, row-room, within-on, within-cl
 use Rattle.walk.specs.declared.layout.Spots.{Spots}
 use Rattle.walk.specs.declared.sections.Layout.{Layout}
 use Rattle.walk.specs.declared.sections.Section.{Section}
+use Rattle.walk.specs.declared.sections.Reached.{Reached}
 use Rattle.walk.specs.declared.sections.Reached.the-variants.{On}
 
 -- nothing of the section was read, or the message that its first segment opened is still open
@@ -130,3 +132,17 @@ module _ {y : Syntax} {s : List ℕ} {x₀ : State} {h₀ l₀ b₀ : List ℕ} 
       section-closed w (u .tree) h l b rows (On r)
       (subst (λ (k : Section). AtUnt y s from i₀ (u .u) (u .ms) k h l b rows) (sym e)
       (record { walks = u .within .walks; long = n; by = (u .within .o, (u .within .tree, z)) }))
+
+-- ---- a slice of all the octets holds the octets
+
+whole : (s : List ℕ) → take (length s - 0) s ≡ s
+whole s = take-all (length s - 0) s (omega arith)
+
+pub starting-whole : {y : Syntax} {s : List ℕ} {x : State} {h l b : List ℕ} {i : ℕ} {rows m : List ℕ} → Starting y s x h l b i rows m
+    → Starting y (take (length s - 0) s) x h l b i rows m
+starting-whole {y} {s} {x} {h} {l} {b} {i} {rows} {m} g = subst (λ (z : List ℕ). Starting y z x h l b i rows m) (sym (whole s)) g
+
+module _ (y : Syntax) (s : List ℕ) (x : State) (h l b : List ℕ) (i : ℕ) (r : Reached) (h′ l′ b′ rows : List ℕ) where
+  pub section-whole : ((from : ℕ) (w : Walking y (take (length s - 0) s) from x h l b i) → SectionIs w r h′ l′ b′ rows)
+      → (from : ℕ) (w : Walking y s from x h l b i) → SectionIs w r h′ l′ b′ rows
+  section-whole f = subst (λ (z : List ℕ). (from : ℕ) (w : Walking y z from x h l b i) → SectionIs w r h′ l′ b′ rows) (whole s) f

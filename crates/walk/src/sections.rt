@@ -127,9 +127,10 @@ fn passed(state: State, next: usize, closed: bool, layout: Layout) -> Section
     }
 }
 
-// What stands at `from`, between messages or before UNB: UNB, a whole message, or UNZ. Each UST names a header not yet named: that is searched for
-// here. One loop for every segment, with the one call of `advance`: so the state stays in its place, and is not copied with each segment.
-pub fn next_section(
+// A section by octets whose place no store can change: what stands at `from`, between messages or before UNB. Each UST names a header not yet named:
+// that is searched for here. One loop for every segment, with the one call of `advance`: so the state stays in its place, and is not copied with
+// each segment.
+fn section_in(
     s: &[u8],
     from: usize,
     t: &[u8; 256],
@@ -182,4 +183,38 @@ pub fn next_section(
     }
     let l = laid_out(st, x, at, at);
     Reached::On(passed(st, at, false, l))
+}
+
+// What stands at `from`, between messages or before UNB: UNB, a whole message, or UNZ. The octets go on as a slice of this call's own: of a lent one
+// the compiler reads place and length again behind each store.
+pub fn next_section(
+    s: &[u8],
+    from: usize,
+    t: &[u8; 256],
+    y: Syntax,
+    begun: State,
+    marks: &mut [usize],
+    heads: &mut [usize; 36],
+    names: &mut [u64],
+    slots: &mut [u16],
+    rows: &mut [usize; 18],
+) -> Reached
+    requires { ⌜ Table y (now t) ⌝ }
+    requires { ⌜ Starting y (now s) begun (now heads) (now names) (now slots) from (now rows) (now marks) ⌝ }
+    ensures { λ r. ⌜ ((b : ℕ) (w : Walking y (now (s .entry)) b begun (now (heads .entry)) (now (names .entry)) (now (slots .entry)) from) → SectionIs w r (now (heads .exit)) (now (names .exit)) (now (slots .exit)) (now (rows .exit))) ⌝ }
+    ensures { λ r. ⌜ length (now (marks .exit)) ≡ 40 ⌝ }
+{
+    let n = s.len();
+    section_in(
+        &s[0..n],
+        from,
+        t,
+        y,
+        begun,
+        marks,
+        heads,
+        names,
+        slots,
+        rows,
+    )
 }
