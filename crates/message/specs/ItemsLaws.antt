@@ -211,10 +211,10 @@ module _ (σ : Service) (s : List ℕ) (at : ℕ) (m : Message) where
 
 -- what `with_load` asks
 pub load-fits : (c z : List ℕ) (m : Message) {q : amounts.Unit} {g : Form} {y : Amount} {i : ℕ} →
-    (m .segments < 65536) × (m .sums .loads ≤ m .segments) × (m .sums .grams ≤ m .segments * 1000000000000) →
+    (m .segments < 65535) × (m .sums .loads ≤ m .segments) × (m .sums .grams ≤ m .segments * 1000000000000) →
     q ≡ unitIs (unit c (shape 9 3) (shape 6 6)) → q ≡ Of g →
     y ≡ amountIs (amountRight (shape (g .whole) (g .decimals)) z) (grams (shape (g .whole) (g .decimals)) z) → y ≡ Grams i →
-    (m .sums .loads < 4294967296) × (m .sums .grams + i < 18446744073709551616)
+    (m .sums .loads < 65535) × (m .sums .grams + i < 18446744073709551616)
 load-fits c z m h d o v b =
     let n = weighs-below c 9 6 d z o v (refl, refl) b in
     (omega (arith, h .0, h .1), omega (arith, n, h .0, h .2))

@@ -172,7 +172,7 @@ roomy-grown q g z = record {
 
 -- ---- USA, USC, and the USR of a certificate
 
-module _ {m : Message} {h : List ℕ} (g : Roomy m h) (f : m .segments < 65536) where
+module _ {m : Message} {h : List ℕ} (g : Roomy m h) (f : m .segments < 65535) where
   pub bump-room : (0 < m .headers → getD h (4 * (m .headers - 1) + 2) 0 < 2 ^ 32)
   bump-room l = small-last (roomy-small g) (omega (arith, f)) l
 

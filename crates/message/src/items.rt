@@ -31,7 +31,7 @@ use syntax::content::content_is;
 
 // One segment more in the group `g`, with these sums.
 fn with_sums(m: Message, g: Group, u: Sums) -> Moved
-    requires { ⌜ m .segments < 65536 ⌝ }
+    requires { ⌜ m .segments < 65535 ⌝ }
     ensures { λ r. ⌜ r ≡ To (grownWith m g u) ⌝ }
 {
     let p = m.pair;
@@ -49,7 +49,7 @@ fn with_sums(m: Message, g: Group, u: Sums) -> Moved
 pub fn on_qty(s: &[u8], at: usize, y: Syntax, m: Message, f: Shape, marks: &[usize]) -> Moved
     requires { ⌜ Fields (y .service) (now s) at (f .size) (f .repeats) (now marks) ⌝ }
     requires { ⌜ kindOf (askedAt (y .service) (now s) at .tag) ≡ Qty ⌝ }
-    requires { ⌜ (m .segments < 65536) × (m .sums .loads ≤ m .segments) × (m .sums .grams ≤ m .segments * 1000000000000) ⌝ }
+    requires { ⌜ (m .segments < 65535) × (m .sums .loads ≤ m .segments) × (m .sums .grams ≤ m .segments * 1000000000000) ⌝ }
     ensures { λ r. ⌜
         ((u w : ℕ) (h : List ℕ) → Roomy m h →
         MovedIs (qtyM (summaryIn (y .service .release) (now (s .entry)) m u w h) (askedAt (y .service) (now (s .entry)) at)) r (y .service .release) (now (s .entry)) u w h) ⌝ }
@@ -75,7 +75,7 @@ pub fn on_qty(s: &[u8], at: usize, y: Syntax, m: Message, f: Shape, marks: &[usi
 pub fn on_cnt(s: &[u8], at: usize, y: Syntax, m: Message, marks: &[usize]) -> Moved
     requires { ⌜ Marked (y .service) (now s) at (now marks) ⌝ }
     requires { ⌜ (kindOf (askedAt (y .service) (now s) at .tag) ≡ Cnt) × (controlRight (askedAt (y .service) (now s) at) ≡ true) ⌝ }
-    requires { ⌜ m .segments < 65536 ⌝ }
+    requires { ⌜ m .segments < 65535 ⌝ }
     ensures { λ r. ⌜
         ((u w : ℕ) (h : List ℕ) → Roomy m h →
         MovedIs (toM (itemNext (summaryIn (y .service .release) (now (s .entry)) m u w h) (controlled (m .sums) (controlIn (askedAt (y .service) (now (s .entry)) at))))) r (y .service .release) (now (s .entry)) u w h) ⌝ }
@@ -96,7 +96,7 @@ pub fn on_cnt(s: &[u8], at: usize, y: Syntax, m: Message, marks: &[usize]) -> Mo
 
 // Any other segment of a body.
 pub fn on_other(m: Message) -> Moved
-    requires { ⌜ m .segments < 65536 ⌝ }
+    requires { ⌜ m .segments < 65535 ⌝ }
     ensures { λ r. ⌜
         ((ρ : ℕ) (s : List ℕ) (u w : ℕ) (h : List ℕ) → Roomy m h → MovedIs (toM (itemNext (summaryIn ρ s m u w h) (m .sums))) r ρ s u w h) ⌝ }
 {
@@ -106,7 +106,7 @@ pub fn on_other(m: Message) -> Moved
 
 // USB begins the body of AUTACK.
 pub fn on_usb(m: Message) -> Moved
-    requires { ⌜ m .segments < 65536 ⌝ }
+    requires { ⌜ m .segments < 65535 ⌝ }
     ensures { λ r. ⌜
         ((ρ : ℕ) (s : List ℕ) (u w : ℕ) (h : List ℕ) → Roomy m h → MovedIs (toM (usbNext (summaryIn ρ s m u w h))) r ρ s u w h) ⌝ }
 {

@@ -80,7 +80,7 @@ pub fn usc_group(g: Group) -> Group
 
 // One segment more, in the group g.
 pub fn grown_to(m: Message, g: Group) -> Message
-    requires { ⌜ m .segments < 4294967296 ⌝ }
+    requires { ⌜ m .segments < 65535 ⌝ }
     ensures { λ r. ⌜ r ≡ grown m g ⌝ }
 {
     let u = m.sums;
@@ -97,19 +97,13 @@ pub fn grown_to(m: Message, g: Group) -> Message
 
 // All trailers so far count right.
 pub fn all_even(p: Pair) -> bool
-    requires { ⌜ (p .base < 4294967296) × (p .own < 4294967296) ⌝ }
+    requires { ⌜ (p .base < 65536) × (p .own < 65536) ⌝ }
     ensures { λ r. ⌜ r ≡ evenAll p ⌝ }
 {
     if p.even {
-        return p.claim == wide(p.base + p.own);
+        return p.claim == p.base + p.own as u32;
     }
     false
-}
-
-fn wide(n: usize) -> u64
-    ensures { λ r. ⌜ r ≡ n ⌝ }
-{
-    n as u64
 }
 
 // The control totals are the sum of the loads.
@@ -127,7 +121,7 @@ pub fn totals_right(u: Sums) -> bool
 
 // A load more.
 pub fn with_load(u: Sums, grams: u64) -> Sums
-    requires { ⌜ (u .loads < 4294967296) × (u .grams + grams < 18446744073709551616) ⌝ }
+    requires { ⌜ (u .loads < 65535) × (u .grams + grams < 18446744073709551616) ⌝ }
     ensures { λ r. ⌜ r ≡ loaded u (some grams) ⌝ }
 {
     Sums {

@@ -22,18 +22,18 @@ pub enum Group {
 
 // A message's loads so far: how many, their grams; of its control totals whether there is one, the first, and whether the others equal it.
 pub struct Sums {
-    pub loads: usize,
     pub grams: u64,
     pub control: u64,
+    pub loads: u32,
     pub controlled: bool,
     pub agree: bool,
 }
 
 // A message's trailers so far: whether all but the last count right; of the last what it claims, the segments of its header, and its own.
 pub struct Pair {
-    pub claim: u64,
-    pub base: usize,
-    pub own: usize,
+    pub claim: u32,
+    pub base: u32,
+    pub own: u16,
     pub even: bool,
 }
 
@@ -41,8 +41,8 @@ pub struct Pair {
 pub struct Message {
     pub sums: Sums,
     pub pair: Pair,
-    pub segments: usize,
-    pub headers: usize,
+    pub segments: u32,
     pub group: Group,
+    pub headers: u16,
     pub auto: bool,
 }

@@ -122,7 +122,7 @@ fn usy_may(g: Group) -> bool
     }
 }
 
-fn ush_may(g: Group, headers: usize) -> bool
+fn ush_may(g: Group, headers: u16) -> bool
     ensures { λ r. ⌜ r ≡ (atHeads g && ltb headers 9) ⌝ }
 {
     if at_heads(g) {
@@ -131,7 +131,7 @@ fn ush_may(g: Group, headers: usize) -> bool
     false
 }
 
-fn usb_may(g: Group, auto: bool, headers: usize) -> bool
+fn usb_may(g: Group, auto: bool, headers: u16) -> bool
     ensures { λ r. ⌜ r ≡ (atHeads g && (auto && ltb 0 headers)) ⌝ }
 {
     if at_heads(g) {

@@ -52,7 +52,7 @@ fn scope_right(s: &[u8], at: usize, y: Syntax, marks: &[usize], auto: bool) -> b
 
 // The message with a header more.
 fn with_header(m: Message) -> Message
-    requires { ⌜ (m .headers < 9) × (m .segments < 65536) ⌝ }
+    requires { ⌜ (m .headers < 9) × (m .segments < 65535) ⌝ }
     ensures { λ r. ⌜ r ≡ headed m ⌝ }
 {
     let u = m.sums;
@@ -78,12 +78,12 @@ pub fn on_ush(
 ) -> Moved
     requires { ⌜ Marked (y .service) (now s) at (now marks) ⌝ }
     requires { ⌜ Roomy m (now heads) ⌝ }
-    requires { ⌜ (m .headers < 9) × (m .segments < 65536) × (length (now heads) ≡ 36) ⌝ }
+    requires { ⌜ (m .headers < 9) × (m .segments < 65535) × (length (now heads) ≡ 36) ⌝ }
     ensures { λ r. ⌜ ((u w : ℕ) → MovedIs (ushM (summaryIn (y .service .release) (now (s .entry)) m u w (now (heads .entry))) (askedAt (y .service) (now (s .entry)) at)) r (y .service .release) (now (s .entry)) u w (now (heads .exit))) ⌝ }
     ensures { λ r. ⌜ length (now (heads .exit)) ≡ 36 ⌝ }
 {
     let v = y.service;
-    let n = m.headers;
+    let n = m.headers as usize;
     let x = field(s, at, y, marks, 2, 0);
     if header_named(s, v.release, heads, n, x) {
         return Moved::Bad(9);
@@ -100,17 +100,18 @@ pub fn on_ush(
 // A USA, a USC or a USR of the header group now open: a segment more in it.
 pub fn in_header(m: Message, g: Group, heads: &mut [usize; 36]) -> Moved
     requires { ⌜ Roomy m (now heads) ⌝ }
-    requires { ⌜ (m .segments < 65536) × (length (now heads) ≡ 36) ⌝ }
+    requires { ⌜ (m .segments < 65535) × (length (now heads) ≡ 36) ⌝ }
     ensures { λ r. ⌜ ((ρ : ℕ) (s : List ℕ) (u w : ℕ) → MovedIs (toM (grownBy (summaryIn ρ s m u w (now (heads .entry))) g (bump (headSizes (now (heads .entry)) (m .headers))))) r ρ s u w (now (heads .exit))) ⌝ }
     ensures { λ r. ⌜ length (now (heads .exit)) ≡ 36 ⌝ }
 {
-    bump_header(heads, m.headers);
+    let n = m.headers as usize;
+    bump_header(heads, n);
     Moved::To(grown_to(m, g))
 }
 
 // A USR of the trailer group now open: a segment more in it.
 fn in_trailer(m: Message) -> Message
-    requires { ⌜ (m .segments < 65536) × (m .pair .own < 65536) ⌝ }
+    requires { ⌜ (m .segments < 65535) × (m .pair .own < 65535) ⌝ }
     ensures { λ r. ⌜ r ≡ ownGrown m ⌝ }
 {
     let u = m.sums;
@@ -133,7 +134,7 @@ fn in_trailer(m: Message) -> Message
 // A USR: the certificate's, or the trailer's; elsewhere it may not come.
 pub fn on_usr(m: Message, heads: &mut [usize; 36]) -> Moved
     requires { ⌜ Roomy m (now heads) ⌝ }
-    requires { ⌜ (m .segments < 65536) × (length (now heads) ≡ 36) ⌝ }
+    requires { ⌜ (m .segments < 65535) × (length (now heads) ≡ 36) ⌝ }
     ensures { λ r. ⌜ ((ρ : ℕ) (s : List ℕ) (u w : ℕ) → MovedIs (toM (usrNext (summaryIn ρ s m u w (now (heads .entry))) (m .group))) r ρ s u w (now (heads .exit))) ⌝ }
     ensures { λ r. ⌜ length (now (heads .exit)) ≡ 36 ⌝ }
 {
@@ -162,8 +163,8 @@ pub fn number_in(s: &[u8], at: usize, y: Syntax, marks: &[usize], p: usize) -> u
 }
 
 // The message with a trailer more, which claims this and names a header of `base` segments.
-fn with_trailer(m: Message, claim: u64, base: usize) -> Message
-    requires { ⌜ (m .segments < 65536) × (m .pair .base < 4294967296) × (m .pair .own < 4294967296) ⌝ }
+fn with_trailer(m: Message, claim: u32, base: u32) -> Message
+    requires { ⌜ (m .segments < 65535) × (m .pair .base < 65536) × (m .pair .own < 65536) ⌝ }
     ensures { λ r. ⌜ r ≡ trailed m claim base ⌝ }
 {
     let u = m.sums;
@@ -196,19 +197,20 @@ pub fn on_ust(
 ) -> Moved
     requires { ⌜ Marked (y .service) (now s) at (now marks) ⌝ }
     requires { ⌜ Roomy m (now heads) ⌝ }
-    requires { ⌜ (m .segments < 65536) × (length (now heads) ≡ 36) ⌝ }
+    requires { ⌜ (m .segments < 65535) × (length (now heads) ≡ 36) ⌝ }
     requires { ⌜ inRange (digits 1 6) (textAt (y .service) (now s) at 2 0) ≡ true ⌝ }
     requires { ⌜ Sought (y .service) (now s) at m (now heads) i ⌝ }
     ensures { λ r. ⌜ ((u w : ℕ) → MovedIs (ustM (summaryIn (y .service .release) (now (s .entry)) m u w (now (heads .entry))) (askedAt (y .service) (now (s .entry)) at) (freeAt (textAt (y .service) (now (s .entry)) at 1 0) (headRefs (y .service .release) (now (s .entry)) (now (heads .entry)) (m .headers)) (headFlags (now (heads .entry)) (m .headers)))) r (y .service .release) (now (s .entry)) u w (now (heads .exit))) ⌝ }
     ensures { λ r. ⌜ length (now (heads .exit)) ≡ 36 ⌝ }
 {
-    let n = m.headers;
+    let n = m.headers as usize;
     if n <= i {
         return Moved::Bad(9);
     }
     let base = heads[4 * i + 2];
     name_header(heads, n, i);
-    Moved::To(with_trailer(m, number_in(s, at, y, marks, 2), base))
+    let claim = number_in(s, at, y, marks, 2);
+    Moved::To(with_trailer(m, claim as u32, base as u32))
 }
 
 // A USY: it names a USH of its message.
@@ -222,12 +224,13 @@ pub fn on_usy(
 ) -> Moved
     requires { ⌜ Marked (y .service) (now s) at (now marks) ⌝ }
     requires { ⌜ Roomy m (now heads) ⌝ }
-    requires { ⌜ m .segments < 65536 ⌝ }
+    requires { ⌜ m .segments < 65535 ⌝ }
     ensures { λ r. ⌜ ((u w : ℕ) → MovedIs (usyM (summaryIn (y .service .release) (now (s .entry)) m u w (now (heads .entry))) (askedAt (y .service) (now (s .entry)) at)) r (y .service .release) (now (s .entry)) u w (now (heads .entry))) ⌝ }
 {
     let v = y.service;
+    let n = m.headers as usize;
     let x = field(s, at, y, marks, 1, 0);
-    if header_named(s, v.release, heads, m.headers, x) {
+    if header_named(s, v.release, heads, n, x) {
         return Moved::To(grown_to(m, Group::Ack(true, true)));
     }
     Moved::Bad(9)

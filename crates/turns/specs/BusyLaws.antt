@@ -265,7 +265,7 @@ module _ (ρ : ℕ) (s : List ℕ) (st : State) (h l b : List ℕ) (p q : ℕ) (
 
 module _ {y : Syntax} {s : List ℕ} {st : State} {h l b : List ℕ} {p q : ℕ} {k : Kind} {f : Shape} {marks : List ℕ} (g : Ready y s st h l b p q k f marks)
     (busy : st .phase ≡ Busy) where
-  pub busy-room : st .message .segments < 65536
+  pub busy-room : st .message .segments < 65535
   busy-room =
       let t : 8 * st .count + 4 * st .message .segments ≤ p = subst (λ (x : Phase). 8 * st .count + 4 * openSize x (st .message) ≤ p) busy (g .held .taken) in
       omega (arith, t, g .ends, g .inside, g .held .short)

@@ -368,7 +368,7 @@ module _ (y : Syntax) (s : List ℕ) (st : State) (h l b : List ℕ) (at next : 
         let i = g .held .begun in
         (omega (arith, t, n, o, k, z, i), omega (arith, t, n, o, k, z, i), g .held .named)
 
-    pub unt-sums : (st .message .segments < 65536) × (st .message .pair .base < 4294967296) × (st .message .pair .own < 4294967296)
+    pub unt-sums : (st .message .segments < 65535) × (st .message .pair .base < 65536) × (st .message .pair .own < 65536)
     unt-sums =
         let t = unt-taken in
         let n = g .ends in

@@ -90,7 +90,7 @@ pub struct State {
     pub message: Message,
     pub unb: Stretch,
     pub unh: Stretch,
-    pub count: usize,
+    pub count: u32,
     pub phase: Phase,
 }
 
@@ -217,7 +217,7 @@ fn on_unh(
         v.release,
         names,
         slots,
-        st.count,
+        st.count as usize,
         field(s, at, y, marks, 1, 0),
     ) {
         return stopped(9, at);
@@ -237,7 +237,7 @@ fn on_unh(
     })
 }
 
-fn wide(n: usize) -> u64
+fn wide(n: u32) -> u64
     ensures { λ r. ⌜ r ≡ n ⌝ }
 {
     n as u64
@@ -296,7 +296,7 @@ fn on_unz(
 fn counts_right(s: &[u8], at: usize, y: Syntax, m: Message, marks: &[usize]) -> bool
     requires { ⌜ Marked (y .service) (now s) at (now marks) ⌝ }
     requires { ⌜ inRange (digits 1 6) (textAt (y .service) (now s) at 1 0) ≡ true ⌝ }
-    requires { ⌜ (m .segments < 65536) × (m .pair .base < 4294967296) × (m .pair .own < 4294967296) ⌝ }
+    requires { ⌜ (m .segments < 65535) × (m .pair .base < 65536) × (m .pair .own < 65536) ⌝ }
     ensures { λ r. ⌜ r ≡ (eqb (numberIn (askedAt (y .service) (now (s .entry)) at) 1) (m .segments + 1) && (evenAll (m .pair) && totalRight (m .sums))) ⌝ }
 {
     let p = m.pair;
@@ -338,7 +338,7 @@ fn refs_right(
     ) {
         return false;
     }
-    all_named(heads, m.headers)
+    all_named(heads, m.headers as usize)
 }
 
 // UNT of the open message: 7, 8, 9, 10; its 0062 joins the references.
@@ -375,7 +375,7 @@ fn on_unt(
     }
     let a = w.start;
     let e = w.end;
-    note(s, v.release, names, slots, st.count, a, e);
+    note(s, v.release, names, slots, st.count as usize, a, e);
     let u = st.unb;
     Step::On(State {
         phase: Phase::Idle,
@@ -401,7 +401,7 @@ fn step_in(
     requires { ⌜ k ≡ kindOf (slice at (at + 3) (now s)) ⌝ }
     requires { ⌜ (looked k ≡ true → Fields (y .service) (now s) at (f .size) (f .repeats) (now marks)) ⌝ }
     requires { ⌜ Roomy m (now heads) ⌝ }
-    requires { ⌜ (m .segments < 65536) × (length (now heads) ≡ 36) ⌝ }
+    requires { ⌜ (m .segments < 65535) × (length (now heads) ≡ 36) ⌝ }
     requires { ⌜ (mayCome k m ≡ true) × (formed (y .version) (askedAt (y .service) (now s) at) ≡ true) ⌝ }
     requires { ⌜ (k ≡ Ust → Sought (y .service) (now s) at m (now heads) found) ⌝ }
     ensures { λ r. ⌜ ((u w : ℕ) → MovedIs (stepM k (summaryIn (y .service .release) (now (s .entry)) m u w (now (heads .entry))) (askedAt (y .service) (now (s .entry)) at)) r (y .service .release) (now (s .entry)) u w (now (heads .exit))) ⌝ }

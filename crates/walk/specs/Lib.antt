@@ -3,3 +3,4 @@ pub mod Layout
 pub mod LayoutLaws
 pub mod Sections
 pub mod SectionLaws
+pub mod Sectioning

@@ -43,8 +43,8 @@ use Rattle.message.specs.declared.Message.{Message as Kept}
 use Rattle.turns.specs.Held.{phased, stateIn}
 use Rattle.walk.specs.Layout.{spotsOf, spotStep, rowStep, RowRoom, Rows}
 use Rattle.walk.specs.LayoutLaws.{place-on, spots-on, spots-open, rows-on, rows-open, room-on}
-use Rattle.walk.specs.RunLaws.{isDone, isBusy, answerFrom, Walking, Onward, Going, going, long-print}
-use Rattle.walk.specs.Sections.{nameableIn, laidOut, autoO, Stays, begins, ends, breaks, Laid, Within, Inside, UntBy, AtUnt, SectionBy, Passing, SectionIs, UntIs, Starting}
+use Rattle.walk.specs.RunLaws.{isDone, isBusy, answerFrom, Walking, Onward, long-print}
+use Rattle.walk.specs.Sections.{nameableIn, laidOut, autoO, Stays, begins, ends, breaks, Laid, Within, UntBy, AtUnt, SectionBy, Passing, SectionIs, UntIs, Starting}
 use Rattle.walk.specs.declared.layout.Spots.{Spots}
 use Rattle.walk.specs.declared.sections.Layout.{Layout}
 use Rattle.walk.specs.declared.sections.Section.{Section}
@@ -313,34 +313,6 @@ module _ {y : Syntax} {s : List ℕ} {from p : ℕ} {u : Leaf} {ms : Snoc Messag
               ),
             )
 
-pub unt-as : (y : Syntax) (s : List ℕ) (from p : ℕ) (u : Leaf) (ms : Snoc Message) {c d : Section} (h l b rows : List ℕ) → c ≡ d → AtUnt y s from p u ms d h l b rows → AtUnt y s from p u ms c h l b rows
-unt-as y s from p u ms h l b rows e q = subst (λ (a : Section). AtUnt y s from p u ms a h l b rows) (sym e) q
-
--- ---- the walk to the UNT: what holds at its head, since the state that it started with
-
-pub record Crossing (y : Syntax) (s : List ℕ) (x₀ : State) (h₀ l₀ b₀ : List ℕ) (i₀ : ℕ) (q₀ : Spots) (rows₀ : List ℕ) (x : State) (h l b : List ℕ) (i : ℕ) (q : Spots) (rows m : List ℕ) : Type 0 where
-  pub inside : Inside y s x h l b i q rows m
-  pub since : (from p : ℕ) (u : Leaf) (ms : Snoc Message) → Within y s from p u ms x₀ h₀ l₀ b₀ i₀ q₀ rows₀ → Within y s from p u ms x h l b i q rows
-  pub names : length l ≡ length l₀
-  pub slots : length b ≡ length b₀
-
--- all that a turn needs
-module _ {y : Syntax} {s : List ℕ} {x : State} {h l b : List ℕ} {i : ℕ} {q : Spots} {rows m : List ℕ} (n : Inside y s x h l b i q rows m) where
-  pub inside-short : i < length s → i < 65536
-  inside-short k = let a = n .within .walks .held .short in omega (arith, a, k)
-
-  pub inside-headers : x .message .headers ≤ 9
-  inside-headers = n .within .walks .held .roomy .headers
-
-  pub inside-going : i < length s → Going y s x h l b i m
-  inside-going k = going (n .within .walks) (n .fits) k (ap isDone (busy-now (n .within))) (n .marks)
-
-  pub inside-on : {a : Ahead} {h′ l′ b′ m′ : List ℕ} (f : Onward (n .within .walks) a h′ l′ b′) → isBusy (a .state .phase) ≡ true → length m′ ≡ 40
-      → {q′ : Spots} {rows′ : List ℕ} → q′ ≡ spotStep (a .state .message .group) q i (a .next)
-      → rows′ ≡ rowStep (a .state .message .group) rows (a .state .message .headers) (q .trailers) i
-      → Inside y s (a .state) h′ l′ b′ (a .next) q′ rows′ m′
-  inside-on f t k c d = record { fits = n .fits; marks = k; from = n .from; p = n .p; u = n .u; ms = n .ms; within = within-on (n .within) f t c d }
-
 -- ---- a section from its first segment
 
 done-phased : (p : Phase) (b : List ℕ) (t : Snoc (List ℕ)) (R : Summary) → doneS ≡ phased p b t R → isBusy p ≡ false
@@ -349,18 +321,12 @@ done-phased Idle b t R e = refl
 done-phased Busy b t R e = let z : _≡_ {A = ℕ} 0 1 = cc in absurd (omega arith)
 done-phased Done b t R e = refl
 
-module _ {y : Syntax} {s : List ℕ} {x : State} {h l b : List ℕ} {i : ℕ} {rows m : List ℕ} (g : Starting y s x h l b i rows m) where
-  pub starting-going : Going y s x h l b i m
-  starting-going = going (g .walks) (g .fits) (g .left) (g .before) (g .marks)
-
-  pub starting-none : {A : Type 0} → x .phase ≡ Busy → A
-  starting-none e = absurd (false≢true (sym (g .between) ∙ ap isBusy e))
-
-pub record Begun {y : Syntax} {s : List ℕ} {from : ℕ} {x : State} {h l b : List ℕ} {i : ℕ} (w : Walking y s from x h l b i) (a : Ahead) (h′ l′ b′ : List ℕ) (q : Spots) (rows : List ℕ) : Type 0 where
+-- the message that the section opened, up to i
+pub record Since {y : Syntax} {s : List ℕ} {from : ℕ} {x₀ : State} {h₀ l₀ b₀ : List ℕ} {i₀ : ℕ} (w : Walking y s from x₀ h₀ l₀ b₀ i₀) (x : State) (h l b : List ℕ) (i : ℕ) (q : Spots) (rows : List ℕ) : Type 0 where
   pub u : Leaf
   pub ms : Snoc Message
   pub tree : w .tree ≡ idle u ms
-  pub within : Within y s from i u ms (a .state) h′ l′ b′ (a .next) q rows
+  pub within : Within y s from i₀ u ms x h l b i q rows
 
 module _ {y : Syntax} {s : List ℕ} {from : ℕ} {x : State} {h l b : List ℕ} {i : ℕ} (w : Walking y s from x h l b i) (n : isBusy (x .phase) ≡ false)
     {a : Ahead} {h′ l′ b′ : List ℕ} (f : Onward w a h′ l′ b′) where
@@ -371,13 +337,14 @@ module _ {y : Syntax} {s : List ℕ} {from : ℕ} {x : State} {h l b : List ℕ}
   from-tree z e = ap (λ (r : Reading). place r (f .g)) (sym e) ∙ f .passed .placed
 
   -- a message was opened
-  pub section-open : isBusy (a .state .phase) ≡ true → {rows : List ℕ} → length rows ≡ 18 → {q : Spots} → ((r : Spots) → q ≡ spotStep Fresh r i (a .next)) → Begun w a h′ l′ b′ q rows
+  pub section-open : isBusy (a .state .phase) ≡ true → {rows : List ℕ} → length rows ≡ 18 → {q : Spots} → ((r : Spots) → q ≡ spotStep Fresh r i (a .next))
+      → (a .state .message .group ≡ Fresh) × Since w (a .state) h′ l′ b′ (a .next) q rows
   section-open t {rows} k {q} c = by (w .tree) refl (f .walks .tree) refl
     where
       closed : {A : Type 0} (v : Leaf) (ns : Snoc Message) → f .walks .tree ≡ idle v ns → A
       closed v ns e = absurd (false≢true (sym (idle-phased (a .state .phase) _ _ _ (ap stateOf (sym e) ∙ f .walks .same)) ∙ t))
 
-      by : (r : Reading) → w .tree ≡ r → (z : Reading) → f .walks .tree ≡ z → Begun w a h′ l′ b′ q rows
+      by : (r : Reading) → w .tree ≡ r → (z : Reading) → f .walks .tree ≡ z → (a .state .message .group ≡ Fresh) × Since w (a .state) h′ l′ b′ (a .next) q rows
       by start e z d = let j = begin-placed (f .g) (from-tree start e) in closed (elementsOf (f .g)) nil (j .fresh)
       by (busy v ns o) e z d = was-open v ns o e
       by (done v ns r) e z d = absurd (leads-placed (done v ns r) (f .g) (from-tree (done v ns r) e))
@@ -388,19 +355,22 @@ module _ {y : Syntax} {s : List ℕ} {from : ℕ} {x : State} {h l b : List ℕ}
           let j = open-placed (f .g) (from-tree (idle u ms) e ∙ ap some d) in
           let r : busy v ns o ≡ busy u ms (msg (elementsOf (f .g)) nil (plain nil) nil) = rw (j .unb, j .messages, j .fresh) in
           let z : a .next ≡ i + length (printS (y .service) (seg segments.Unh (elementsOf (f .g)))) = sym (f .size) ∙ ap (λ (g : Segment). i + length (printS (y .service) g)) (j .unh) in
-          record {
-            u = u;
-            ms = ms;
-            tree = e;
-            within = record {
-              walks = f .walks;
-              o = msg (elementsOf (f .g)) nil (plain nil) nil;
-              tree = d ∙ r;
-              place = omega (arith, z);
-              spots = c (spotsOf (y .service) i (msg (elementsOf (f .g)) nil (plain nil) nil)) ∙ sym (spots-open (y .service) i (elementsOf (f .g)) (spotsOf (y .service) i (msg (elementsOf (f .g)) nil (plain nil) nil)) (a .next) z);
-              starts = rows-open (y .service) i (elementsOf (f .g)) rows 0 0 0 k;
-            };
-          }
+          let n = opened (y .service) s (a .state) h′ l′ u ms (msg (elementsOf (f .g)) nil (plain nil) nil) (ap stateOf (sym (d ∙ r)) ∙ f .walks .same) in (
+            sym (ap (λ (m : Kept). m .group) (n .kept)),
+            record {
+              u = u;
+              ms = ms;
+              tree = e;
+              within = record {
+                walks = f .walks;
+                o = msg (elementsOf (f .g)) nil (plain nil) nil;
+                tree = d ∙ r;
+                place = omega (arith, z);
+                spots = c (spotsOf (y .service) i (msg (elementsOf (f .g)) nil (plain nil) nil)) ∙ sym (spots-open (y .service) i (elementsOf (f .g)) (spotsOf (y .service) i (msg (elementsOf (f .g)) nil (plain nil) nil)) (a .next) z);
+                starts = rows-open (y .service) i (elementsOf (f .g)) rows 0 0 0 k;
+              };
+            },
+          )
 
   stays-as : {r z : Reading} → w .tree ≡ r → f .walks .tree ≡ z → Stays r z → Stays (w .tree) (f .walks .tree)
   stays-as {r} {z} e d q = subst (λ (v : Reading). Stays v (f .walks .tree)) (sym e) (subst (λ (v : Reading). Stays r v) (sym d) q)

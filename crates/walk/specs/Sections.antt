@@ -83,16 +83,6 @@ pub record Within (y : Syntax) (s : List ℕ) (from p : ℕ) (u : Leaf) (ms : Sn
   pub spots : q ≡ spotsOf (y .service) p o
   pub starts : Rows (y .service) p o rows
 
--- some message is open, and there is room for the marks m
-pub record Inside (y : Syntax) (s : List ℕ) (x : State) (h l b : List ℕ) (i : ℕ) (q : Spots) (rows m : List ℕ) : Type 0 where
-  pub fits : T (fit (y .service))
-  pub marks : length m ≡ 40
-  pub from : ℕ
-  pub p : ℕ
-  pub u : Leaf
-  pub ms : Snoc Message
-  pub within : Within y s from p u ms x h l b i q rows
-
 -- the message was closed, or the octets are over
 abbrev pub UntBy : Bool → (y : Syntax) → List ℕ → ℕ → Leaf → Snoc Message → Reading → Layout → ℕ → List ℕ → Type 0
 UntBy true y s p u ms z c i rows = (o : Open) × (t : Leaf) × ((z ≡ idle u (ms ▷ message o t)) × Laid (y .service) s p o t c rows)

@@ -77,7 +77,7 @@ pub fn spotted(x: Spots, rows: &mut [usize; 18], m: Message, at: usize, next: us
     ensures { λ r. ⌜ now (rows .exit) ≡ rowStep (m .group) (now (rows .entry)) (m .headers) (x .trailers) at ⌝ }
 {
     let g = m.group;
-    let headers = m.headers;
+    let headers = m.headers as usize;
     let trailers = x.trailers;
     match g {
         Group::Opened => opened(at, next),

@@ -5,12 +5,10 @@ ghost use Prim.Native.Nat.{ℕ, _<_};
 ghost use lib.ListN.{length};
 ghost use Rattle.syntax.specs.Octets.{same};
 ghost use Rattle.syntax.specs.Repertoire.{Table};
-ghost use Rattle.grammar.specs.Lists.{Snoc};
-ghost use Rattle.grammar.specs.Interchange.{Leaf, Message as Whole};
 ghost use Rattle.elements.specs.Octets.{textAt};
 ghost use Rattle.message.specs.Heads.{headRef, headFlag};
 ghost use Rattle.walk.specs.RunLaws.{isBusy, Walking};
-ghost use Rattle.walk.specs.Sections.{nameableIn, laidOut, Inside, Within, Starting, UntIs, SectionIs};
+ghost use Rattle.walk.specs.Sections.{nameableIn, laidOut, Starting, SectionIs};
 use crate::advance::advance;
 use crate::layout::Spots;
 use crate::layout::opened;
@@ -109,10 +107,10 @@ fn laid_out(st: State, x: Spots, at: usize, next: usize) -> Layout
         tail: x.tail,
         unt: at,
         end: next,
-        headers: m.headers,
+        headers: m.headers as usize,
         trailers: x.trailers,
         auto: m.auto,
-        loads: u.loads,
+        loads: u.loads as usize,
         grams: u.grams,
         reference: w,
     }
@@ -129,14 +127,15 @@ fn passed(state: State, next: usize, closed: bool, layout: Layout) -> Section
     }
 }
 
-// From behind the UNH of an open message to behind its UNT. Each UST names a header not yet named: that is searched for here.
-fn to_unt(
+// A section by octets whose place no store can change: what stands at `from`, between messages or before UNB. Each UST names a header not yet named:
+// that is searched for here. One loop for every segment, with the one call of `advance`: so the state stays in its place, and is not copied with
+// each segment.
+fn section_in(
     s: &[u8],
     from: usize,
     t: &[u8; 256],
     y: Syntax,
     begun: State,
-    spots: Spots,
     marks: &mut [usize],
     heads: &mut [usize; 36],
     names: &mut [u64],
@@ -144,18 +143,16 @@ fn to_unt(
     rows: &mut [usize; 18],
 ) -> Reached
     requires { ⌜ Table y (now t) ⌝ }
-    requires { ⌜ Inside y (now s) begun (now heads) (now names) (now slots) from spots (now rows) (now marks) ⌝ }
-    ensures { λ r. ⌜
-        ((b p : ℕ) (u : Leaf) (ms : Snoc Whole) → Within y (now (s .entry)) b p u ms begun (now (heads .entry)) (now (names .entry)) (now (slots .entry)) from spots (now (rows .entry))
-        → UntIs y (now (s .entry)) b p u ms r (now (heads .exit)) (now (names .exit)) (now (slots .exit)) (now (rows .exit))) ⌝ }
+    requires { ⌜ Starting y (now s) begun (now heads) (now names) (now slots) from (now rows) (now marks) ⌝ }
+    ensures { λ r. ⌜ ((b : ℕ) (w : Walking y (now (s .entry)) b begun (now (heads .entry)) (now (names .entry)) (now (slots .entry)) from) → SectionIs w r (now (heads .exit)) (now (names .exit)) (now (slots .exit)) (now (rows .exit))) ⌝ }
     ensures { λ r. ⌜ length (now (marks .exit)) ≡ 40 ⌝ }
 {
     let mut st = begun;
-    let mut x = spots;
+    let mut x = opened(from, from);
     let mut at = from;
     while at < s.len() {
         let m = st.message;
-        let n = nameable(s, at, m.headers);
+        let n = nameable(s, at, m.headers as usize);
         let mut found = n;
         let mut i: usize = 0;
         while i < n {
@@ -174,8 +171,9 @@ fn to_unt(
                 let p = z.phase;
                 let k = z.message;
                 if !is_busy(p) {
+                    let b = st.phase;
                     let l = laid_out(st, x, at, a.next);
-                    return Reached::On(passed(z, a.next, true, l));
+                    return Reached::On(passed(z, a.next, is_busy(b), l));
                 }
                 x = spotted(x, rows, k, at, a.next);
                 st = z;
@@ -187,13 +185,14 @@ fn to_unt(
     Reached::On(passed(st, at, false, l))
 }
 
-// What stands at `from`, between messages or before UNB: UNB, a whole message, or UNZ.
+// What stands at `from`, between messages or before UNB: UNB, a whole message, or UNZ. The octets go on as a slice of this call's own: of a lent one
+// the compiler reads place and length again behind each store.
 pub fn next_section(
     s: &[u8],
     from: usize,
     t: &[u8; 256],
     y: Syntax,
-    st: State,
+    begun: State,
     marks: &mut [usize],
     heads: &mut [usize; 36],
     names: &mut [u64],
@@ -201,26 +200,21 @@ pub fn next_section(
     rows: &mut [usize; 18],
 ) -> Reached
     requires { ⌜ Table y (now t) ⌝ }
-    requires { ⌜ Starting y (now s) st (now heads) (now names) (now slots) from (now rows) (now marks) ⌝ }
-    ensures { λ r. ⌜ ((b : ℕ) (w : Walking y (now (s .entry)) b st (now (heads .entry)) (now (names .entry)) (now (slots .entry)) from) → SectionIs w r (now (heads .exit)) (now (names .exit)) (now (slots .exit)) (now (rows .exit))) ⌝ }
+    requires { ⌜ Starting y (now s) begun (now heads) (now names) (now slots) from (now rows) (now marks) ⌝ }
+    ensures { λ r. ⌜ ((b : ℕ) (w : Walking y (now (s .entry)) b begun (now (heads .entry)) (now (names .entry)) (now (slots .entry)) from) → SectionIs w r (now (heads .exit)) (now (names .exit)) (now (slots .exit)) (now (rows .exit))) ⌝ }
     ensures { λ r. ⌜ length (now (marks .exit)) ≡ 40 ⌝ }
 {
-    match advance(s, from, t, y, st, marks, heads, names, slots, 0) {
-        Advanced::Stop(f) => Reached::Stop(f),
-        Advanced::On(a) => {
-            let z = a.state;
-            let p = z.phase;
-            let next = a.next;
-            let x = opened(from, next);
-            if is_busy(p) {
-                return to_unt(s, next, t, y, z, x, marks, heads, names, slots, rows);
-            }
-            Reached::On(Section {
-                state: z,
-                next: next,
-                closed: false,
-                layout: laid_out(z, x, from, next),
-            })
-        }
-    }
+    let n = s.len();
+    section_in(
+        &s[0..n],
+        from,
+        t,
+        y,
+        begun,
+        marks,
+        heads,
+        names,
+        slots,
+        rows,
+    )
 }

@@ -7,23 +7,22 @@ use Rattle.message.proofs.kept.all_even.Statement.{statement}
 use Rattle.message.proofs.kept.all_even.Tie as tie
 use Rattle.message.proofs.kept.all_even.Reads as reads
 use Rattle.message.proofs.kept.all_even.Lts as lts
-use Rattle.message.proofs.kept.wide.Reads as wide-reads
 
--- src/kept.rt:101:32
-add-wide : tie.Need-add-wide
-add-wide c = search needs
+-- src/kept.rt:104:36
+cast-result : tie.Need-cast-result
+cast-result c = search needs
 
--- src/kept.rt:101:27
-wide-requires : tie.Need-wide-requires
-wide-requires c κs = search needs
+-- src/kept.rt:104:27
+add-result : tie.Need-add-result
+add-result c = search needs
 
--- src/kept.rt:101:9
+-- src/kept.rt:104:9
 returns : tie.Need-returns
-returns c = rw (c .before .before .before .if1 .taken, c .before .wide .ensures)
+returns c = rw (c .before .before .before .if1 .taken)
 
--- src/kept.rt:96:1
+-- src/kept.rt:99:1
 returns-2 : tie.Need-returns-2
 returns-2 c = search needs
 
 pub all-even-spec : {M : Type 1} → statement M
-all-even-spec = tie.close (tie.spec add-wide wide-requires returns returns-2)
+all-even-spec = tie.close (tie.spec cast-result add-result returns returns-2)

@@ -8,17 +8,21 @@ use Rattle.message.proofs.steps.in_header.Lts as lts
 use Rattle.message.proofs.heads.bump_header.Reads as bump-header-reads
 use Rattle.message.proofs.kept.grown_to.Reads as grown-to-reads
 
--- src/steps.rt:82:5
-bump-header-requires : tie.Need-bump-header-requires
-bump-header-requires c κs = (c .before .pre .0 .headers, (c .before .pre .1 .1, bump-room (c .before .pre .0) (c .before .pre .1 .0)))
+-- src/steps.rt:107:13
+cast-n : tie.Need-cast-n
+cast-n c = search needs
 
--- src/steps.rt:83:15
+-- src/steps.rt:108:5
+bump-header-requires : tie.Need-bump-header-requires
+bump-header-requires c κs = (c .before .before .pre .0 .headers, (c .before .before .pre .1 .1, bump-room (c .before .before .pre .0) (c .before .before .pre .1 .0)))
+
+-- src/steps.rt:109:15
 grown-to-requires : tie.Need-grown-to-requires
 grown-to-requires c κs = search needs
 
--- src/steps.rt:76:1
+-- src/steps.rt:101:1
 returns : tie.Need-returns
-returns c = (header-moved (c .before .before .before .pre .0) (c .before .before .before .pre .1 .0) (c .before .before .before .args .g) (c .before .bump-header .ensures) (c .grown-to .ensures), c .before .bump-header .ensures .long ∙ c .before .before .before .pre .1 .1)
+returns c = (header-moved (c .before .before .before .before .pre .0) (c .before .before .before .before .pre .1 .0) (c .before .before .before .before .args .g) (c .before .bump-header .ensures) (c .grown-to .ensures), c .before .bump-header .ensures .long ∙ c .before .before .before .before .pre .1 .1)
 
 pub in-header-spec : {M : Type 1} → statement M
-in-header-spec = tie.close (tie.spec bump-header-requires grown-to-requires returns)
+in-header-spec = tie.close (tie.spec cast-n bump-header-requires grown-to-requires returns)

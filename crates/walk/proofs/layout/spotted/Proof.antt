@@ -17,13 +17,13 @@ enum-known-g : tie.Need-enum-known-g
 enum-known-g c = search needs
 
 sub-rows : tie.Need-sub-rows
-sub-rows c = omega (arith, room-header _ _ (c .before .before .g .given .1) (c .before .before .before .before .pre))
+sub-rows c = omega (arith, room-header _ _ (c .before .before .g .given .1) (c .before .before .before .before .before .pre))
 
 mul-rows : tie.Need-mul-rows
-mul-rows c = record { fits = omega (arith, room-header _ _ (c .before .before .g .given .1) (c .before .before .before .before .pre)) }
+mul-rows c = record { fits = omega (arith, room-header _ _ (c .before .before .g .given .1) (c .before .before .before .before .before .pre)) }
 
 element-write-rows : tie.Need-element-write-rows
-element-write-rows c = omega (arith, room-header _ _ (c .before .before .g .given .1) (c .before .before .before .before .pre))
+element-write-rows c = omega (arith, room-header _ _ (c .before .before .g .given .1) (c .before .before .before .before .before .pre))
 
 headed-requires : tie.Need-headed-requires
 headed-requires c κs = search needs
@@ -53,19 +53,19 @@ returns : tie.Need-returns
 returns c = stepped _ _ _ _ _ _ _ _ (c .before .before .g2 .given .1 ∙ ap InTrailer (c .if2 .taken)) (refl, refl)
 
 add-rows : tie.Need-add-rows
-add-rows c = record { fits = omega (arith, room-trailer _ _ (c .before .before .g2 .given .1) (c .if2 .left) (c .before .before .before .before .pre)) }
+add-rows c = record { fits = omega (arith, room-trailer _ _ (c .before .before .g2 .given .1) (c .if2 .left) (c .before .before .before .before .before .pre)) }
 
 mul-rows-2 : tie.Need-mul-rows-2
-mul-rows-2 c = record { fits = omega (arith, room-trailer _ _ (c .before .before .g2 .given .1) (c .if2 .left) (c .before .before .before .before .pre)) }
+mul-rows-2 c = record { fits = omega (arith, room-trailer _ _ (c .before .before .g2 .given .1) (c .if2 .left) (c .before .before .before .before .before .pre)) }
 
 element-write-rows-2 : tie.Need-element-write-rows-2
-element-write-rows-2 c = omega (arith, room-trailer _ _ (c .before .before .g2 .given .1) (c .if2 .left) (c .before .before .before .before .pre))
+element-write-rows-2 c = omega (arith, room-trailer _ _ (c .before .before .g2 .given .1) (c .if2 .left) (c .before .before .before .before .before .pre))
 
 trailed-requires : tie.Need-trailed-requires
-trailed-requires c κs = room-trailer _ _ (c .before .before .g2 .given .1) (c .if2 .left) (c .before .before .before .before .pre)
+trailed-requires c κs = room-trailer _ _ (c .before .before .g2 .given .1) (c .if2 .left) (c .before .before .before .before .before .pre)
 
 returns-2 : tie.Need-returns-2
-returns-2 c = stepped _ _ _ _ _ _ _ _ (c .before .enum-told .given .1) (c .opened .ensures (c .before .before .before .args .x), refl)
+returns-2 c = stepped _ _ _ _ _ _ _ _ (c .before .enum-told .given .1) (c .opened .ensures (c .before .before .before .before .args .x), refl)
 
 returns-3 : tie.Need-returns-3
 returns-3 c =
@@ -84,32 +84,10 @@ returns-6 c = stepped _ _ _ _ _ _ _ _ (c .before .enum-told4 .given .1) (c .bodi
 returns-7 : tie.Need-returns-7
 returns-7 c = stepped _ _ _ _ _ _ _ _ (c .before .before .before .g2 .given .1 ∙ ap InTrailer (c .before .if2 .left)) (c .trailed .ensures, refl)
 
+cast-headers : tie.Need-cast-headers
+cast-headers c = search needs
+
 pub spotted-spec : {M : Type 1} → statement M
 spotted-spec =
     tie.close
-    (tie.spec
-    enum-told
-    opened-requires
-    enum-known-g
-    sub-rows
-    mul-rows
-    element-write-rows
-    headed-requires
-    enum-told-2
-    headed-requires-2
-    enum-told-3
-    bodied-requires
-    enum-told-4
-    bodied-requires-2
-    enum-known-g-2
-    returns
-    add-rows
-    mul-rows-2
-    element-write-rows-2
-    trailed-requires
-    returns-2
-    returns-3
-    returns-4
-    returns-5
-    returns-6
-    returns-7)
+    (tie.spec cast-headers enum-told opened-requires enum-known-g sub-rows mul-rows element-write-rows headed-requires enum-told-2 headed-requires-2 enum-told-3 bodied-requires enum-told-4 bodied-requires-2 enum-known-g-2 returns add-rows mul-rows-2 element-write-rows-2 trailed-requires returns-2 returns-3 returns-4 returns-5 returns-6 returns-7)

@@ -1,0 +1,223 @@
+use native.Mathlib.Omega.{arith}
+use Rattle.message.specs.ItemsLaws.{not-true, not-false}
+use Prim.Native.Nat.{_-_, _≤_}
+use mathlib.Core.Path.{_≡_, refl, sym, _∙_}
+use mathlib.Core.Logic.{⊎-elim}
+use borrow.Author.Needs.{needs}
+use lib.ListN.{length}
+use Rattle.elements.specs.Octets.{textAt}
+use Rattle.message.specs.Summary.{freeAt}
+use Rattle.message.specs.Heads.{headRefs, headFlags, posOr}
+use Rattle.message.specs.HeadsLaws.{Seeking, seeking-start, seeking-hit, seeking-on, seeking-end}
+use Rattle.walk.specs.RunLaws.{further, halted, onward-far}
+use Rattle.walk.specs.SectionLaws.{nameable-most, sought}
+use Rattle.walk.specs.Sectioning.{Sectioning, ahead, walks-so, going-so, short-so, headers-so, room-so, rows-so, on-so, close-so, end-so}
+use Rattle.walk.proofs.sections.section_in.Statement.{statement}
+use Rattle.walk.proofs.sections.section_in.Tie as tie
+use Rattle.walk.proofs.sections.section_in.Reads as reads
+use Rattle.walk.proofs.sections.section_in.Lts as lts
+use Rattle.walk.proofs.advance.advance.Reads as advance-reads
+use Rattle.walk.proofs.layout.opened.Reads as opened-reads
+use Rattle.walk.proofs.layout.spotted.Reads as spotted-reads
+use Rattle.walk.proofs.sections.is_busy.Reads as is-busy-reads
+use Rattle.walk.proofs.sections.laid_out.Reads as laid-out-reads
+use Rattle.walk.proofs.sections.nameable.Reads as nameable-reads
+use Rattle.walk.proofs.sections.names_free.Reads as names-free-reads
+use Rattle.walk.proofs.sections.passed.Reads as passed-reads
+
+abbrev Inv-loop2 : tie.InvT-loop2
+Inv-loop2 s from t y marks heads names slots rows st x at n found₀ i₀ found i = (found ≡ n) × Seeking (y .service .release) s heads (textAt (y .service) s at 1 0) n i
+
+abbrev μ-loop2 : tie.MeasureT-loop2
+μ-loop2 s from t y marks heads names slots rows st x at n found₀ i₀ found i = n - i
+
+abbrev Inv-loop : tie.InvT-loop
+Inv-loop s from t y marks₀ heads₀ names₀ slots₀ rows₀ st₀ x₀ at₀ marks heads names slots rows st x at =
+    Sectioning y s st₀ heads₀ names₀ slots₀ at₀ st heads names slots at x rows marks
+
+abbrev μ-loop : tie.MeasureT-loop
+μ-loop s from t y marks₀ heads₀ names₀ slots₀ rows₀ st₀ x₀ at₀ marks heads names slots rows st x at = length s - at
+
+-- where the search ends, by its test or by its break: the header that the trailer names
+chosen : (c : tie.Left-loop2 Inv-loop2 μ-loop2 Inv-loop μ-loop)
+    → (c .loop2-test .found ≡ posOr (c .before .before .nameable .result) (freeAt (textAt (c .before .before .before .before .before .before .before .before .before .before .before .before .args .y .service) (c .before .before .before .before .before .before .before .before .before .before .before .before .args .s .now) (c .before .before .before .before .before .before .loop .at) 1 0) (headRefs (c .before .before .before .before .before .before .before .before .before .before .before .before .args .y .service .release) (c .before .before .before .before .before .before .before .before .before .before .before .before .args .s .now) (c .before .before .before .before .before .before .loop .heads) (c .before .before .nameable .result)) (headFlags (c .before .before .before .before .before .before .loop .heads) (c .before .before .nameable .result))))
+    × (c .loop2-test .found ≤ c .before .before .nameable .result)
+chosen c =
+    ⊎-elim
+    (λ w. (w .1 ∙ c .before .loop2 .inv .0 ∙ seeking-end (c .before .loop2 .inv .1) (w .0 .left), search needs))
+    (λ w. (w .4 ∙ seeking-hit (c .before .loop2 .inv .1) (w .0 .taken) (w .2 .ensures) (w .3 .taken), search needs))
+    (c .loop2-test .came)
+
+-- src/sections.rt:150:9
+opened-requires : tie.Need-opened-requires Inv-loop2 μ-loop2 Inv-loop μ-loop
+opened-requires c κs = search needs
+
+-- src/sections.rt:152:5
+loop-holds : tie.Need-loop-holds Inv-loop2 μ-loop2 Inv-loop μ-loop
+loop-holds c = record { so = ahead; marks = c .before .before .before .before .before .pre .1 .marks; room = c .before .before .before .before .before .pre .1 .room; names = refl; slots = refl }
+
+-- src/sections.rt:154:33
+cast-nameable : tie.Need-cast-nameable Inv-loop2 μ-loop2 Inv-loop μ-loop
+cast-nameable c = search needs
+
+-- src/sections.rt:154:13
+nameable-requires : tie.Need-nameable-requires Inv-loop2 μ-loop2 Inv-loop μ-loop
+nameable-requires c κs = (c .before .before .loop-test .taken, short-so (c .before .before .before .before .before .before .before .before .before .pre .1) (c .before .before .before .loop .inv .so) (c .before .before .loop-test .taken))
+
+-- src/sections.rt:157:9
+loop2-holds : tie.Need-loop2-holds Inv-loop2 μ-loop2 Inv-loop μ-loop
+loop2-holds c = (refl, seeking-start)
+
+-- src/sections.rt:158:16
+names-free-requires : tie.Need-names-free-requires Inv-loop2 μ-loop2 Inv-loop μ-loop
+names-free-requires c κs = (c .before .before .before .before .before .before .before .before .before .before .before .before .before .pre .0, (let a = nameable-most (c .before .before .before .before .before .before .before .before .before .before .before .before .before .args .s .now) (c .before .before .before .before .before .before .before .loop .at) (c .before .before .before .before .before .before .before .loop .st .message .headers) in let b = headers-so (c .before .before .before .before .before .before .before .before .before .before .before .before .before .pre .1) (c .before .before .before .before .before .before .before .loop .inv .so) in search needs))
+
+-- src/sections.rt:162:13
+add-i : tie.Need-add-i Inv-loop2 μ-loop2 Inv-loop μ-loop
+add-i c = search needs
+
+-- src/sections.rt:157:9
+loop2-less : tie.Need-loop2-less Inv-loop2 μ-loop2 Inv-loop μ-loop
+loop2-less c = search needs
+
+-- src/sections.rt:157:9
+loop2-again : tie.Need-loop2-again Inv-loop2 μ-loop2 Inv-loop μ-loop
+loop2-again c = (c .before .before .before .before .loop2 .inv .0, seeking-on (c .before .before .before .before .loop2 .inv .1) (c .before .before .before .loop2-test .taken) (c .before .names-free .ensures) (c .if1 .left))
+
+-- src/sections.rt:164:15
+advance-requires : tie.Need-advance-requires Inv-loop2 μ-loop2 Inv-loop μ-loop
+advance-requires c κs = (c .before .before .before .before .before .before .before .before .before .before .before .before .before .before .before .before .pre .0, (going-so (c .before .before .before .before .before .before .before .before .before .before .before .before .before .before .before .before .pre .1) (c .before .before .before .before .before .before .before .before .before .before .loop .inv .so) (c .before .before .before .before .before .before .before .before .before .loop-test .taken) (c .before .before .before .before .before .before .before .before .before .before .loop .inv .marks), λ a k. let d = chosen (c .before .before .before .before) in sought (c .before .before .before .before .before .before .before .before .before .before .before .before .before .before .before .before .args .y .service) (c .before .before .before .before .before .before .before .before .before .before .before .before .before .before .before .before .args .s .now) (c .before .before .before .before .before .before .before .before .before .before .loop .at) (c .before .before .before .before .before .before .before .before .before .before .loop .st .message) (c .before .before .before .before .before .before .before .before .before .before .loop .heads) (c .before .before .before .before .before .before .nameable .ensures) (d .0) (d .1) k))
+
+-- src/sections.rt:165:28
+enum-known-f : tie.Need-enum-known-f Inv-loop2 μ-loop2 Inv-loop μ-loop
+enum-known-f c = search needs
+
+-- src/sections.rt:166:17
+same-length : tie.Need-same-length Inv-loop2 μ-loop2 Inv-loop μ-loop
+same-length c = c .before .before .before .before .before .before .before .before .before .advance .ensures .1 ∙ sym (c .before .before .before .before .before .before .before .before .before .before .before .before .before .before .before .before .before .before .before .before .before .before .before .before .before .before .pre .1 .marks)
+
+-- src/sections.rt:166:17
+same-length-2 : tie.Need-same-length-2 Inv-loop2 μ-loop2 Inv-loop μ-loop
+same-length-2 c = c .before .before .before .before .before .before .before .before .before .advance .kept .1 .1 .1 .1 .1 .1 .1 .0 ∙ c .before .before .before .before .before .before .before .before .before .before .before .before .before .before .before .before .before .before .before .before .loop .inv .names
+
+-- src/sections.rt:166:17
+same-length-3 : tie.Need-same-length-3 Inv-loop2 μ-loop2 Inv-loop μ-loop
+same-length-3 c = c .before .before .before .before .before .before .before .before .before .advance .kept .1 .1 .1 .1 .1 .1 .1 .1 .0 ∙ c .before .before .before .before .before .before .before .before .before .before .before .before .before .before .before .before .before .before .before .before .loop .inv .slots
+
+-- src/sections.rt:166:17
+returns : tie.Need-returns Inv-loop2 μ-loop2 Inv-loop μ-loop
+returns c = (λ b w. halted (walks-so (c .before .before .before .before .before .before .before .before .before .before .before .before .before .before .before .before .before .before .before .before .loop .inv .so) b w) _ _ _ _ (c .before .f .given .1) (c .before .before .before .before .before .before .before .before .before .advance .ensures .0 _ (walks-so (c .before .before .before .before .before .before .before .before .before .before .before .before .before .before .before .before .before .before .before .before .loop .inv .so) b w)), c .before .before .before .before .before .before .before .before .before .advance .ensures .1)
+
+-- src/sections.rt:168:26
+enum-known-a : tie.Need-enum-known-a Inv-loop2 μ-loop2 Inv-loop μ-loop
+enum-known-a c = search needs
+
+-- src/sections.rt:172:21
+is-busy-requires : tie.Need-is-busy-requires Inv-loop2 μ-loop2 Inv-loop μ-loop
+is-busy-requires c κs = search needs
+
+-- src/sections.rt:174:25
+laid-out-requires : tie.Need-laid-out-requires Inv-loop2 μ-loop2 Inv-loop μ-loop
+laid-out-requires c κs = search needs
+
+-- src/sections.rt:175:58
+is-busy-requires-2 : tie.Need-is-busy-requires-2 Inv-loop2 μ-loop2 Inv-loop μ-loop
+is-busy-requires-2 c κs = search needs
+
+-- src/sections.rt:175:40
+passed-requires : tie.Need-passed-requires Inv-loop2 μ-loop2 Inv-loop μ-loop
+passed-requires c κs = search needs
+
+-- src/sections.rt:175:21
+same-length-4 : tie.Need-same-length-4 Inv-loop2 μ-loop2 Inv-loop μ-loop
+same-length-4 c = c .before .before .before .before .before .before .before .before .before .before .before .before .before .before .before .before .advance .ensures .1 ∙ sym (c .before .before .before .before .before .before .before .before .before .before .before .before .before .before .before .before .before .before .before .before .before .before .before .before .before .before .before .before .before .before .before .before .before .pre .1 .marks)
+
+-- src/sections.rt:175:21
+same-length-5 : tie.Need-same-length-5 Inv-loop2 μ-loop2 Inv-loop μ-loop
+same-length-5 c = c .before .before .before .before .before .before .before .before .before .before .before .before .before .before .before .before .advance .kept .1 .1 .1 .1 .1 .1 .1 .0 ∙ c .before .before .before .before .before .before .before .before .before .before .before .before .before .before .before .before .before .before .before .before .before .before .before .before .before .before .before .loop .inv .names
+
+-- src/sections.rt:175:21
+same-length-6 : tie.Need-same-length-6 Inv-loop2 μ-loop2 Inv-loop μ-loop
+same-length-6 c = c .before .before .before .before .before .before .before .before .before .before .before .before .before .before .before .before .advance .kept .1 .1 .1 .1 .1 .1 .1 .1 .0 ∙ c .before .before .before .before .before .before .before .before .before .before .before .before .before .before .before .before .before .before .before .before .before .before .before .before .before .before .before .loop .inv .slots
+
+-- src/sections.rt:175:21
+returns-2 : tie.Need-returns-2 Inv-loop2 μ-loop2 Inv-loop μ-loop
+returns-2 c = (close-so (c .before .before .before .before .before .before .before .before .before .before .before .before .before .before .before .before .before .before .before .before .before .before .before .before .before .before .before .before .before .before .before .before .before .pre .1) (c .before .before .before .before .before .before .before .before .before .before .before .before .before .before .before .before .before .before .before .before .before .before .before .before .before .before .before .loop .inv .so) (λ b w. further w _ (c .before .before .before .before .before .before .before .before .a .given .1) (c .before .before .before .before .before .before .before .before .before .before .before .before .before .before .before .before .advance .ensures .0 _ w)) (sym (c .before .before .before .before .is-busy .ensures) ∙ not-true _ (c .before .before .before .if2 .taken)) (c .before .before .before .before .before .before .before .before .before .before .before .before .before .before .before .before .before .before .before .before .before .before .before .before .before .before .before .loop .inv .room) (c .before .is-busy2 .ensures) (c .before .before .laid-out .ensures) (c .passed .ensures), c .before .before .before .before .before .before .before .before .before .before .before .before .before .before .before .before .advance .ensures .1)
+
+-- src/sections.rt:177:17
+spotted-requires : tie.Need-spotted-requires Inv-loop2 μ-loop2 Inv-loop μ-loop
+spotted-requires c κs = room-so (c .before .before .before .before .before .before .before .before .before .before .before .before .before .before .before .before .before .before .before .before .before .before .before .before .before .before .before .before .before .before .before .pre .1) (c .before .before .before .before .before .before .before .before .before .before .before .before .before .before .before .before .before .before .before .before .before .before .before .before .before .loop .inv .so) (λ b w. further w _ (c .before .before .before .before .before .before .a .given .1) (c .before .before .before .before .before .before .before .before .before .before .before .before .before .before .advance .ensures .0 _ w)) (sym (c .before .before .is-busy .ensures) ∙ not-false _ (c .before .if2 .left)) (c .before .before .before .before .before .before .before .before .before .before .before .before .before .before .before .before .before .before .before .before .before .before .before .before .before .loop .inv .room)
+
+-- src/sections.rt:152:5
+loop-less : tie.Need-loop-less Inv-loop2 μ-loop2 Inv-loop μ-loop
+loop-less c = let o = onward-far (walks-so (c .before .before .before .before .before .before .before .before .before .before .before .before .before .before .before .before .before .before .before .before .before .before .before .before .before .before .loop .inv .so) (c .before .before .before .before .before .before .before .before .before .before .before .before .before .before .before .before .before .before .before .before .before .before .before .before .before .before .before .before .before .before .before .before .pre .1 .from) (c .before .before .before .before .before .before .before .before .before .before .before .before .before .before .before .before .before .before .before .before .before .before .before .before .before .before .before .before .before .before .before .before .pre .1 .walks)) (further (walks-so (c .before .before .before .before .before .before .before .before .before .before .before .before .before .before .before .before .before .before .before .before .before .before .before .before .before .before .loop .inv .so) (c .before .before .before .before .before .before .before .before .before .before .before .before .before .before .before .before .before .before .before .before .before .before .before .before .before .before .before .before .before .before .before .before .pre .1 .from) (c .before .before .before .before .before .before .before .before .before .before .before .before .before .before .before .before .before .before .before .before .before .before .before .before .before .before .before .before .before .before .before .before .pre .1 .walks)) _ (c .before .before .before .before .before .before .before .a .given .1) (c .before .before .before .before .before .before .before .before .before .before .before .before .before .before .before .advance .ensures .0 _ (walks-so (c .before .before .before .before .before .before .before .before .before .before .before .before .before .before .before .before .before .before .before .before .before .before .before .before .before .before .loop .inv .so) (c .before .before .before .before .before .before .before .before .before .before .before .before .before .before .before .before .before .before .before .before .before .before .before .before .before .before .before .before .before .before .before .before .pre .1 .from) (c .before .before .before .before .before .before .before .before .before .before .before .before .before .before .before .before .before .before .before .before .before .before .before .before .before .before .before .before .before .before .before .before .pre .1 .walks)))) in let k = c .before .before .before .before .before .before .before .before .before .before .before .before .before .before .before .before .before .before .before .before .before .before .before .before .before .loop-test .taken in omega (arith, o, k)
+
+-- src/sections.rt:152:5
+loop-again : tie.Need-loop-again Inv-loop2 μ-loop2 Inv-loop μ-loop
+loop-again c = record { so = on-so (c .before .before .before .before .before .before .before .before .before .before .before .before .before .before .before .before .before .before .before .before .before .before .before .before .before .before .before .before .before .before .before .before .pre .1) (c .before .before .before .before .before .before .before .before .before .before .before .before .before .before .before .before .before .before .before .before .before .before .before .before .before .before .loop .inv .so) (λ b w. further w _ (c .before .before .before .before .before .before .before .a .given .1) (c .before .before .before .before .before .before .before .before .before .before .before .before .before .before .before .advance .ensures .0 _ w)) (sym (c .before .before .before .is-busy .ensures) ∙ not-false _ (c .before .before .if2 .left)) (c .before .before .before .before .before .before .before .before .before .before .before .before .before .before .before .before .before .before .before .before .before .before .before .before .before .before .loop .inv .room) (c .spotted .ensures .0) (c .spotted .ensures .1); marks = c .before .before .before .before .before .before .before .before .before .before .before .before .before .before .before .advance .ensures .1; room = rows-so (c .before .before .before .before .before .before .before .before .before .before .before .before .before .before .before .before .before .before .before .before .before .before .before .before .before .before .before .before .before .before .before .before .pre .1) (c .before .before .before .before .before .before .before .before .before .before .before .before .before .before .before .before .before .before .before .before .before .before .before .before .before .before .loop .inv .so) (λ b w. further w _ (c .before .before .before .before .before .before .before .a .given .1) (c .before .before .before .before .before .before .before .before .before .before .before .before .before .before .before .advance .ensures .0 _ w)) (sym (c .before .before .before .is-busy .ensures) ∙ not-false _ (c .before .before .if2 .left)) (c .before .before .before .before .before .before .before .before .before .before .before .before .before .before .before .before .before .before .before .before .before .before .before .before .before .before .loop .inv .room) (c .spotted .ensures .0) (c .spotted .ensures .1); names = c .before .before .before .before .before .before .before .before .before .before .before .before .before .before .before .advance .kept .1 .1 .1 .1 .1 .1 .1 .0 ∙ c .before .before .before .before .before .before .before .before .before .before .before .before .before .before .before .before .before .before .before .before .before .before .before .before .before .before .loop .inv .names; slots = c .before .before .before .before .before .before .before .before .before .before .before .before .before .before .before .advance .kept .1 .1 .1 .1 .1 .1 .1 .1 .0 ∙ c .before .before .before .before .before .before .before .before .before .before .before .before .before .before .before .before .before .before .before .before .before .before .before .before .before .before .loop .inv .slots }
+
+-- src/sections.rt:183:9
+laid-out-requires-2 : tie.Need-laid-out-requires-2 Inv-loop2 μ-loop2 Inv-loop μ-loop
+laid-out-requires-2 c κs = search needs
+
+-- src/sections.rt:184:17
+passed-requires-2 : tie.Need-passed-requires-2 Inv-loop2 μ-loop2 Inv-loop μ-loop
+passed-requires-2 c κs = search needs
+
+-- src/sections.rt:132:1
+same-length-7 : tie.Need-same-length-7 Inv-loop2 μ-loop2 Inv-loop μ-loop
+same-length-7 c = c .before .before .before .loop .inv .marks ∙ sym (c .before .before .before .before .before .before .before .before .before .pre .1 .marks)
+
+-- src/sections.rt:132:1
+same-length-8 : tie.Need-same-length-8 Inv-loop2 μ-loop2 Inv-loop μ-loop
+same-length-8 c = search needs
+
+-- src/sections.rt:132:1
+same-length-9 : tie.Need-same-length-9 Inv-loop2 μ-loop2 Inv-loop μ-loop
+same-length-9 c = search needs
+
+-- src/sections.rt:132:1
+returns-3 : tie.Need-returns-3 Inv-loop2 μ-loop2 Inv-loop μ-loop
+returns-3 c = (end-so (c .before .before .before .before .before .before .before .before .before .pre .1) (c .before .before .before .loop .inv .so) (c .before .before .loop-test .left) (c .before .before .before .loop .inv .room) (c .passed2 .ensures), c .before .before .before .loop .inv .marks)
+
+pub section-in-spec : {M : Type 1} → statement M
+section-in-spec =
+    tie.close
+    (tie.spec
+    Inv-loop2
+    μ-loop2
+    Inv-loop
+    μ-loop
+    opened-requires
+    loop-holds
+    cast-nameable
+    nameable-requires
+    loop2-holds
+    names-free-requires
+    add-i
+    loop2-less
+    loop2-again
+    advance-requires
+    enum-known-f
+    same-length
+    same-length-2
+    same-length-3
+    returns
+    enum-known-a
+    is-busy-requires
+    laid-out-requires
+    is-busy-requires-2
+    passed-requires
+    same-length-4
+    same-length-5
+    same-length-6
+    returns-2
+    spotted-requires
+    loop-less
+    loop-again
+    laid-out-requires-2
+    passed-requires-2
+    same-length-7
+    same-length-8
+    same-length-9
+    returns-3)
