@@ -67,7 +67,7 @@ bodyIn (msg h hs b ts) = b
 abbrev pub typeO : Open → List ℕ
 typeO (msg h hs b ts) = second h
 
--- the octets from the USH to before the UST of its trailer
+-- the octets from the USH to before the UST of its trailer; in a message that is accepted every header has one
 abbrev pub toTrailer : Service → ℕ → Open → Chosen Header → Option (Chosen Trailer) → ℕ
 toTrailer σ q o h none = 0
 toTrailer σ q o h (some t) = trailerAt σ q o t - headerAt σ q o h
