@@ -1,0 +1,37 @@
+use Rattle.listing.specs.SealsLaws.{up-to-start, up-to-none}
+use borrow.Author.Needs.{needs}
+use Rattle.listing.proofs.seals.to_trailer.Statement.{statement}
+use Rattle.listing.proofs.seals.to_trailer.Tie as tie
+
+component-part-requires : tie.Need-component-part-requires
+component-part-requires c κs = search needs
+
+trailer-like-requires : tie.Need-trailer-like-requires
+trailer-like-requires c κs = search needs
+
+enum-known-x : tie.Need-enum-known-x
+enum-known-x c = search needs
+
+between-requires : tie.Need-between-requires
+between-requires c κs = search needs
+
+enum-told : tie.Need-enum-told
+enum-told c = search needs
+
+returns : tie.Need-returns
+returns c = up-to-start (c .before .before .before .before .before .before .before .args .y .service) (c .before .before .before .before .before .before .before .args .s .now) (c .before .before .before .before .before .before .before .args .rows .now) (c .before .before .before .before .before .before .before .args .c) (c .before .before .before .before .before .before .before .args .start) (c .before .before .before .before .before .component-part .ensures) (c .before .before .before .before .trailer-like .ensures) (c .before .before .x .given .1) (c .between .ensures)
+
+returns-2 : tie.Need-returns-2
+returns-2 c = up-to-none (c .before .before .before .before .before .args .y .service) (c .before .before .before .before .before .args .s .now) (c .before .before .before .before .before .args .rows .now) (c .before .before .before .before .before .args .c) (c .before .before .before .before .before .args .start) (c .before .before .before .component-part .ensures) (c .before .before .trailer-like .ensures) (c .enum-told .given .1)
+
+pub to-trailer-spec : {M : Type 1} → statement M
+to-trailer-spec =
+    tie.close
+    (tie.spec
+    component-part-requires
+    trailer-like-requires
+    enum-known-x
+    between-requires
+    enum-told
+    returns
+    returns-2)

@@ -1,0 +1,115 @@
+-- The report on an interchange: its text, line by line, as "The report program reads standard input" shows it; and what the call answers.
+use Prim.Native.Nat.{ℕ, _+_, _-_}
+use mathlib.Core.Bool.{cond}
+use mathlib.Core.List.{List, [], _∷_, _++_}
+use mathlib.Core.Option.{Option, none, some}
+use mathlib.Core.Path.{_≡_}
+use lib.Dec.{ltb}
+use lib.ListN.{length, drop}
+use Rattle.syntax.specs.Octets.{octets, same}
+use Rattle.syntax.specs.declared.Service.{Service}
+use Rattle.grammar.specs.Lists.{Snoc, nil, _▷_, size, sum}
+use Rattle.grammar.specs.Segments.{text, second}
+use Rattle.grammar.specs.Interchange.{Leaf, Header, Trailer, Body, Open, msg, Message, message, idle, shown, showHeader, showBody}
+use Rattle.grammar.specs.Rules.{refH, refO}
+use Rattle.grammar.specs.Valid.{interchange, openingIn}
+use Rattle.grammar.specs.Verdict.{Verdict, accepted, refusedWith, verdictOf, loadsM}
+use Rattle.grammar.specs.Places.{wide, headersIn}
+use Rattle.groups.specs.Groups.{Chosen, chosen}
+use Rattle.groups.specs.Parts.{trailerNamed, scopeH, headerAt, trailerAt}
+use Rattle.groups.specs.Calls.{serviceIn}
+use Rattle.writing.specs.Decimal.{decimalOf}
+use Rattle.writing.specs.Laid.{joined}
+use Rattle.writing.specs.Written.{refusedAs}
+use Rattle.writing.specs.declared.Written.{Written}
+use Rattle.writing.specs.declared.Written.the-variants.{Length}
+
+-- ---- the words of each line
+
+-- "a line feed after each"
+abbrev pub feed : List ℕ
+feed = 10 ∷ []
+
+abbrev pub refusalLine : ℕ → ℕ → List ℕ
+refusalLine number place = joined (octets "refused " ∷ decimalOf number ∷ octets " at " ∷ decimalOf place ∷ feed ∷ [])
+
+abbrev pub acceptedLine : List ℕ → List ℕ
+acceptedLine reference = joined (octets "accepted " ∷ reference ∷ feed ∷ [])
+
+abbrev pub messageWords : List ℕ → List ℕ → List ℕ
+messageWords reference type = joined (octets "message " ∷ reference ∷ octets " " ∷ type ∷ [])
+
+abbrev pub loadsWords : ℕ → ℕ → List ℕ
+loadsWords loads grams = joined (octets " loads " ∷ decimalOf loads ∷ octets " grams " ∷ decimalOf grams ∷ feed ∷ [])
+
+abbrev pub messageLine : List ℕ → List ℕ → ℕ → ℕ → List ℕ
+messageLine reference type loads grams = joined (messageWords reference type ∷ loadsWords loads grams ∷ [])
+
+abbrev pub sealWords : List ℕ → List ℕ → List ℕ
+sealWords reference scope = joined (octets "seal " ∷ reference ∷ octets " scope " ∷ scope ∷ [])
+
+abbrev pub octetsWords : ℕ → List ℕ
+octetsWords n = joined (octets " octets " ∷ decimalOf n ∷ [])
+
+-- what a seal covers: so many octets in scope 1, so many in scope 2; "its seal lines end after F01"
+abbrev pub coveredWords : List ℕ → ℕ → ℕ → List ℕ
+coveredWords scope one two = cond (same scope (octets "1")) (octetsWords one) (cond (same scope (octets "2")) (octetsWords two) [])
+
+abbrev pub sealLine : List ℕ → List ℕ → ℕ → ℕ → List ℕ
+sealLine reference scope one two = joined (sealWords reference scope ∷ coveredWords scope one two ∷ feed ∷ [])
+
+-- ---- the lines of a message whose UNH stands at q
+
+abbrev pub bodyIn : Open → Body
+bodyIn (msg h hs b ts) = b
+
+-- 0065
+abbrev pub typeO : Open → List ℕ
+typeO (msg h hs b ts) = second h
+
+-- the octets from the USH to before the UST of its trailer; in a message that is accepted every header has one
+abbrev pub toTrailer : Service → ℕ → Open → Chosen Header → Option (Chosen Trailer) → ℕ
+toTrailer σ q o h none = 0
+toTrailer σ q o h (some t) = trailerAt σ q o t - headerAt σ q o h
+
+abbrev pub sealOf : Service → ℕ → Open → Snoc Header → Header → List ℕ
+sealOf σ q o hs h =
+    sealLine (refH h) (scopeH h) (wide σ (showHeader h) + wide σ (showBody (bodyIn o))) (toTrailer σ q o (chosen hs h) (trailerNamed o (refH h)))
+
+-- "Seals follow their message in header order"
+abbrev pub sealsOf : Service → ℕ → Open → Snoc Header → List ℕ
+sealsOf σ q o nil = []
+sealsOf σ q o (hs ▷ h) = sealsOf σ q o hs ++ sealOf σ q o hs h
+
+abbrev pub messageOf : Service → ℕ → Message → List ℕ
+messageOf σ q (message o t) =
+    messageLine (refO o) (typeO o) (size (loadsM (message o t))) (sum (loadsM (message o t))) ++ sealsOf σ q o (headersIn o)
+
+-- ---- the text for the messages behind the UNB u, which stands at p
+
+abbrev pub messagesOf : Service → ℕ → Leaf → Snoc Message → List ℕ
+messagesOf σ p u nil = []
+messagesOf σ p u (ms ▷ m) = messagesOf σ p u ms ++ messageOf σ (p + wide σ (shown (idle u ms))) m
+
+abbrev pub acceptedOf : Service → ℕ → Leaf → Snoc Message → List ℕ
+acceptedOf σ p u ms = acceptedLine (text u 5 0) ++ messagesOf σ p u ms
+
+-- "A refusal prints only `refused 10 at 113`."
+abbrev pub listingBy : Verdict → List ℕ
+listingBy (refusedWith number place) = refusalLine number place
+listingBy (accepted (interchange n u ms z)) = acceptedOf (serviceIn (interchange n u ms z)) (openingIn n .at) u ms
+
+abbrev pub listingOf : List ℕ → List ℕ
+listingOf s = listingBy (verdictOf s)
+
+-- ---- the call: the text first in the lent buffer and the rest as it was; 15 where the text is longer than the buffer, and all as it was
+
+abbrev pub listedAs : List ℕ → List ℕ → Written
+listedAs t out = cond (ltb (length out) (length t)) (refusedAs 15 0) (Length (length t))
+
+abbrev pub leftIn : List ℕ → List ℕ → List ℕ
+leftIn t out = cond (ltb (length out) (length t)) out (t ++ drop (length t) out)
+
+pub record Lists (t out : List ℕ) (r : Written) (out′ : List ℕ) : Type 0 where
+  pub answer : r ≡ listedAs t out
+  pub octets : out′ ≡ leftIn t out
