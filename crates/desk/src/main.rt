@@ -7,6 +7,7 @@
 //     scope2 I MREF HREF    ok START END
 //     f01 A R MREF HREF    ok START END, in R
 //     value I MREF HREF CAP    ok HEX: the octets written into a buffer of CAP
+//     report I    ok HEX: the text that the program `report` prints, always
 //
 // Each may answer `refused NUMBER PLACE`. The answer to every other line is `bad`.
 ghost use Prim.Native.Nat.{_≤_, _<_};
@@ -17,6 +18,7 @@ use judge::run::judge;
 use judge::totals::Totals;
 use judge::totals::message_totals;
 use libc::STDIN_FILENO;
+use listing::text::listing;
 use printing::flush;
 use printing::number;
 use printing::print_refusal;
@@ -388,6 +390,17 @@ fn answer_value(out: &mut [u8; 4096], n: usize, s: &[u8], room: &mut [u8; 150000
     print_bad(out, n)
 }
 
+// The buffer has room for every report.
+fn answer_report(out: &mut [u8; 4096], n: usize, s: &[u8], room: &mut [u8; 150000]) -> usize {
+    let mut bounds = [0usize; 7];
+    if arguments(s, b"h", room, &mut bounds) {
+        let mut written = [0u8; 131072];
+        let w = listing(argument(room, &bounds, 0), &mut written);
+        return print_written(out, n, w, &written);
+    }
+    print_bad(out, n)
+}
+
 // With a space as release nothing is released, so that the octets are compared as they are.
 fn is_word(w: &[u8], t: &[u8]) -> bool {
     content_is(w, b' ', t)
@@ -402,6 +415,9 @@ fn answer(out: &mut [u8; 4096], n: usize, s: &[u8], room: &mut [u8; 150000]) -> 
     }
     if is_word(command, b"totals") {
         return answer_totals(out, n, rest, room);
+    }
+    if is_word(command, b"report") {
+        return answer_report(out, n, rest, room);
     }
     answer_sealed(out, n, rest, room, command)
 }
