@@ -27,7 +27,7 @@ use Rattle.grammar.specs.Named.{Placed, placed, placedIn}
 use Rattle.grammar.specs.Counted.{messagesIn}
 use Rattle.walk.specs.Layout.{headsAt, bodyAt, tailAt}
 use Rattle.spans.specs.Span.{Parted, parted, partedOf, runRight, Span, span, spanBy, spanAt}
-use Rattle.spans.specs.SpanLaws.{parted-so}
+use Rattle.spans.specs.SpanLaws.{Parts as RunParts, parted-so}
 use Rattle.groups.specs.Stand.{Stand}
 use Rattle.groups.specs.StandLaws.{list-join, stand-front, stand-back, stand-slice}
 use Rattle.groups.specs.Groups.{Chosen, chosen, chosenBy}
@@ -147,8 +147,8 @@ module _ (s m r : List ℕ) (a b c d : ℕ) where
       by : (p : Placed) (i : Interchange) → verdictOf s ≡ accepted i → messageIn i m ≡ some p → scope1At (serviceIn i) p r ≡ some (parts a b c d) → Scope1 s m r a b c d
       by (placed (message (msg u hs w ts) t) q) i v n k =
           let h = then-so (headerIn (octets "1") (msg u hs w ts) r)
-                (λ h. some (parts (headerAt (serviceIn i) q (msg u hs w ts) h) (headerEnd (serviceIn i) q (msg u hs w ts) h) (bodyAt (serviceIn i) q (msg u hs w ts)) (tailAt (serviceIn i) q (msg u hs w ts))))
-                (parts a b c d) k in
+          (λ h. some (parts (headerAt (serviceIn i) q (msg u hs w ts) h) (headerEnd (serviceIn i) q (msg u hs w ts) h) (bodyAt (serviceIn i) q (msg u hs w ts)) (tailAt (serviceIn i) q (msg u hs w ts))))
+          (parts a b c d) k in
           each (h .a) (header-so (octets "1") r (msg u hs w ts) (h .a) (h .first)) (h .second)
         where
           each : (x : Chosen Header) → headerNamed (msg u hs w ts) r ≡ some x
@@ -195,7 +195,7 @@ module _ (s m r : List ℕ) (a b : ℕ) where
       by : (p : Placed) (i : Interchange) → verdictOf s ≡ accepted i → messageIn i m ≡ some p → scope2At (serviceIn i) p r ≡ some (run a b) → Scope2 s m r a b
       by (placed (message (msg u hs w ts) t) q) i v n k =
           let h = then-so (headerIn (octets "2") (msg u hs w ts) r)
-                (λ h. then (trailerNamed (msg u hs w ts) r) (λ x. some (run (headerAt (serviceIn i) q (msg u hs w ts) h) (trailerAt (serviceIn i) q (msg u hs w ts) x)))) (run a b) k in
+          (λ h. then (trailerNamed (msg u hs w ts) r) (λ x. some (run (headerAt (serviceIn i) q (msg u hs w ts) h) (trailerAt (serviceIn i) q (msg u hs w ts) x)))) (run a b) k in
           let l = then-so (trailerNamed (msg u hs w ts) r) (λ x. some (run (headerAt (serviceIn i) q (msg u hs w ts) (h .a)) (trailerAt (serviceIn i) q (msg u hs w ts) x))) (run a b) (h .second) in
           each (h .a) (l .a) (header-so (octets "2") r (msg u hs w ts) (h .a) (h .first)) (l .first) (l .second)
         where
@@ -215,16 +215,24 @@ module _ (s m r : List ℕ) (a b : ℕ) where
               let jh : joined showHeader hs ≡ joined showHeader ys +++ showHeader x +++ joined showHeader (c .rest) = ap (joined showHeader) (c .whole) ∙ joined-join showHeader (ys ▷ x) (c .rest) in
               let jt : joined showTrailer ts ≡ joined showTrailer es +++ showTrailer y +++ joined showTrailer (d .rest) = ap (joined showTrailer) (d .whole) ∙ joined-join showTrailer (es ▷ y) (d .rest) in
               let st2 : Stand σ s q (H +++ A +++ M +++ Z) =
-                  stand-as (showMessage (message (msg u hs w ts) t)) (H +++ A +++ M +++ Z)
-                  (ap (λ (k : Snoc Segment). list (H +++ k +++ showBody w +++ joined showTrailer ts +++ (nil ▷ seg Unt t))) jh
-                  ∙ ap (λ (k : Snoc Segment). list (H +++ (joined showHeader ys +++ showHeader x +++ joined showHeader (c .rest)) +++ showBody w +++ k +++ (nil ▷ seg Unt t))) jt
-                  ∙ run-list H A (showHeader x) (joined showHeader (c .rest)) (showBody w) (joined showTrailer es) (showTrailer y) (joined showTrailer (d .rest)) (nil ▷ seg Unt t)) st in
+              stand-as (showMessage (message (msg u hs w ts) t)) (H +++ A +++ M +++ Z)
+              (ap (λ (k : Snoc Segment). list (H +++ k +++ showBody w +++ joined showTrailer ts +++ (nil ▷ seg Unt t))) jh
+              ∙ ap (λ (k : Snoc Segment). list (H +++ (joined showHeader ys +++ showHeader x +++ joined showHeader (c .rest)) +++ showBody w +++ k +++ (nil ▷ seg Unt t))) jt
+              ∙ run-list H A (showHeader x) (joined showHeader (c .rest)) (showBody w) (joined showTrailer es) (showTrailer y) (joined showTrailer (d .rest)) (nil ▷ seg Unt t)) st in
               let st3 : Stand σ s (q + wide σ (H +++ A)) M = stand-back σ s q (H +++ A) M (stand-front σ s q (H +++ A +++ M) Z st2) in
               let pa : q + wide σ (H +++ A) ≡ a = omega (arith, wide-join σ H A, ea) in
               let pb : a + wide σ M ≡ b =
-                  omega
-                  (arith, ea, eb, wide-join σ (showHeader x +++ joined showHeader (c .rest) +++ showBody w) (joined showTrailer es), wide-join σ (showHeader x +++ joined showHeader (c .rest)) (showBody w),
-                  wide-join σ (showHeader x) (joined showHeader (c .rest)), ap (wide σ) jh, wide-join σ (joined showHeader ys +++ showHeader x) (joined showHeader (c .rest)), wide-join σ (joined showHeader ys) (showHeader x)) in
+              omega (
+                arith,
+                ea,
+                eb,
+                wide-join σ (showHeader x +++ joined showHeader (c .rest) +++ showBody w) (joined showTrailer es),
+                wide-join σ (showHeader x +++ joined showHeader (c .rest)) (showBody w),
+                wide-join σ (showHeader x) (joined showHeader (c .rest)),
+                ap (wide σ) jh,
+                wide-join σ (joined showHeader ys +++ showHeader x) (joined showHeader (c .rest)),
+                wide-join σ (joined showHeader ys) (showHeader x),
+              ) in
               record {
                 of = record { i = i; read = v; o = msg u hs w ts; t = t; q = q; named = n };
                 before = ys;
@@ -256,7 +264,7 @@ module _ (s : List ℕ) (a b : ℕ) where
           each (t .a) (partedOf ms) refl (t .first) (t .second)
         where
           each : (x : Span) (p : Parted) → partedOf ms ≡ p → spanBy (serviceIn (interchange n u ms z)) (openingIn n .at) u (partedOf ms) ≡ some x → some (runOf x) ≡ some (run a b) → F01 s a b
-          each (span k l) (parted bs rs as) q f g = one (runRight rs) (sym (ap (spanBy (serviceIn (interchange n u ms z)) (openingIn n .at) u) q) ∙ f)
+          each (span k l) (parted bs rs ls) q f g = one (runRight rs) (sym (ap (spanBy (serviceIn (interchange n u ms z)) (openingIn n .at) u) q) ∙ f)
             where
               one : (c : Bool) → cond c (some (span (openingIn n .at + wide (serviceIn (interchange n u ms z)) (shown (idle u bs))) (openingIn n .at + wide (serviceIn (interchange n u ms z)) (shown (idle u (bs +++ rs)))))) none ≡ some (span k l)
                   → F01 s a b
@@ -268,25 +276,31 @@ module _ (s : List ℕ) (a b : ℕ) where
                   let lb : l ≡ b = cc in
                   let ea : p + wide σ (shown (idle u bs)) ≡ k = cc in
                   let eb : p + wide σ (shown (idle u (bs +++ rs))) ≡ l = cc in
-                  let w = parted-so q in
-                  let jm : joined showMessage ms ≡ joined showMessage bs +++ joined showMessage rs +++ joined showMessage as =
-                      ap (joined showMessage) (w .whole) ∙ joined-join showMessage (bs +++ rs) as ∙ ap (λ (y : Snoc Segment). y +++ joined showMessage as) (joined-join showMessage bs rs) in
-                  let st : Stand σ s p (nil ▷ seg Unb u +++ joined showMessage bs +++ joined showMessage rs +++ (joined showMessage as +++ (nil ▷ seg Unz z))) =
-                      stand-as (shown (done u ms z)) (nil ▷ seg Unb u +++ joined showMessage bs +++ joined showMessage rs +++ (joined showMessage as +++ (nil ▷ seg Unz z)))
-                      (ap (λ (y : Snoc Segment). list (nil ▷ seg Unb u +++ y +++ (nil ▷ seg Unz z))) jm ∙ simp (list-join, append-assoc)) (read-stands s (interchange n u ms z) v) in
+                  let w : RunParts ms bs rs ls = parted-so {ms = ms} q in
+                  let jm : joined showMessage ms ≡ joined showMessage bs +++ joined showMessage rs +++ joined showMessage ls =
+                  ap (joined showMessage) (w .whole) ∙ joined-join showMessage (bs +++ rs) ls ∙ ap (λ (y : Snoc Segment). y +++ joined showMessage ls) (joined-join showMessage bs rs) in
+                  let st : Stand σ s p (nil ▷ seg Unb u +++ joined showMessage bs +++ joined showMessage rs +++ (joined showMessage ls +++ (nil ▷ seg Unz z))) =
+                  stand-as (shown (done u ms z)) (nil ▷ seg Unb u +++ joined showMessage bs +++ joined showMessage rs +++ (joined showMessage ls +++ (nil ▷ seg Unz z)))
+                  (ap (λ (y : Snoc Segment). list (nil ▷ seg Unb u +++ y +++ (nil ▷ seg Unz z))) jm ∙ simp (list-join, append-assoc)) (read-stands s (interchange n u ms z) v) in
                   let sr : Stand σ s (p + wide σ (shown (idle u bs))) (joined showMessage rs) =
-                      stand-back σ s p (nil ▷ seg Unb u +++ joined showMessage bs) (joined showMessage rs)
-                      (stand-front σ s p (nil ▷ seg Unb u +++ joined showMessage bs +++ joined showMessage rs) (joined showMessage as +++ (nil ▷ seg Unz z)) st) in
+                  stand-back σ s p (nil ▷ seg Unb u +++ joined showMessage bs) (joined showMessage rs)
+                  (stand-front σ s p (nil ▷ seg Unb u +++ joined showMessage bs +++ joined showMessage rs) (joined showMessage ls +++ (nil ▷ seg Unz z)) st) in
                   let pb : p + wide σ (shown (idle u bs)) + wide σ (joined showMessage rs) ≡ b =
-                      omega
-                      (arith, lb, eb, wide-join σ (nil ▷ seg Unb u) (joined showMessage (bs +++ rs)), ap (wide σ) (joined-join showMessage bs rs), wide-join σ (joined showMessage bs) (joined showMessage rs),
-                      wide-join σ (nil ▷ seg Unb u) (joined showMessage bs)) in
+                  omega (
+                    arith,
+                    lb,
+                    eb,
+                    wide-join σ (nil ▷ seg Unb u) (joined showMessage (bs +++ rs)),
+                    ap (wide σ) (joined-join showMessage bs rs),
+                    wide-join σ (joined showMessage bs) (joined showMessage rs),
+                    wide-join σ (nil ▷ seg Unb u) (joined showMessage bs),
+                  ) in
                   record {
                     i = interchange n u ms z;
                     read = v;
                     before = bs;
                     run = rs;
-                    behind = as;
+                    behind = ls;
                     parts = q;
                     octets =
                         ap (λ (y : ℕ). slice y b s) (sym (ea ∙ ka)) ∙ ap (λ (y : ℕ). slice (p + wide σ (shown (idle u bs))) y s) (sym pb)

@@ -20,7 +20,9 @@ use Rattle.grammar.specs.PlacesLaws.{wide-join}
 use Rattle.message.specs.Heads.{upto}
 use Rattle.groups.specs.Stand.{Stand}
 use Rattle.groups.specs.StandLaws.{stand-front, stand-back, stand-asked}
-use Rattle.groups.specs.Groups.{Chosen, chosen, chosenBy, nameAt, soughtIn, rangeOf}
+use Rattle.groups.specs.Groups.{Chosen, chosen, chosenBy, nameAt, soughtIn, rangeOf, headersAs, trailersAs}
+use Rattle.groups.specs.declared.named.Groups.{Groups}
+use Rattle.walk.specs.declared.sections.Layout.{Layout}
 use Rattle.groups.specs.declared.named.Sought.{Sought}
 use Rattle.groups.specs.declared.named.Sought.the-variants.{At, Nowhere}
 
@@ -59,6 +61,18 @@ module _ {σ : Service} {s rows : List ℕ} {f e : ℕ} {r : List ℕ} {n z i en
 
   pub seeking-end : Seeking σ s rows f e r n z i end → i ≤ 0 → Nowhere ≡ soughtIn σ s rows f e r n z
   seeking-end x l = let q : i ≡ 0 = omega (arith, l) in sym (x .same ∙ ap (λ (j : ℕ). soughtIn σ s rows f e r j end) q)
+
+-- ---- the groups of a message, by its layout
+
+pub groups-sought : (σ : Service) (s rows r : List ℕ) {g k : Groups} {x : Sought} → x ≡ soughtIn σ s rows (g .first) (g .element) r (g .count) (g .end) → g ≡ k
+    → x ≡ soughtIn σ s rows (k .first) (k .element) r (k .count) (k .end)
+groups-sought σ s rows r e d = e ∙ ap (λ (g : Groups). soughtIn σ s rows (g .first) (g .element) r (g .count) (g .end)) d
+
+pub trailers-room : (c : Layout) {g : Groups} → g ≡ trailersAs c → c .trailers ≤ 9 → g .first + g .count ≤ 18
+trailers-room c e l = subst (λ (g : Groups). g .first + g .count ≤ 18) (sym e) (omega (arith, l))
+
+pub headers-room : (c : Layout) {g : Groups} → g ≡ headersAs c → c .headers ≤ 9 → g .first + g .count ≤ 18
+headers-room c e l = subst (λ (g : Groups). g .first + g .count ≤ 18) (sym e) (omega (arith, l))
 
 -- ---- and on the tree
 

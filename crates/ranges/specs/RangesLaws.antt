@@ -28,8 +28,8 @@ use Rattle.walk.specs.Layout.{headsAt, bodyAt, tailAt, Rows}
 use Rattle.walk.specs.Sections.{Laid}
 use Rattle.walk.specs.declared.sections.Layout.{Layout}
 use Rattle.groups.specs.Stand.{Stand}
-use Rattle.groups.specs.Groups.{Chosen, chosen, chosenBy, nameAt, soughtIn, rangeOf, headersAs, trailersAs}
-use Rattle.groups.specs.GroupsLaws.{header-scope}
+use Rattle.groups.specs.Groups.{Chosen, chosen, chosenBy, nameAt, soughtIn, rangeOf, headersAs}
+use Rattle.groups.specs.GroupsLaws.{header-scope, groups-sought}
 use Rattle.groups.specs.Parts.{scopeH, headerNamed, trailerNamed, headerAt, headerEnd, trailerAt}
 use Rattle.groups.specs.PartsLaws.{call-refused, call-missing, call-holds, header-found, trailer-found, header-there}
 use Rattle.groups.specs.Calls.{Answered, given, refusedAs, orMissing, then, serviceIn, messageIn, Holds}
@@ -229,30 +229,19 @@ module _ (s m r : List ℕ) {f : Refusal} where
 
 -- ---- the code, call by call
 
-module _ (σ : Service) (s : List ℕ) (c : Layout) (rows r : List ℕ) {g : Groups} {x : Sought} (e : x ≡ soughtIn σ s rows (g .first) (g .element) r (g .count) (g .end)) where
-  headers-sought : g ≡ headersAs c → x ≡ soughtIn σ s rows 0 2 r (c .headers) (c .body)
-  headers-sought k = e ∙ ap (λ (g : Groups). soughtIn σ s rows (g .first) (g .element) r (g .count) (g .end)) k
+module _ (σ : Service) (s : List ℕ) (c : Layout) (rows r : List ℕ) {g : Groups} {x : Sought} (e : x ≡ soughtIn σ s rows (g .first) (g .element) r (g .count) (g .end))
+    (k : g ≡ headersAs c) (code : List ℕ) where
+  headers-sought : x ≡ soughtIn σ s rows 0 2 r (c .headers) (c .body)
+  headers-sought = groups-sought σ s rows r e k
 
-  pub trailers-sought : g ≡ trailersAs c → x ≡ trailerFound σ s c rows r
-  trailers-sought k = e ∙ ap (λ (g : Groups). soughtIn σ s rows (g .first) (g .element) r (g .count) (g .end)) k
+  pub scoped-hit : {a : Range} {b : Bool} → x ≡ At a → b ≡ same (nameAt σ s (a .start) 3) code → b ≡ true → At a ≡ headerFound σ s c rows code r
+  scoped-hit {a} q d f = sym (ap (scopedBy σ s code) (sym headers-sought ∙ q) ∙ ap (λ (b : Bool). cond b (At a) Nowhere) (sym d ∙ f))
 
-  module _ (k : g ≡ headersAs c) (code : List ℕ) where
-    pub scoped-hit : {a : Range} {b : Bool} → x ≡ At a → b ≡ same (nameAt σ s (a .start) 3) code → b ≡ true → At a ≡ headerFound σ s c rows code r
-    scoped-hit {a} q d f =
-        sym (ap (scopedBy σ s code) (sym (headers-sought k) ∙ q) ∙ ap (λ (b : Bool). cond b (At a) Nowhere) (sym d ∙ f))
+  pub scoped-other : {a : Range} {b : Bool} → x ≡ At a → b ≡ same (nameAt σ s (a .start) 3) code → b ≡ false → Nowhere ≡ headerFound σ s c rows code r
+  scoped-other {a} q d f = sym (ap (scopedBy σ s code) (sym headers-sought ∙ q) ∙ ap (λ (b : Bool). cond b (At a) Nowhere) (sym d ∙ f))
 
-    pub scoped-other : {a : Range} {b : Bool} → x ≡ At a → b ≡ same (nameAt σ s (a .start) 3) code → b ≡ false → Nowhere ≡ headerFound σ s c rows code r
-    scoped-other {a} q d f =
-        sym (ap (scopedBy σ s code) (sym (headers-sought k) ∙ q) ∙ ap (λ (b : Bool). cond b (At a) Nowhere) (sym d ∙ f))
-
-    pub scoped-none : x ≡ Nowhere → Nowhere ≡ headerFound σ s c rows code r
-    scoped-none q = sym (ap (scopedBy σ s code) (sym (headers-sought k) ∙ q))
-
-pub groups-room : (c : Layout) {g : Groups} → g ≡ headersAs c → c .headers ≤ 9 → g .first + g .count ≤ 18
-groups-room c e l = subst (λ (g : Groups). g .first + g .count ≤ 18) (sym e) (omega (arith, l))
-
-pub trailers-room : (c : Layout) {g : Groups} → g ≡ trailersAs c → c .trailers ≤ 9 → g .first + g .count ≤ 18
-trailers-room c e l = subst (λ (g : Groups). g .first + g .count ≤ 18) (sym e) (omega (arith, l))
+  pub scoped-none : x ≡ Nowhere → Nowhere ≡ headerFound σ s c rows code r
+  scoped-none q = sym (ap (scopedBy σ s code) (sym headers-sought ∙ q))
 
 pub parts-inside : {a : Scope1} {x : Parted} (n : ℕ) → a ≡ ScopeOf x → PartsInside a n → PartsInside (ScopeOf x) n
 parts-inside n e q = subst (λ (v : Scope1). PartsInside v n) e q

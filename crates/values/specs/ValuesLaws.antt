@@ -33,14 +33,13 @@ use Rattle.writing.specs.Written.{Text, noText, Writes}
 use Rattle.filters.specs.Filters.{valueBy, orBad}
 use Rattle.groups.specs.Stand.{Row, Stand}
 use Rattle.groups.specs.StandLaws.{stand-front, stand-back, stand-agrees, stand-asked}
-use Rattle.groups.specs.Groups.{Chosen, chosen, soughtIn, rangeOf, headersAs, trailersAs}
+use Rattle.groups.specs.Groups.{Chosen, chosen, soughtIn, rangeOf}
 use Rattle.groups.specs.GroupsLaws.{header-stands}
 use Rattle.groups.specs.Parts.{headerNamed, trailerNamed, headerAt, trailerAt, bodyIn}
 use Rattle.groups.specs.PartsLaws.{call-refused, call-missing, call-holds, header-found, trailer-found, header-there, trailer-there, body-row, body-tied}
 use Rattle.groups.specs.Links.{tieIn, linkFrom}
 use Rattle.groups.specs.LinksLaws.{There, tie-there, tie-none}
 use Rattle.groups.specs.Calls.{Holds, messageIn}
-use Rattle.groups.specs.declared.named.Groups.{Groups}
 use Rattle.groups.specs.declared.named.Range.{Range}
 use Rattle.groups.specs.declared.named.Sought.{Sought}
 use Rattle.groups.specs.declared.named.Sought.the-variants.{At, Nowhere}
@@ -90,16 +89,6 @@ module _ (σ : Service) (f : T (fit σ)) (s : List ℕ) (p q : ℕ) (c : Leaf) w
       absurd (omega arith)
 
 -- ---- the text of the value
-
-pub groups-sought : (σ : Service) (s rows r : List ℕ) {g k : Groups} {x : Sought} → x ≡ soughtIn σ s rows (g .first) (g .element) r (g .count) (g .end) → g ≡ k
-    → x ≡ soughtIn σ s rows (k .first) (k .element) r (k .count) (k .end)
-groups-sought σ s rows r e d = e ∙ ap (λ (g : Groups). soughtIn σ s rows (g .first) (g .element) r (g .count) (g .end)) d
-
-pub trailers-room : (c : Layout) {g : Groups} → g ≡ trailersAs c → c .trailers ≤ 9 → g .first + g .count ≤ 18
-trailers-room c e l = subst (λ (g : Groups). g .first + g .count ≤ 18) (sym e) (omega (arith, l))
-
-pub headers-room : (c : Layout) {g : Groups} → g ≡ headersAs c → c .headers ≤ 9 → g .first + g .count ≤ 18
-headers-room c e l = subst (λ (g : Groups). g .first + g .count ≤ 18) (sym e) (omega (arith, l))
 
 module _ {s m : List ℕ} {y : Syntax} {c : Layout} {rows : List ℕ} (h : Holds s m y c rows) (r : List ℕ) where
   pub trailer-none : {x : Sought} {z : List ℕ} → x ≡ soughtIn (y .service) s rows 9 1 r (c .trailers) (c .unt) → x ≡ Nowhere → z ≡ slice 0 0 s

@@ -4,7 +4,8 @@ use borrow.Author.Needs.{needs}
 use lib.ListN.{length}
 use denote.Ref.{now}
 use Rattle.groups.specs.Groups.{trailersAs}
-use Rattle.values.specs.ValuesLaws.{trailers-room, groups-sought, trailer-at, trailer-none}
+use Rattle.values.specs.ValuesLaws.{trailer-at, trailer-none}
+use Rattle.groups.specs.GroupsLaws.{trailers-room, groups-sought}
 use Rattle.values.proofs.trailer_text.Statement.{statement}
 use Rattle.values.proofs.trailer_text.Tie as tie
 use Rattle.values.proofs.trailer_text.Reads as reads

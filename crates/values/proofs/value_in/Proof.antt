@@ -5,7 +5,8 @@ use lib.ListN.{length}
 use denote.Ref.{now}
 use Rattle.groups.specs.Groups.{headersAs}
 use Rattle.writing.specs.WrittenLaws.{writes-none}
-use Rattle.values.specs.ValuesLaws.{headers-room, groups-sought, value-header, value-headless}
+use Rattle.values.specs.ValuesLaws.{value-header, value-headless}
+use Rattle.groups.specs.GroupsLaws.{headers-room, groups-sought}
 use Rattle.values.proofs.value_in.Statement.{statement}
 use Rattle.values.proofs.value_in.Tie as tie
 use Rattle.values.proofs.value_in.Reads as reads

@@ -4,7 +4,8 @@ use mathlib.Core.List.{[], _∷_}
 use mathlib.Core.Bool.{true, false}
 use borrow.Author.Needs.{needs}
 use Rattle.groups.specs.LinksLaws.{name-is}
-use Rattle.ranges.specs.RangesLaws.{groups-room, scoped-hit, scoped-other, scoped-none}
+use Rattle.ranges.specs.RangesLaws.{scoped-hit, scoped-other, scoped-none}
+use Rattle.groups.specs.GroupsLaws.{headers-room}
 use Rattle.ranges.proofs.scopes.header_of.Statement.{statement}
 use Rattle.ranges.proofs.scopes.header_of.Tie as tie
 use Rattle.ranges.proofs.scopes.header_of.Reads as reads
@@ -20,7 +21,7 @@ headers-of-requires c κs = search needs
 
 -- src/scopes.rt:55:11
 group-named-requires : tie.Need-group-named-requires
-group-named-requires c κs = (c .before .before .before .before .pre .0, (groups-room (c .before .before .before .before .args .c) (c .headers-of .ensures) (c .before .before .before .before .pre .1 .0), c .before .before .before .before .pre .1 .1))
+group-named-requires c κs = (c .before .before .before .before .pre .0, (headers-room (c .before .before .before .before .args .c) (c .headers-of .ensures) (c .before .before .before .before .pre .1 .0), c .before .before .before .before .pre .1 .1))
 
 -- src/scopes.rt:56:20
 enum-known-r : tie.Need-enum-known-r

@@ -1,9 +1,10 @@
+use Rattle.groups.specs.GroupsLaws.{groups-sought, trailers-room}
 use native.Mathlib.Omega.{arith}
 use mathlib.Core.Path.{refl, sym, ap, _∙_}
 use borrow.Author.Needs.{needs}
 use lib.ListN.{length}
 use Rattle.groups.specs.CallsLaws.{as-here, as-missing, as-refused}
-use Rattle.ranges.specs.RangesLaws.{trailers-room, trailers-sought, scope2-here, scope2-inside, scope2-refused, scope2-missing}
+use Rattle.ranges.specs.RangesLaws.{scope2-here, scope2-inside, scope2-refused, scope2-missing}
 use Rattle.ranges.proofs.scopes.scope2_places.Statement.{statement}
 use Rattle.ranges.proofs.scopes.scope2_places.Tie as tie
 use Rattle.ranges.proofs.scopes.scope2_places.Reads as reads
@@ -57,7 +58,7 @@ enum-known-f c = search needs
 
 -- src/scopes.rt:117:1
 returns : tie.Need-returns
-returns c = let w = as-here (c .before .before .before .before .before .before .before .before .before .before .before .before .before .before .before .before .before .before .before .before .args .s .now) (c .before .before .before .before .before .before .before .before .before .before .before .before .before .before .before .before .before .before .before .before .args .message .now) (c .before .before .before .before .before .before .before .before .before .before .before .before .before .before .message-named .last .1 .1 .0) (c .before .before .before .before .before .before .before .before .before .before .before .before .before .before .message-named .last .1 .1 .1 .0) (c .before .before .before .before .before .before .before .before .before .before .before .before .before .before .message-named .ensures) (c .before .before .before .before .before .before .before .before .before .before .before .before .x .given .1) in (scope2-here (w .1) (c .before .before .before .before .before .before .before .before .before .before .before .before .before .before .before .before .before .before .before .before .args .header .now) (c .before .before .before .before .before .header-of .ensures) (trailers-sought (c .before .before .before .before .before .before .before .before .before .before .before .before .x .given .0 .0 .syntax .service) (c .before .before .before .before .before .before .before .before .before .before .before .before .before .before .before .before .before .before .before .before .args .s .now) (c .before .before .before .before .before .before .before .before .before .before .before .before .x .given .0 .0 .layout) (c .before .before .before .before .before .before .before .before .before .before .before .before .before .before .message-named .last .1 .1 .1 .0) (c .before .before .before .before .before .before .before .before .before .before .before .before .before .before .before .before .before .before .before .before .args .header .now) (c .before .group-named .ensures) (c .before .before .trailers-of .ensures)) (c .run-by .ensures), scope2-inside (w .1) (c .before .before .before .before .before .before .before .before .before .before .before .before .before .before .before .before .before .before .before .before .args .header .now) (c .before .before .before .before .before .header-of .ensures) (trailers-sought (c .before .before .before .before .before .before .before .before .before .before .before .before .x .given .0 .0 .syntax .service) (c .before .before .before .before .before .before .before .before .before .before .before .before .before .before .before .before .before .before .before .before .args .s .now) (c .before .before .before .before .before .before .before .before .before .before .before .before .x .given .0 .0 .layout) (c .before .before .before .before .before .before .before .before .before .before .before .before .before .before .message-named .last .1 .1 .1 .0) (c .before .before .before .before .before .before .before .before .before .before .before .before .before .before .before .before .before .before .before .before .args .header .now) (c .before .group-named .ensures) (c .before .before .trailers-of .ensures)) (c .run-by .ensures))
+returns c = let w = as-here (c .before .before .before .before .before .before .before .before .before .before .before .before .before .before .before .before .before .before .before .before .args .s .now) (c .before .before .before .before .before .before .before .before .before .before .before .before .before .before .before .before .before .before .before .before .args .message .now) (c .before .before .before .before .before .before .before .before .before .before .before .before .before .before .message-named .last .1 .1 .0) (c .before .before .before .before .before .before .before .before .before .before .before .before .before .before .message-named .last .1 .1 .1 .0) (c .before .before .before .before .before .before .before .before .before .before .before .before .before .before .message-named .ensures) (c .before .before .before .before .before .before .before .before .before .before .before .before .x .given .1) in (scope2-here (w .1) (c .before .before .before .before .before .before .before .before .before .before .before .before .before .before .before .before .before .before .before .before .args .header .now) (c .before .before .before .before .before .header-of .ensures) (groups-sought (c .before .before .before .before .before .before .before .before .before .before .before .before .x .given .0 .0 .syntax .service) (c .before .before .before .before .before .before .before .before .before .before .before .before .before .before .before .before .before .before .before .before .args .s .now) (c .before .before .before .before .before .before .before .before .before .before .before .before .before .before .message-named .last .1 .1 .1 .0) (c .before .before .before .before .before .before .before .before .before .before .before .before .before .before .before .before .before .before .before .before .args .header .now) (c .before .group-named .ensures) (c .before .before .trailers-of .ensures)) (c .run-by .ensures), scope2-inside (w .1) (c .before .before .before .before .before .before .before .before .before .before .before .before .before .before .before .before .before .before .before .before .args .header .now) (c .before .before .before .before .before .header-of .ensures) (groups-sought (c .before .before .before .before .before .before .before .before .before .before .before .before .x .given .0 .0 .syntax .service) (c .before .before .before .before .before .before .before .before .before .before .before .before .before .before .before .before .before .before .before .before .args .s .now) (c .before .before .before .before .before .before .before .before .before .before .before .before .before .before .message-named .last .1 .1 .1 .0) (c .before .before .before .before .before .before .before .before .before .before .before .before .before .before .before .before .before .before .before .before .args .header .now) (c .before .group-named .ensures) (c .before .before .trailers-of .ensures)) (c .run-by .ensures))
 
 -- src/scopes.rt:117:1
 returns-2 : tie.Need-returns-2
