@@ -7,6 +7,8 @@
 //     scope2 I MREF HREF    ok START END
 //     f01 A R MREF HREF    ok START END, in R
 //     value I MREF HREF CAP    ok HEX: the octets written into a buffer of CAP
+//     regwrite I CAP    ok HEX
+//     regcheck I REG    ok
 //     report I    ok HEX: the text that the program `report` prints, always
 //
 // Each may answer `refused NUMBER PLACE`. The answer to every other line is `bad`.
@@ -29,6 +31,9 @@ use ranges::scopes::Run;
 use ranges::scopes::Scope1;
 use ranges::scopes::scope1_places;
 use ranges::scopes::scope2_places;
+use register::register::Checked;
+use register::register::register_check;
+use register::register::register_write;
 use syntax::content::Number;
 use syntax::content::content_is;
 use syntax::content::digits_value;
@@ -390,6 +395,45 @@ fn answer_value(out: &mut [u8; 4096], n: usize, s: &[u8], room: &mut [u8; 150000
     print_bad(out, n)
 }
 
+fn write_register(
+    out: &mut [u8; 4096],
+    n: usize,
+    room: &[u8; 150000],
+    bounds: &[usize; 7],
+    written: &mut [u8],
+) -> usize {
+    let interchange = argument(room, bounds, 0);
+    let most = capacity(argument(room, bounds, 1), written.len());
+    let w = register_write(interchange, &mut written[..most]);
+    print_written(out, n, w, written)
+}
+
+fn answer_regwrite(out: &mut [u8; 4096], n: usize, s: &[u8], room: &mut [u8; 150000]) -> usize {
+    let mut bounds = [0usize; 7];
+    if arguments(s, b"hn", room, &mut bounds) {
+        let mut written = [0u8; 65536];
+        return write_register(out, n, room, &bounds, &mut written);
+    }
+    print_bad(out, n)
+}
+
+fn print_checked(out: &mut [u8; 4096], n: usize, c: Checked) -> usize {
+    match c {
+        Checked::Same => text(out, n, b"ok\n"),
+        Checked::Refused(f) => print_refusal(out, n, f),
+    }
+}
+
+fn answer_regcheck(out: &mut [u8; 4096], n: usize, s: &[u8], room: &mut [u8; 150000]) -> usize {
+    let mut bounds = [0usize; 7];
+    if arguments(s, b"hh", room, &mut bounds) {
+        let interchange = argument(room, &bounds, 0);
+        let register = argument(room, &bounds, 1);
+        return print_checked(out, n, register_check(interchange, register));
+    }
+    print_bad(out, n)
+}
+
 // The buffer has room for every report.
 fn answer_report(out: &mut [u8; 4096], n: usize, s: &[u8], room: &mut [u8; 150000]) -> usize {
     let mut bounds = [0usize; 7];
@@ -415,6 +459,12 @@ fn answer(out: &mut [u8; 4096], n: usize, s: &[u8], room: &mut [u8; 150000]) -> 
     }
     if is_word(command, b"totals") {
         return answer_totals(out, n, rest, room);
+    }
+    if is_word(command, b"regwrite") {
+        return answer_regwrite(out, n, rest, room);
+    }
+    if is_word(command, b"regcheck") {
+        return answer_regcheck(out, n, rest, room);
     }
     if is_word(command, b"report") {
         return answer_report(out, n, rest, room);
