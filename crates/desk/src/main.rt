@@ -7,11 +7,13 @@
 //     scope2 I MREF HREF    ok START END
 //     f01 A R MREF HREF    ok START END, in R
 //     value I MREF HREF CAP    ok HEX: the octets written into a buffer of CAP
+//     sealoct I MREF REF F CAP    ok HEX
+//     seal I MREF REF F VALUE CAP    ok HEX
 //     regwrite I CAP    ok HEX
 //     regcheck I REG    ok
 //     report I    ok HEX: the text that the program `report` prints, always
 //
-// Each may answer `refused NUMBER PLACE`. The answer to every other line is `bad`.
+// Each but the last may answer `refused NUMBER PLACE`. The answer to every other line is `bad`.
 ghost use Prim.Native.Nat.{_≤_, _<_};
 ghost use lib.ListN.{length};
 use groups::named::Range;
@@ -34,6 +36,8 @@ use ranges::scopes::scope2_places;
 use register::register::Checked;
 use register::register::register_check;
 use register::register::register_write;
+use sealing::seal::seal;
+use sealing::seal::seal_octets;
 use syntax::content::Number;
 use syntax::content::content_is;
 use syntax::content::digits_value;
@@ -258,6 +262,14 @@ fn capacity(w: &[u8], all: usize) -> usize
     }
 }
 
+// The number that the digits of an argument give.
+fn number_of(w: &[u8]) -> u64 {
+    match digits_value(w, b' ') {
+        Number::Is(n) => n,
+        Number::Not => 0,
+    }
+}
+
 // Where the word at `from` ends: at the next space, or with the line.
 fn word_end(s: &[u8], from: usize) -> usize {
     let mut i = from;
@@ -395,6 +407,70 @@ fn answer_value(out: &mut [u8; 4096], n: usize, s: &[u8], room: &mut [u8; 150000
     print_bad(out, n)
 }
 
+fn write_octets(
+    out: &mut [u8; 4096],
+    n: usize,
+    room: &[u8; 150000],
+    bounds: &[usize; 7],
+    written: &mut [u8],
+) -> usize {
+    let interchange = argument(room, bounds, 0);
+    let message = argument(room, bounds, 1);
+    let reference = argument(room, bounds, 2);
+    let filter = number_of(argument(room, bounds, 3));
+    let most = capacity(argument(room, bounds, 4), written.len());
+    let w = seal_octets(
+        interchange,
+        message,
+        reference,
+        filter,
+        &mut written[..most],
+    );
+    print_written(out, n, w, written)
+}
+
+fn answer_sealoct(out: &mut [u8; 4096], n: usize, s: &[u8], room: &mut [u8; 150000]) -> usize {
+    let mut bounds = [0usize; 7];
+    if arguments(s, b"hhhnn", room, &mut bounds) {
+        let mut written = [0u8; 65536];
+        return write_octets(out, n, room, &bounds, &mut written);
+    }
+    print_bad(out, n)
+}
+
+fn write_sealed(
+    out: &mut [u8; 4096],
+    n: usize,
+    room: &[u8; 150000],
+    bounds: &[usize; 7],
+    written: &mut [u8],
+) -> usize {
+    let interchange = argument(room, bounds, 0);
+    let message = argument(room, bounds, 1);
+    let reference = argument(room, bounds, 2);
+    let filter = number_of(argument(room, bounds, 3));
+    let value = argument(room, bounds, 4);
+    let most = capacity(argument(room, bounds, 5), written.len());
+    let w = seal(
+        interchange,
+        message,
+        reference,
+        filter,
+        value,
+        &mut written[..most],
+    );
+    print_written(out, n, w, written)
+}
+
+fn answer_seal(out: &mut [u8; 4096], n: usize, s: &[u8], room: &mut [u8; 150000]) -> usize {
+    let mut bounds = [0usize; 7];
+    if arguments(s, b"hhhnhn", room, &mut bounds) {
+        let mut written = [0u8; 65536];
+        return write_sealed(out, n, room, &bounds, &mut written);
+    }
+    print_bad(out, n)
+}
+
 fn write_register(
     out: &mut [u8; 4096],
     n: usize,
@@ -491,6 +567,12 @@ fn answer_sealed(
     }
     if is_word(command, b"value") {
         return answer_value(out, n, rest, room);
+    }
+    if is_word(command, b"sealoct") {
+        return answer_sealoct(out, n, rest, room);
+    }
+    if is_word(command, b"seal") {
+        return answer_seal(out, n, rest, room);
     }
     print_bad(out, n)
 }

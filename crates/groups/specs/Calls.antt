@@ -59,6 +59,7 @@ pub record Holds (s m : List ℕ) (y : Syntax) (c : Layout) (rows : List ℕ) : 
   pub t : Leaf
   pub q : ℕ
   pub read : verdictOf s ≡ accepted i
+  pub settled : syntaxIn i ≡ some y
   pub service : serviceIn i ≡ y .service
   pub fits : T (fit (y .service))
   pub named : messageIn i m ≡ some (placed (message o t) q)

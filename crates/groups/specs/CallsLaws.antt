@@ -83,6 +83,7 @@ module _ (σ : Service) (p : ℕ) (u : Leaf) (r : List ℕ) where
 -- the syntax that the octets begin with is the reading's, and its segments stand behind UNA
 pub record Begin (s : List ℕ) (i : Interchange) (x : Start) : Type 0 where
   pub valid : Valid i
+  pub settled : syntaxIn i ≡ some (x .syntax)
   pub service : serviceIn i ≡ x .syntax .service
   pub fits : T (fit (x .syntax .service))
   pub at : openingIn (unaOf i) .at ≡ x .at
@@ -98,6 +99,7 @@ begins s i x e d =
     let a : openingIn (unaOf i) .at ≡ x .at = ap (λ (z : Start). z .at) f in
     record {
       valid = v;
+      settled = v .named ∙ ap some y;
       service = ap inForce (v .named) ∙ ap (λ (z : Syntax). z .service) y;
       fits = subst (λ (z : Syntax). T (fit (z .service))) y (fit-in-force i v);
       at = a;
@@ -164,6 +166,7 @@ module _ (s m : List ℕ) {g : Begun} where
               t = k .1;
               q = k .2;
               read = v;
+              settled = b .settled;
               service = b .service;
               fits = b .fits;
               named = ap (λ (z : Service). placedIn z (openingIn (unaAt s) .at) u ms m) (b .service) ∙ ap (λ (n : ℕ). placedIn (x .syntax .service) n u ms m) (b .at) ∙ k .3 .0;
