@@ -1,9 +1,12 @@
 -- D2c: the parts of the one tree whose printing a range is.
-use Prim.Native.Nat.{ℕ}
+use Prim.Native.Nat.{ℕ, _+_}
 use mathlib.Core.Path.{_≡_}
 use mathlib.Core.List.{List}
 use mathlib.Core.Option.{some}
+use lib.Dec.{T}
+use lib.ListN.{length}
 use lib.Seq.{slice}
+use Rattle.syntax.specs.Octets.{octets as written}
 use Rattle.syntax.specs.Tree.{Segment, print}
 use Rattle.grammar.specs.Lists.{Snoc, _▷_, _+++_, joined, list}
 use Rattle.grammar.specs.Interchange.{Leaf, Header, Trailer, Open, Message, message, showHeader, showTrailer, showBody, showMessage}
@@ -13,8 +16,8 @@ use Rattle.grammar.specs.Verdict.{accepted, verdictOf}
 use Rattle.grammar.specs.Places.{headersIn, trailersIn}
 use Rattle.grammar.specs.Named.{placed}
 use Rattle.grammar.specs.Counted.{messagesIn}
-use Rattle.spans.specs.Span.{parted, partedOf}
-use Rattle.groups.specs.Parts.{bodyIn}
+use Rattle.spans.specs.Span.{parted, partedOf, runRight}
+use Rattle.groups.specs.Parts.{scopeH, bodyIn}
 use Rattle.groups.specs.Calls.{serviceIn, messageIn}
 
 -- the message m of the reading of s
@@ -35,8 +38,12 @@ pub record Scope1 (s m r : List ℕ) (a b c d : ℕ) : Type 0 where
   pub behind : Snoc Header
   pub whole : headersIn (of .o) ≡ before ▷ header +++ behind
   pub ref : refH header ≡ r
+  pub scope : scopeH header ≡ written "1"
   pub header-octets : slice a b s ≡ print (serviceIn (of .i)) (list (showHeader header))
   pub body-octets : slice c d s ≡ print (serviceIn (of .i)) (list (showBody (bodyIn (of .o))))
+  -- the places are just as far apart
+  pub header-end : b ≡ a + length (slice a b s)
+  pub body-end : d ≡ c + length (slice c d s)
 
 -- scope 2: from a to b the header group, the headers behind it, the body, and the trailers before the one with the same 0534
 pub record Scope2 (s m r : List ℕ) (a b : ℕ) : Type 0 where
@@ -46,6 +53,7 @@ pub record Scope2 (s m r : List ℕ) (a b : ℕ) : Type 0 where
   pub behind : Snoc Header
   pub headers : headersIn (of .o) ≡ before ▷ header +++ behind
   pub ref : refH header ≡ r
+  pub scope : scopeH header ≡ written "2"
   pub earlier : Snoc Trailer
   pub trailer : Trailer
   pub later : Snoc Trailer
@@ -53,6 +61,7 @@ pub record Scope2 (s m r : List ℕ) (a b : ℕ) : Type 0 where
   pub paired : refT trailer ≡ r
   pub octets : slice a b s
       ≡ print (serviceIn (of .i)) (list (showHeader header +++ joined showHeader behind +++ showBody (bodyIn (of .o)) +++ joined showTrailer earlier))
+  pub end : b ≡ a + length (slice a b s)
 
 -- F01: from a to b the run of messages, of all messages of the interchange
 pub record F01 (s : List ℕ) (a b : ℕ) : Type 0 where
@@ -62,4 +71,7 @@ pub record F01 (s : List ℕ) (a b : ℕ) : Type 0 where
   pub run : Snoc Message
   pub behind : Snoc Message
   pub parts : partedOf (messagesIn i) ≡ parted before run behind
+  -- it holds a message, and no AUTACK
+  pub right : T (runRight run)
   pub octets : slice a b s ≡ print (serviceIn i) (list (joined showMessage run))
+  pub end : b ≡ a + length (slice a b s)

@@ -6,6 +6,7 @@ use mathlib.Core.List.{List, [], _∷_, _++_, append-assoc}
 use mathlib.Core.Option.{Option, none, some}
 use mathlib.Core.Bool.{Bool, true, false, cond}
 use lib.Dec.{T}
+use lib.ListN.{length}
 use lib.Seq.{slice}
 use Rattle.syntax.specs.Octets.{octets, same}
 use Rattle.syntax.specs.Opening.{begunOf}
@@ -22,7 +23,7 @@ use Rattle.grammar.specs.Valid.{Interchange, interchange, openingIn, unaOf, rea
 use Rattle.grammar.specs.Verdict.{Verdict, accepted, refusedWith, verdictOf, verdictBy}
 use Rattle.grammar.specs.PlacingLaws.{same-eq, regroup}
 use Rattle.grammar.specs.Places.{wide, headersIn, trailersIn}
-use Rattle.grammar.specs.PlacesLaws.{wide-join}
+use Rattle.grammar.specs.PlacesLaws.{wide-list, wide-join}
 use Rattle.grammar.specs.Named.{Placed, placed, placedIn}
 use Rattle.grammar.specs.Counted.{messagesIn}
 use Rattle.walk.specs.Layout.{headsAt, bodyAt, tailAt}
@@ -39,6 +40,7 @@ use Rattle.groups.specs.CallsLaws.{begins, placed-stands}
 use Rattle.ranges.specs.Ranges.{ofScope, headerIn, Parts, parts, scope1At, scope1In, scope1Of, Run, run, scope2At, scope2In, scope2Of}
 use Rattle.ranges.specs.F01.{referenceIn, runOf, runIn, f01By, f01Of}
 use Rattle.demands.specs.Printed.{Message′, Scope1, Scope2, F01}
+use Rattle.sealing.specs.WovenLaws.{joined-join}
 
 -- ---- what was asked, by what was given
 
@@ -62,7 +64,7 @@ module _ {A : Type 0} where
           each none k e = missing-given e
           each (some b) k e = let j : b ≡ a = cc in record { i = i; read = d; gave = k ∙ ap some j }
 
-none-some : {A B : Type 0} {a : A} → none ≡ some a → B
+pub none-some : {A B : Type 0} {a : A} → none ≡ some a → B
 none-some e = let z : _≡_ {A = ℕ} 0 1 = cc in absurd (omega arith)
 
 pub record Then {A B : Type 0} (o : Option A) (f : A → Option B) (b : B) : Type 0 where
@@ -85,23 +87,26 @@ read-stands s i e = by (begunOf s) refl e
         let b = begins s i x d e in
         subst (λ (n : ℕ). Stand (serviceIn i) s n (shown (reading i))) (sym (b .at)) (subst (λ (σ : Service). Stand σ s (x .at) (shown (reading i))) (sym (b .service)) (b .stands))
 
-message-stands : (s m : List ℕ) (i : Interchange) {o : Open} {t : Leaf} {q : ℕ} → verdictOf s ≡ accepted i → messageIn i m ≡ some (placed (message o t) q)
+pub message-stands : (s m : List ℕ) (i : Interchange) {o : Open} {t : Leaf} {q : ℕ} → verdictOf s ≡ accepted i → messageIn i m ≡ some (placed (message o t) q)
     → Stand (serviceIn i) s q (showMessage (message o t))
 message-stands s m (interchange n u ms z) e d =
     placed-stands (serviceIn (interchange n u ms z)) (openingIn n .at) u m s ms d
     (stand-front (serviceIn (interchange n u ms z)) s (openingIn n .at) (shown (idle u ms)) (nil ▷ seg Unz z) (read-stands s (interchange n u ms z) e))
 
 -- what stands there, in other brackets
-stand-as : {σ : Service} {s : List ℕ} {p : ℕ} (a b : Snoc Segment) → list a ≡ list b → Stand σ s p a → Stand σ s p b
+pub stand-as : {σ : Service} {s : List ℕ} {p : ℕ} (a b : Snoc Segment) → list a ≡ list b → Stand σ s p a → Stand σ s p b
 stand-as {σ} {s} {p} a b e w = record {
   behind = w .behind;
   octets = w .octets ∙ ap (λ (l : List Segment). print σ l ++ w .behind) e;
   written = subst (λ (l : List Segment). T (well σ l)) e (w .written);
 }
 
-joined-join : {A B : Type 0} (f : A → Snoc B) (a b : Snoc A) → joined f (a +++ b) ≡ joined f a +++ joined f b
-joined-join f a nil = refl
-joined-join f a (b ▷ x) = ap (λ (s : Snoc _). s +++ f x) (joined-join f a b) ∙ sym (regroup (joined f a) (joined f b) (f x))
+-- what is printed from a on ends where it is printed to
+far : (σ : Service) (gs : Snoc Segment) (l : List ℕ) (a b p : ℕ) → p ≡ a → p + wide σ gs ≡ b → l ≡ print σ (list gs) → b ≡ a + length l
+far σ gs l a b p pa pb o =
+    let n : length l ≡ length (print σ (list gs)) = ap length o in
+    let k = wide-list σ gs in
+    omega (arith, pa, pb, n, k)
 
 -- ---- the chosen one, in its row
 
@@ -129,6 +134,20 @@ scoped code (chosen hs h) {x} e = by (same (scopeH h) code) e
     by true e = cc
     by false e = none-some e
 
+-- the code of the header that is chosen
+abbrev ScopeOf : List ℕ → Chosen Header → Type 0
+ScopeOf code (chosen hs h) = scopeH h ≡ code
+
+scope-in : (code : List ℕ) (k : Chosen Header) {x : Chosen Header} → ofScope code k ≡ some x → ScopeOf code x
+scope-in code (chosen hs h) {x} e = by (same (scopeH h) code) (same-eq (scopeH h) code) e
+  where
+    by : (b : Bool) → (T b → scopeH h ≡ code) → cond b (some (chosen hs h)) none ≡ some x → ScopeOf code x
+    by true f e = let k : chosen hs h ≡ x = cc in subst (ScopeOf code) k (f tt)
+    by false f e = none-some e
+
+scope-so : (code r : List ℕ) (o : Open) (x : Chosen Header) → headerIn code o r ≡ some x → ScopeOf code x
+scope-so code r o x e = let t = then-so (headerNamed o r) (ofScope code) x e in scope-in code (t .a) (t .second)
+
 -- the header of a scope that a call names, in its message
 header-so : (code r : List ℕ) (o : Open) (x : Chosen Header) → headerIn code o r ≡ some x → headerNamed o r ≡ some x
 header-so code r o x e =
@@ -149,18 +168,25 @@ module _ (s m r : List ℕ) (a b c d : ℕ) where
           let h = then-so (headerIn (octets "1") (msg u hs w ts) r)
           (λ h. some (parts (headerAt (serviceIn i) q (msg u hs w ts) h) (headerEnd (serviceIn i) q (msg u hs w ts) h) (bodyAt (serviceIn i) q (msg u hs w ts)) (tailAt (serviceIn i) q (msg u hs w ts))))
           (parts a b c d) k in
-          each (h .a) (header-so (octets "1") r (msg u hs w ts) (h .a) (h .first)) (h .second)
+          each (h .a) (header-so (octets "1") r (msg u hs w ts) (h .a) (h .first)) (scope-so (octets "1") r (msg u hs w ts) (h .a) (h .first)) (h .second)
         where
-          each : (x : Chosen Header) → headerNamed (msg u hs w ts) r ≡ some x
+          each : (x : Chosen Header) → headerNamed (msg u hs w ts) r ≡ some x → ScopeOf (octets "1") x
               → some (parts (headerAt (serviceIn i) q (msg u hs w ts) x) (headerEnd (serviceIn i) q (msg u hs w ts) x) (bodyAt (serviceIn i) q (msg u hs w ts)) (tailAt (serviceIn i) q (msg u hs w ts))) ≡ some (parts a b c d)
               → Scope1 s m r a b c d
-          each (chosen ys x) f z =
+          each (chosen ys x) f v1 z =
               let ea : headerAt (serviceIn i) q (msg u hs w ts) (chosen ys x) ≡ a = cc in
               let eb : headerEnd (serviceIn i) q (msg u hs w ts) (chosen ys x) ≡ b = cc in
               let ec : bodyAt (serviceIn i) q (msg u hs w ts) ≡ c = cc in
               let ed : tailAt (serviceIn i) q (msg u hs w ts) ≡ d = cc in
               let st = message-stands s m i v n in
               let y = chosen-among refH r hs f in
+              let ho : slice a b s ≡ print (serviceIn i) (list (showHeader x)) =
+              ap (λ (k : ℕ). slice k b s) (sym ea) ∙ ap (λ (k : ℕ). slice (headerAt (serviceIn i) q (msg u hs w ts) (chosen ys x)) k s) (sym eb)
+              ∙ stand-slice (serviceIn i) s (headerAt (serviceIn i) q (msg u hs w ts) (chosen ys x)) (showHeader x)
+              (chosen-stands showHeader refH (serviceIn i) s [] 0 2 r (headsAt (serviceIn i) q (msg u hs w ts)) hs f (headers-stand (serviceIn i) s q u hs w ts t st)) in
+              let bo : slice c d s ≡ print (serviceIn i) (list (showBody w)) =
+              ap (λ (k : ℕ). slice k d s) (sym ec) ∙ ap (λ (k : ℕ). slice (bodyAt (serviceIn i) q (msg u hs w ts)) k s) (sym ed)
+              ∙ stand-slice (serviceIn i) s (bodyAt (serviceIn i) q (msg u hs w ts)) (showBody w) (body-stands (serviceIn i) s q u hs w ts t st) in
               record {
                 of = record { i = i; read = v; o = msg u hs w ts; t = t; q = q; named = n };
                 before = ys;
@@ -168,19 +194,17 @@ module _ (s m r : List ℕ) (a b c d : ℕ) where
                 behind = y .rest;
                 whole = y .whole;
                 ref = y .ref;
-                header-octets =
-                    ap (λ (k : ℕ). slice k b s) (sym ea) ∙ ap (λ (k : ℕ). slice (headerAt (serviceIn i) q (msg u hs w ts) (chosen ys x)) k s) (sym eb)
-                    ∙ stand-slice (serviceIn i) s (headerAt (serviceIn i) q (msg u hs w ts) (chosen ys x)) (showHeader x)
-                    (chosen-stands showHeader refH (serviceIn i) s [] 0 2 r (headsAt (serviceIn i) q (msg u hs w ts)) hs f (headers-stand (serviceIn i) s q u hs w ts t st));
-                body-octets =
-                    ap (λ (k : ℕ). slice k d s) (sym ec) ∙ ap (λ (k : ℕ). slice (bodyAt (serviceIn i) q (msg u hs w ts)) k s) (sym ed)
-                    ∙ stand-slice (serviceIn i) s (bodyAt (serviceIn i) q (msg u hs w ts)) (showBody w) (body-stands (serviceIn i) s q u hs w ts t st);
+                scope = v1;
+                header-octets = ho;
+                body-octets = bo;
+                header-end = far (serviceIn i) (showHeader x) (slice a b s) a b (headerAt (serviceIn i) q (msg u hs w ts) (chosen ys x)) ea eb ho;
+                body-end = far (serviceIn i) (showBody w) (slice c d s) c d (bodyAt (serviceIn i) q (msg u hs w ts)) ec ed bo;
               }
 
 -- ---- scope 2
 
 -- the run within the message, in other brackets
-run-list : (h A X R B E Y L T : Snoc Segment)
+pub run-list : (h A X R B E Y L T : Snoc Segment)
     → list (h +++ (A +++ X +++ R) +++ B +++ (E +++ Y +++ L) +++ T) ≡ list (h +++ A +++ (X +++ R +++ B +++ E) +++ (Y +++ L +++ T))
 run-list h A X R B E Y L T =
     simp (list-join, append-assoc)
@@ -197,11 +221,11 @@ module _ (s m r : List ℕ) (a b : ℕ) where
           let h = then-so (headerIn (octets "2") (msg u hs w ts) r)
           (λ h. then (trailerNamed (msg u hs w ts) r) (λ x. some (run (headerAt (serviceIn i) q (msg u hs w ts) h) (trailerAt (serviceIn i) q (msg u hs w ts) x)))) (run a b) k in
           let l = then-so (trailerNamed (msg u hs w ts) r) (λ x. some (run (headerAt (serviceIn i) q (msg u hs w ts) (h .a)) (trailerAt (serviceIn i) q (msg u hs w ts) x))) (run a b) (h .second) in
-          each (h .a) (l .a) (header-so (octets "2") r (msg u hs w ts) (h .a) (h .first)) (l .first) (l .second)
+          each (h .a) (l .a) (header-so (octets "2") r (msg u hs w ts) (h .a) (h .first)) (scope-so (octets "2") r (msg u hs w ts) (h .a) (h .first)) (l .first) (l .second)
         where
-          each : (x : Chosen Header) (y : Chosen Trailer) → headerNamed (msg u hs w ts) r ≡ some x → trailerNamed (msg u hs w ts) r ≡ some y
+          each : (x : Chosen Header) (y : Chosen Trailer) → headerNamed (msg u hs w ts) r ≡ some x → ScopeOf (octets "2") x → trailerNamed (msg u hs w ts) r ≡ some y
               → some (run (headerAt (serviceIn i) q (msg u hs w ts) x) (trailerAt (serviceIn i) q (msg u hs w ts) y)) ≡ some (run a b) → Scope2 s m r a b
-          each (chosen ys x) (chosen es y) f l z =
+          each (chosen ys x) (chosen es y) f v2 l z =
               let ea : headerAt (serviceIn i) q (msg u hs w ts) (chosen ys x) ≡ a = cc in
               let eb : trailerAt (serviceIn i) q (msg u hs w ts) (chosen es y) ≡ b = cc in
               let st = message-stands s m i v n in
@@ -233,6 +257,7 @@ module _ (s m r : List ℕ) (a b : ℕ) where
                 wide-join σ (joined showHeader ys +++ showHeader x) (joined showHeader (c .rest)),
                 wide-join σ (joined showHeader ys) (showHeader x),
               ) in
+              let ro : slice a b s ≡ print σ (list M) = ap (λ (k : ℕ). slice a k s) (sym pb) ∙ stand-slice σ s a M (subst (λ (k : ℕ). Stand σ s k M) pa st3) in
               record {
                 of = record { i = i; read = v; o = msg u hs w ts; t = t; q = q; named = n };
                 before = ys;
@@ -240,12 +265,14 @@ module _ (s m r : List ℕ) (a b : ℕ) where
                 behind = c .rest;
                 headers = c .whole;
                 ref = c .ref;
+                scope = v2;
                 earlier = es;
                 trailer = y;
                 later = d .rest;
                 trailers = d .whole;
                 paired = d .ref;
-                octets = ap (λ (k : ℕ). slice a k s) (sym pb) ∙ stand-slice σ s a M (subst (λ (k : ℕ). Stand σ s k M) pa st3);
+                octets = ro;
+                end = far σ M (slice a b s) a b a refl pb ro;
               }
 
 -- ---- F01
@@ -264,12 +291,12 @@ module _ (s : List ℕ) (a b : ℕ) where
           each (t .a) (partedOf ms) refl (t .first) (t .second)
         where
           each : (x : Span) (p : Parted) → partedOf ms ≡ p → spanBy (serviceIn (interchange n u ms z)) (openingIn n .at) u (partedOf ms) ≡ some x → some (runOf x) ≡ some (run a b) → F01 s a b
-          each (span k l) (parted bs rs ls) q f g = one (runRight rs) (sym (ap (spanBy (serviceIn (interchange n u ms z)) (openingIn n .at) u) q) ∙ f)
+          each (span k l) (parted bs rs ls) q f g = one (runRight rs) refl (sym (ap (spanBy (serviceIn (interchange n u ms z)) (openingIn n .at) u) q) ∙ f)
             where
-              one : (c : Bool) → cond c (some (span (openingIn n .at + wide (serviceIn (interchange n u ms z)) (shown (idle u bs))) (openingIn n .at + wide (serviceIn (interchange n u ms z)) (shown (idle u (bs +++ rs)))))) none ≡ some (span k l)
+              one : (c : Bool) → runRight rs ≡ c → cond c (some (span (openingIn n .at + wide (serviceIn (interchange n u ms z)) (shown (idle u bs))) (openingIn n .at + wide (serviceIn (interchange n u ms z)) (shown (idle u (bs +++ rs)))))) none ≡ some (span k l)
                   → F01 s a b
-              one false h = none-some h
-              one true h =
+              one false y h = none-some h
+              one true y h =
                   let σ : Service = serviceIn (interchange n u ms z) in
                   let p : ℕ = openingIn n .at in
                   let ka : k ≡ a = cc in
@@ -295,6 +322,9 @@ module _ (s : List ℕ) (a b : ℕ) where
                     wide-join σ (joined showMessage bs) (joined showMessage rs),
                     wide-join σ (nil ▷ seg Unb u) (joined showMessage bs),
                   ) in
+                  let ro : slice a b s ≡ print σ (list (joined showMessage rs)) =
+                  ap (λ (y : ℕ). slice y b s) (sym (ea ∙ ka)) ∙ ap (λ (y : ℕ). slice (p + wide σ (shown (idle u bs))) y s) (sym pb)
+                  ∙ stand-slice σ s (p + wide σ (shown (idle u bs))) (joined showMessage rs) sr in
                   record {
                     i = interchange n u ms z;
                     read = v;
@@ -302,9 +332,9 @@ module _ (s : List ℕ) (a b : ℕ) where
                     run = rs;
                     behind = ls;
                     parts = q;
-                    octets =
-                        ap (λ (y : ℕ). slice y b s) (sym (ea ∙ ka)) ∙ ap (λ (y : ℕ). slice (p + wide σ (shown (idle u bs))) y s) (sym pb)
-                        ∙ stand-slice σ s (p + wide σ (shown (idle u bs))) (joined showMessage rs) sr;
+                    right = subst T (sym y) tt;
+                    octets = ro;
+                    end = far σ (joined showMessage rs) (slice a b s) a b (p + wide σ (shown (idle u bs))) (ea ∙ ka) pb ro;
                   }
 
   pub f01-printed : (t m r : List ℕ) → f01Of t s m r ≡ given (run a b) → F01 s a b

@@ -1,18 +1,37 @@
 // The demands, in the words of document 01. Each is the promise of a function that does nothing, so that the gate holds it.
-// The definitions are those of the crate `grammar`: `Interchange` and `print` (Valid.antt, Interchange.antt), `Valid` (Valid.antt, with the
-// rules of Rules.antt, Elements.antt and Loads.antt), `verdictOf` and `totalsOf` (Verdict.antt), `countedIn` (Counted.antt); of the crate `ranges`:
-// `scope1Of`, `scope2Of` (Ranges.antt) and `f01Of` (F01.antt), which its calls promise; and `Printed.antt` here.
-ghost use Prim.Native.Nat.{ℕ};
+// The definitions are those that the calls promise: of the crate `grammar` `Interchange` and `print` (Valid.antt, Interchange.antt), `Valid`
+// (Valid.antt, with the rules of Rules.antt, Elements.antt and Loads.antt), `verdictOf` and `totalsOf` (Verdict.antt), `countedIn` (Counted.antt);
+// of `ranges` `scope1Of`, `scope2Of` (Ranges.antt) and `f01Of` (F01.antt); of `values` `valueOf` (Values.antt); of `sealing` `sealOf`,
+// `sealOctetsOf` and `sealed` (Sealing.antt); of `register` `registerOf`, `checkNumbers`, `told` (Register.antt); of `writing` `Writes`
+// (Written.antt); and here `Printed.antt`, `Sealed.antt`, `Range.antt` (the grammars of what is sealed) and `Read.antt`.
+ghost use Prim.Native.Nat.{ℕ, _≤_};
 ghost use mathlib.Core.Path.{_≡_};
-ghost use mathlib.Core.List.{List};
+ghost use mathlib.Core.List.{List, _++_};
 ghost use mathlib.Core.Logic.{_↔_};
+ghost use lib.Dec.{T};
+ghost use lib.ListN.{length, take, drop};
+ghost use lib.Seq.{slice};
+ghost use Rattle.syntax.specs.Service.{fit};
+ghost use Rattle.syntax.specs.declared.Service.{Service};
+ghost use Rattle.grammar.specs.Lists.{Snoc};
+ghost use Rattle.grammar.specs.Interchange.{Message};
 ghost use Rattle.grammar.specs.Valid.{Interchange, print, Valid};
 ghost use Rattle.grammar.specs.Verdict.{verdictOf, accepted, refusedWith, totalsOf, totalsIn};
 ghost use Rattle.grammar.specs.Counted.{countedIn, messagesIn};
 ghost use Rattle.groups.specs.Calls.{given};
 ghost use Rattle.ranges.specs.Ranges.{parts, run, scope1Of, scope2Of};
 ghost use Rattle.ranges.specs.F01.{f01Of};
+ghost use Rattle.filters.specs.Octets.{Octets};
+ghost use Rattle.writing.specs.Written.{Text, text, Writes};
+ghost use Rattle.writing.specs.declared.Written.the-variants.{Length};
+ghost use Rattle.values.specs.Values.{valueOf};
+ghost use Rattle.sealing.specs.Sealing.{sealOf};
+ghost use Rattle.register.specs.Register.{registerOf, checkNumbers, told};
+ghost use Rattle.register.specs.declared.register.Checked.the-variants.{Same};
 ghost use Rattle.demands.specs.Printed.{Scope1, Scope2, F01};
+ghost use Rattle.demands.specs.Sealed.{Accepted, Signed, Kept};
+ghost use Rattle.demands.specs.Range.{Reads, Range1, scope1, Range2, scope2, f01};
+ghost use Rattle.demands.specs.Read.{syntaxOf, Read1, Alike1, Read2, Alike2, ReadF, AlikeF};
 
 // D2a. "An interchange is accepted exactly when it meets ISO 9735 parts 1, 2, 5, 6 as document 01 narrows or relaxes them": the verdict on
 // the octets s is accepted if and only if some valid interchange prints s.
@@ -41,6 +60,11 @@ pub fn refused_is_none()
     ensures { λ _. ⌜ ((s : List ℕ) (n p : ℕ) → verdictOf s ≡ refusedWith n p → (t : Interchange) → Valid t → print t ≡ s → ⊥) ⌝ }
 {}
 
+// The verdict's refusals are the numbers 1 to 12: never 0, which the accepted case has, nor 13 and up, which the calls add.
+pub fn refusals_are_numbered()
+    ensures { λ _. ⌜ ((s : List ℕ) (n p : ℕ) → verdictOf s ≡ refusedWith n p → (1 ≤ n) × (n ≤ 12)) ⌝ }
+{}
+
 // D2c. What a range call hands back is the printing of that part of the one tree. Scope 1: of the header group, and of the body, of the message and
 // the header that are named.
 pub fn scope1_is_printed()
@@ -55,4 +79,82 @@ pub fn scope2_is_printed()
 // F01: of the messages of the run, in the interchange that is referred to.
 pub fn f01_is_printed()
     ensures { λ _. ⌜ ((t s m r : List ℕ) (a b : ℕ) → f01Of t s m r ≡ given (run a b) → F01 s a b) ⌝ }
+{}
+
+// D2d. For every input on which `seal` succeeds; x is what it writes, for the interchange s, the message m, REF r, F f and VALUE v.
+//
+// What it is to succeed: a call that writes a text and answers a length has written that text, first in the lent buffer, and it has 65,535 octets
+// at most.
+pub fn success_is_written()
+    ensures { λ _. ⌜ ((t : Text) (out : List ℕ) (k : ℕ) (left : List ℕ) → Writes t out (Length k) left → (t ≡ text (take k left)) × ((length (take k left) ≡ k) × (k ≤ 65535))) ⌝ }
+{}
+
+// "the result is accepted; its tree is the old one with the new header group first and the new trailer group last in that message and UNT's count
+// four more, every other segment octet for octet"
+pub fn sealed_is_accepted()
+    ensures { λ _. ⌜ ((s m r : List ℕ) (f : ℕ) (v x : List ℕ) → sealOf s m r f v ≡ text x → length x ≤ 65535 → Accepted s m r f v x) ⌝ }
+{}
+
+// "the new header's scope 1 octets in it are what `seal_octets` writes for the same interchange, message, REF and F"
+pub fn sealed_is_signed()
+    ensures { λ _. ⌜ ((s m r : List ℕ) (f : ℕ) (v x : List ℕ) → sealOf s m r f v ≡ text x → length x ≤ 65535 → Signed s m r f x) ⌝ }
+{}
+
+// "`value` of it gives VALUE"
+pub fn sealed_has_value()
+    ensures { λ _. ⌜ ((s m r : List ℕ) (f : ℕ) (v x : List ℕ) → Octets v → sealOf s m r f v ≡ text x → length x ≤ 65535 → valueOf x m r ≡ text v) ⌝ }
+{}
+
+// "scope 1 and scope 2 ranges of headers that were there keep their octets"
+pub fn sealed_keeps_ranges()
+    ensures { λ _. ⌜ ((s m r : List ℕ) (f : ℕ) (v x : List ℕ) → sealOf s m r f v ≡ text x → length x ≤ 65535 → Kept s x) ⌝ }
+{}
+
+// D2e. The check call accepts exactly what the write call writes. Left is what `register_check` promises, with the answer `Same`; right what
+// `register_write` promises, with the answer the length of g, and a lent buffer that now starts with g. The buffer is any that has room for g.
+// A register longer than 65,535 octets (more than 3,276 messages) is not written (15), and the check accepts none there: it answers 13.
+pub fn check_accepts_written()
+    ensures { λ _. ⌜ ((s g out : List ℕ) → length g ≤ length out → (told Same ≡ checkNumbers (registerOf s) g) ↔ Writes (registerOf s) out (Length (length g)) (g ++ drop (length g) out)) ⌝ }
+{}
+
+// D3. "Equal sealed octets mean equal readings". Scope 1: the header group, then the body, joined. Octets have at most one reading under the
+// grammar of the range.
+pub fn scope1_one_reading()
+    ensures { λ _. ⌜ ((σ : Service) → T (fit σ) → (o : List ℕ) (t v : Range1) → Reads scope1 σ o t → Reads scope1 σ o v → t ≡ v) ⌝ }
+{}
+
+// What the call hands back has one; it is what the call splits, and what is counted and totalled of the message.
+pub fn scope1_is_read()
+    ensures { λ _. ⌜ ((s m r : List ℕ) (a b c d : ℕ) → scope1Of s m r ≡ given (parts a b c d) → Read1 s m r a b c d) ⌝ }
+{}
+
+// Two ranges of the same version, repertoire and service characters that have equal octets, joined, have equal readings, and the same split.
+pub fn scope1_reads_alike()
+    ensures { λ _. ⌜ ((s m r s′ m′ r′ : List ℕ) (a b c d a′ b′ c′ d′ : ℕ) → scope1Of s m r ≡ given (parts a b c d) → scope1Of s′ m′ r′ ≡ given (parts a′ b′ c′ d′) → syntaxOf s ≡ syntaxOf s′ → slice a b s ++ slice c d s ≡ slice a′ b′ s′ ++ slice c′ d′ s′ → Alike1 s m r a b c d s′ m′ r′ a′ b′ c′ d′) ⌝ }
+{}
+
+// Scope 2: the header group, the headers behind it, the body and the earlier trailers.
+pub fn scope2_one_reading()
+    ensures { λ _. ⌜ ((σ : Service) → T (fit σ) → (o : List ℕ) (t v : Range2) → Reads scope2 σ o t → Reads scope2 σ o v → t ≡ v) ⌝ }
+{}
+
+pub fn scope2_is_read()
+    ensures { λ _. ⌜ ((s m r : List ℕ) (a b : ℕ) → scope2Of s m r ≡ given (run a b) → Read2 s m r a b) ⌝ }
+{}
+
+pub fn scope2_reads_alike()
+    ensures { λ _. ⌜ ((s m r s′ m′ r′ : List ℕ) (a b a′ b′ : ℕ) → scope2Of s m r ≡ given (run a b) → scope2Of s′ m′ r′ ≡ given (run a′ b′) → syntaxOf s ≡ syntaxOf s′ → slice a b s ≡ slice a′ b′ s′ → Alike2 s m r a b s′ m′ r′ a′ b′) ⌝ }
+{}
+
+// F01: the messages of the run. The syntax is that of the interchange that is referred to, in which the octets lie, not of the AUTACK's.
+pub fn f01_one_reading()
+    ensures { λ _. ⌜ ((σ : Service) → T (fit σ) → (o : List ℕ) (t v : Snoc Message) → Reads f01 σ o t → Reads f01 σ o v → t ≡ v) ⌝ }
+{}
+
+pub fn f01_is_read()
+    ensures { λ _. ⌜ ((t s m r : List ℕ) (a b : ℕ) → f01Of t s m r ≡ given (run a b) → ReadF s a b) ⌝ }
+{}
+
+pub fn f01_reads_alike()
+    ensures { λ _. ⌜ ((t s m r t′ s′ m′ r′ : List ℕ) (a b a′ b′ : ℕ) → f01Of t s m r ≡ given (run a b) → f01Of t′ s′ m′ r′ ≡ given (run a′ b′) → syntaxOf s ≡ syntaxOf s′ → slice a b s ≡ slice a′ b′ s′ → AlikeF s a b s′ a′ b′) ⌝ }
 {}

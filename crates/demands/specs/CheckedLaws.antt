@@ -1,0 +1,90 @@
+-- D2e: the check of a register accepts exactly what the write writes.
+use Prim.Native.Nat.{ℕ, _≤_}
+use native.Mathlib.Omega.{arith}
+use mathlib.Core.Bool.{Bool, true, false, cond}
+use mathlib.Core.List.{List, [], _∷_, _++_}
+use mathlib.Core.Logic.{_↔_}
+use mathlib.Core.Path.{_≡_, refl, ap, sym, _∙_, subst}
+use lib.Dec.{T, ltb}
+use lib.ListN.{length, drop}
+use borrow.Author.Tests.{ltb-false, le-ltb, eq-eqb}
+use Rattle.syntax.specs.Octets.{same}
+use Rattle.grammar.specs.PlacingLaws.{same-eq}
+use Rattle.grammar.specs.Verdict.{Verdict, accepted, refusedWith, verdictOf}
+use Rattle.writing.specs.Written.{Text, text, noText, refusedAs, Writes}
+use Rattle.writing.specs.declared.Written.the-variants.{Length}
+use Rattle.register.specs.Register.{registerIn, registerBy, registerOf, checkNumbers, told}
+use Rattle.register.specs.declared.register.Checked.the-variants.{Same}
+use Rattle.demands.specs.NumbersLaws.{refused-number}
+
+-- what has the numbers of `Same`: the register itself, where it may be written at all
+pub record Accepted (x : Text) (g : List ℕ) : Type 0 where
+  pub is : x ≡ text g
+  pub short : length g ≤ 65535
+
+-- ---- the check
+
+same-self : (t : List ℕ) → same t t ≡ true
+same-self [] = refl
+same-self (b ∷ t) = rw (eq-eqb b b refl) (same-self t)
+
+text-accepted : (t g : List ℕ) → told Same ≡ checkNumbers (text t) g → Accepted (text t) g
+text-accepted t g e = by (ltb 65535 (length t)) (ltb-false 65535 (length t)) (same t g) (λ d. same-eq t g (subst T (sym d) tt)) e
+  where
+    by : (l : Bool) → (l ≡ false → length t ≤ 65535) → (b : Bool) → (b ≡ true → t ≡ g) → told Same ≡ cond {A = List ℕ} l (13 ∷ 0 ∷ []) (cond {A = List ℕ} b (0 ∷ 0 ∷ []) (13 ∷ 0 ∷ []))
+        → Accepted (text t) g
+    by true k b f e = let z : _≡_ {A = ℕ} 0 13 = cc in absurd (omega arith)
+    by false k false f e = let z : _≡_ {A = ℕ} 0 13 = cc in absurd (omega arith)
+    by false k true f e = let h : t ≡ g = f refl in record { is = ap text h; short = subst (λ (x : List ℕ). length x ≤ 65535) h (k refl) }
+
+-- a refusal has no number 0
+check-accepted : (s g : List ℕ) → told Same ≡ checkNumbers (registerOf s) g → Accepted (registerOf s) g
+check-accepted s g e = by (verdictOf s) (refused-number s) e
+  where
+    by : (v : Verdict) → ((n p : ℕ) → v ≡ refusedWith n p → (1 ≤ n) × (n ≤ 12)) → told Same ≡ checkNumbers (registerBy v) g → Accepted (registerBy v) g
+    by (accepted i) f e = text-accepted (registerIn i) g e
+    by (refusedWith n p) f e = let z : 0 ≡ n = cc in absurd (omega (arith, z, f n p refl .0))
+
+accepted-checks : {x : Text} {g : List ℕ} → Accepted x g → told Same ≡ checkNumbers x g
+accepted-checks {x} {g} a = sym (ap (λ (x : Text). checkNumbers x g) (a .is) ∙ rw (le-ltb 65535 (length g) (a .short), same-self g))
+
+-- ---- the write
+
+accepted-writes : {x : Text} {g out : List ℕ} → length g ≤ length out → Accepted x g → Writes x out (Length (length g)) (g ++ drop (length g) out)
+accepted-writes {x} {g} {out} h a =
+    subst (λ (x : Text). Writes x out (Length (length g)) (g ++ drop (length g) out)) (sym (a .is)) (record {
+      answer = rw (le-ltb 65535 (length g) (a .short), le-ltb (length out) (length g) h);
+      octets = rw (le-ltb 65535 (length g) (a .short), le-ltb (length out) (length g) h);
+    })
+
+front : (a b x y : List ℕ) → length a ≡ length b → a ++ x ≡ b ++ y → a ≡ b
+front [] [] x y l e = refl
+front [] (c ∷ b) x y l e = absurd (omega (arith, l))
+front (c ∷ a) [] x y l e = absurd (omega (arith, l))
+front (c ∷ a) (d ∷ b) x y l e =
+    let i : c ≡ d = cc in
+    let j : a ++ x ≡ b ++ y = cc in
+    let k : a ≡ b = front a b x y (omega (arith, l)) j in
+    rw (i, k)
+
+never : {A : Type 0} {n m p : ℕ} → Length n ≡ refusedAs m p → A
+never e = let z : _≡_ {A = ℕ} 0 1 = cc in absurd (omega arith)
+
+writes-accepted : (x : Text) (g out : List ℕ) → Writes x out (Length (length g)) (g ++ drop (length g) out) → Accepted x g
+writes-accepted (noText n p) g out w = never (w .answer)
+writes-accepted (text t) g out w = by (ltb 65535 (length t)) (ltb-false 65535 (length t)) (ltb (length out) (length t)) (w .answer) (w .octets)
+  where
+    by : (l : Bool) → (l ≡ false → length t ≤ 65535) → (b : Bool) → Length (length g) ≡ cond (cond l true b) (refusedAs 15 0) (Length (length t))
+        → g ++ drop (length g) out ≡ cond (cond l true b) out (t ++ drop (length t) out) → Accepted (text t) g
+    by true k b e d = never e
+    by false k true e d = never e
+    by false k false e d =
+        let n : length g ≡ length t = cc in
+        let h : t ≡ g = sym (front g t (drop (length g) out) (drop (length t) out) n d) in
+        record { is = ap text h; short = subst (λ (x : List ℕ). length x ≤ 65535) h (k refl) }
+
+-- ---- both
+
+pub accepts-written : (s g out : List ℕ) → length g ≤ length out
+    → (told Same ≡ checkNumbers (registerOf s) g) ↔ Writes (registerOf s) out (Length (length g)) (g ++ drop (length g) out)
+accepts-written s g out h = (λ e. accepted-writes h (check-accepted s g e), λ w. accepted-checks (writes-accepted (registerOf s) g out w))

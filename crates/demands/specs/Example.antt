@@ -1,0 +1,110 @@
+-- Example P of document 01, "Marked for proof": P1 to P10, computed over the definitions that the calls promise. One table under one proof.
+use Prim.Native.Nat.{ℕ, _-_}
+use mathlib.Core.List.{List, [], _∷_, _++_, map}
+use mathlib.Core.Path.{_≡_, refl}
+use lib.ListN.{length, take}
+use lib.Seq.{slice}
+use Rattle.syntax.specs.Octets.{octets}
+use Rattle.syntax.specs.Example.{P}
+use Rattle.syntax.specs.Repertoire.{inside}
+use Rattle.grammar.specs.Verdict.{verdictOf, totalsOf, numbers, totalNumbers}
+use Rattle.groups.specs.Calls.{Answered, given, refusedAs}
+use Rattle.ranges.specs.Ranges.{Parts, parts, scope1Of}
+use Rattle.ranges.specs.Told.{partNumbers}
+use Rattle.writing.specs.Written.{Text, text, noText}
+use Rattle.values.specs.Values.{valueOf}
+use Rattle.sealing.specs.Sealing.{sealOf, sealOctetsOf}
+
+-- `UNT+6`
+abbrev pub P3 : List ℕ
+P3 = octets "UNB+UNOC:4+PITA+ROYALT+20240105:0700+R1'UNH+M1+DESADV:D:01B:UN'QTY+12:30000:KGM'QTY+12:27.34:TNE'CNT+1:57.34:TNE'UNT+6+M1'UNZ+1+R1'"
+
+-- "cut to 122 octets"
+abbrev pub P4 : List ℕ
+P4 = take 122 P
+
+-- `27.3.4`
+abbrev pub P5 : List ℕ
+P5 = octets "UNB+UNOC:4+PITA+ROYALT+20240105:0700+R1'UNH+M1+DESADV:D:01B:UN'QTY+12:30000:KGM'QTY+12:27.3.4:TNE'CNT+1:57.34:TNE'UNT+5+M1'UNZ+1+R1'"
+
+-- `30,000`
+abbrev pub P6 : List ℕ
+P6 = octets "UNB+UNOC:4+PITA+ROYALT+20240105:0700+R1'UNH+M1+DESADV:D:01B:UN'QTY+12:30,000:KGM'QTY+12:27.34:TNE'CNT+1:57.34:TNE'UNT+5+M1'UNZ+1+R1'"
+
+-- "sealed with A1, F 2, value 0F A0"
+abbrev pub P7 : List ℕ
+P7 =
+    octets
+    "UNB+UNOC:4+PITA+ROYALT+20240105:0700+R1'UNH+M1+DESADV:D:01B:UN'USH+1+A1+1+1+2+2+1'USA+1:::16:1'QTY+12:30000:KGM'QTY+12:27.34:TNE'CNT+1:57.34:TNE'UST+A1+4'USR+1:0FA0'UNT+9+M1'UNZ+1+R1'"
+
+-- "in P7 `UST+A1+3`"
+abbrev pub P8 : List ℕ
+P8 =
+    octets
+    "UNB+UNOC:4+PITA+ROYALT+20240105:0700+R1'UNH+M1+DESADV:D:01B:UN'USH+1+A1+1+1+2+2+1'USA+1:::16:1'QTY+12:30000:KGM'QTY+12:27.34:TNE'CNT+1:57.34:TNE'UST+A1+3'USR+1:0FA0'UNT+9+M1'UNZ+1+R1'"
+
+-- "in P7 `UST+A2`"
+abbrev pub P9 : List ℕ
+P9 =
+    octets
+    "UNB+UNOC:4+PITA+ROYALT+20240105:0700+R1'UNH+M1+DESADV:D:01B:UN'USH+1+A1+1+1+2+2+1'USA+1:::16:1'QTY+12:30000:KGM'QTY+12:27.34:TNE'CNT+1:57.34:TNE'UST+A2+4'USR+1:0FA0'UNT+9+M1'UNZ+1+R1'"
+
+-- ---- as numbers
+
+-- "sealed octets": how many the header part has, and the body part
+abbrev sealed : Answered Parts → List ℕ
+sealed (given (parts a b c d)) = (b - a) ∷ (d - c) ∷ []
+sealed (refusedAs n p) = []
+
+-- number and place, then the octets that are written
+abbrev valued : Text → List ℕ
+valued (text t) = 0 ∷ 0 ∷ t
+valued (noText n p) = n ∷ p ∷ []
+
+-- ---- the table
+
+-- what is computed, and what the paper prints
+pub data Row : Type 0 where
+  row : List ℕ → List ℕ → Row
+
+abbrev pub computed : Row → List ℕ
+computed (row a b) = a
+
+abbrev pub printed : Row → List ℕ
+printed (row a b) = b
+
+abbrev pub table : List Row
+table =
+    -- P1 accepted, 57,340,000 g
+    row (numbers (verdictOf P)) (0 ∷ 0 ∷ [])
+    ∷ row (totalNumbers (totalsOf P (octets "M1"))) (0 ∷ 0 ∷ 2 ∷ 57340000 ∷ [])
+    -- P2 empty: 1 at 0
+    ∷ row (numbers (verdictOf [])) (1 ∷ 0 ∷ [])
+    -- P3 `UNT+6`: 10 at 113
+    ∷ row (numbers (verdictOf P3)) (10 ∷ 113 ∷ [])
+    -- P4 cut to 122 octets: 7 at 122
+    ∷ row (numbers (verdictOf P4)) (7 ∷ 122 ∷ [])
+    -- P5 `27.3.4`: 12 at 80
+    ∷ row (numbers (verdictOf P5)) (12 ∷ 80 ∷ [])
+    -- P6 `30,000` is 30 kg: 10 at 114
+    ∷ row (numbers (verdictOf P6)) (10 ∷ 114 ∷ [])
+    -- P7 183 octets, sealed octets 32 and 50: from 63 to 95 the header, from there to 145 the body
+    ∷ row (numbers (verdictOf P7)) (0 ∷ 0 ∷ [])
+    ∷ row (length P7 ∷ []) (183 ∷ [])
+    ∷ row (partNumbers (scope1Of P7 (octets "M1") (octets "A1"))) (0 ∷ 0 ∷ 63 ∷ 95 ∷ 95 ∷ 145 ∷ [])
+    ∷ row (sealed (scope1Of P7 (octets "M1") (octets "A1"))) (32 ∷ 50 ∷ [])
+    -- .. which sealing P writes, and which are signed; the same REF again is refused
+    ∷ row (valued (sealOf P (octets "M1") (octets "A1") 2 (15 ∷ 160 ∷ []))) (0 ∷ 0 ∷ P7)
+    ∷ row (valued (sealOctetsOf P (octets "M1") (octets "A1") 2)) (0 ∷ 0 ∷ (slice 63 95 P7 ++ slice 95 145 P7))
+    ∷ row (valued (sealOf P7 (octets "M1") (octets "A1") 2 (15 ∷ 160 ∷ []))) (16 ∷ 0 ∷ [])
+    -- P8 in P7 `UST+A1+3`: 10 at 165
+    ∷ row (numbers (verdictOf P8)) (10 ∷ 165 ∷ [])
+    -- P9 in P7 `UST+A2`: 9 at 145
+    ∷ row (numbers (verdictOf P9)) (9 ∷ 145 ∷ [])
+    -- P10 value of P7 is 0F A0
+    ∷ row (valued (valueOf P7 (octets "M1") (octets "A1"))) (0 ∷ 0 ∷ 15 ∷ 160 ∷ [])
+    ∷ []
+
+pub all : map computed table ≡ map printed table
+unfolding inside
+all = refl

@@ -1,0 +1,108 @@
+-- D3: what the range calls hand back, as read under the grammar of its scope code; and what it is for two ranges to be read alike.
+use Prim.Native.Nat.{ℕ, _-_}
+use mathlib.Core.Path.{_≡_}
+use mathlib.Core.List.{List, _++_}
+use mathlib.Core.Option.{Option, none}
+use lib.Seq.{slice}
+use Rattle.syntax.specs.Tree.{Segment, print}
+use Rattle.syntax.specs.declared.Syntax.{Syntax}
+use Rattle.grammar.specs.Lists.{Snoc, list, each, size, sum}
+use Rattle.grammar.specs.Interchange.{plain, Message, showHeader}
+use Rattle.grammar.specs.Rules.{refM}
+use Rattle.grammar.specs.Valid.{syntaxIn}
+use Rattle.grammar.specs.Verdict.{Verdict, accepted, refusedWith, verdictOf, loadsM, Totals, totalled, totalsOf}
+use Rattle.groups.specs.Parts.{bodyIn}
+use Rattle.groups.specs.Calls.{serviceIn}
+use Rattle.demands.specs.Printed.{Scope1, Scope2, F01}
+use Rattle.demands.specs.Range.{Reads, Same, totalIn, Range1, range1, scope1, Range2, range2, scope2, f01}
+
+-- "version, repertoire and service characters are always those of the interchange in which the octets lie"
+abbrev pub syntaxBy : Verdict → Option Syntax
+syntaxBy (accepted i) = syntaxIn i
+syntaxBy (refusedWith n p) = none
+
+abbrev pub syntaxOf : List ℕ → Option Syntax
+syntaxOf s = syntaxBy (verdictOf s)
+
+-- what the totals call gives for a message with these loads: how many, and the grams
+abbrev pub totalsFor : Snoc ℕ → Totals
+totalsFor l = totalled (size l) (sum l)
+
+-- ---- scope 1
+
+-- from a to b the header part, from c to d the body part
+pub record Read1 (s m r : List ℕ) (a b c d : ℕ) : Type 0 where
+  -- the header group and the body of the verdict's reading; no AUTACK has a header of this scope
+  pub part : Scope1 s m r a b c d
+  pub body : Snoc Segment
+  pub plainly : bodyIn (part .of .o) ≡ plain body
+  -- they are a reading of the octets, joined; there is no other
+  pub reads : Reads scope1 (serviceIn (part .of .i)) (slice a b s ++ slice c d s) (range1 (part .header) body)
+  pub only : (v : Range1) → Reads scope1 (serviceIn (part .of .i)) (slice a b s ++ slice c d s) v → v ≡ range1 (part .header) body
+  -- the split is the reading's
+  pub header-part : slice a b s ≡ print (serviceIn (part .of .i)) (list (showHeader (part .header)))
+  pub body-part : slice c d s ≡ print (serviceIn (part .of .i)) (list body)
+  -- and so are the loads and the total that are given for the message
+  pub totals : totalsOf s m ≡ totalsFor (scope1 .loads (range1 (part .header) body))
+
+abbrev pub tree1 : {s m r : List ℕ} {a b c d : ℕ} → Read1 s m r a b c d → Range1
+tree1 x = range1 (x .part .header) (x .body)
+
+-- two ranges with one reading
+pub record Alike1 (s m r : List ℕ) (a b c d : ℕ) (s′ m′ r′ : List ℕ) (a′ b′ c′ d′ : ℕ) : Type 0 where
+  pub left : Read1 s m r a b c d
+  pub right : Read1 s′ m′ r′ a′ b′ c′ d′
+  -- "the same segments element by element, .. the same loads in the same order, the same total in whole grams"
+  pub same : Same scope1 (tree1 left) (tree1 right)
+  -- "the same split"
+  pub header-part : slice a b s ≡ slice a′ b′ s′
+  pub body-part : slice c d s ≡ slice c′ d′ s′
+  pub header-length : b - a ≡ b′ - a′
+  pub body-length : d - c ≡ d′ - c′
+  -- the totals that are given for the two messages
+  pub totals : totalsOf s m ≡ totalsOf s′ m′
+
+-- ---- scope 2
+
+-- from a to b the run
+pub record Read2 (s m r : List ℕ) (a b : ℕ) : Type 0 where
+  -- the header group, the headers behind it, the body and the earlier trailers of the verdict's reading
+  pub part : Scope2 s m r a b
+  pub body : Snoc Segment
+  pub plainly : bodyIn (part .of .o) ≡ plain body
+  -- they are a reading of the octets; there is no other
+  pub reads : Reads scope2 (serviceIn (part .of .i)) (slice a b s) (range2 (part .header) (part .behind) body (part .earlier))
+  pub only : (v : Range2) → Reads scope2 (serviceIn (part .of .i)) (slice a b s) v → v ≡ range2 (part .header) (part .behind) body (part .earlier)
+  -- its loads and total are those that are given for the message
+  pub totals : totalsOf s m ≡ totalsFor (scope2 .loads (range2 (part .header) (part .behind) body (part .earlier)))
+
+abbrev pub tree2 : {s m r : List ℕ} {a b : ℕ} → Read2 s m r a b → Range2
+tree2 x = range2 (x .part .header) (x .part .behind) (x .body) (x .part .earlier)
+
+-- two ranges with one reading
+pub record Alike2 (s m r : List ℕ) (a b : ℕ) (s′ m′ r′ : List ℕ) (a′ b′ : ℕ) : Type 0 where
+  pub left : Read2 s m r a b
+  pub right : Read2 s′ m′ r′ a′ b′
+  pub same : Same scope2 (tree2 left) (tree2 right)
+  pub totals : totalsOf s m ≡ totalsOf s′ m′
+
+-- ---- F01
+
+-- from a to b the run, in the interchange that is referred to
+pub record ReadF (s : List ℕ) (a b : ℕ) : Type 0 where
+  -- messages of the verdict's reading
+  pub part : F01 s a b
+  -- they are a reading of the octets; there is no other
+  pub reads : Reads f01 (serviceIn (part .i)) (slice a b s) (part .run)
+  pub only : (v : Snoc Message) → Reads f01 (serviceIn (part .i)) (slice a b s) v → v ≡ part .run
+  -- each message's loads and total are those that are given for its 0062, and the run's total is their sum
+  pub totals : each (λ (m : Message). totalsOf s (refM m)) (part .run) ≡ each (λ (m : Message). totalsFor (loadsM m)) (part .run)
+  pub total : totalIn f01 (part .run) ≡ sum (each (λ (m : Message). sum (loadsM m)) (part .run))
+
+-- two ranges with one reading
+pub record AlikeF (s : List ℕ) (a b : ℕ) (s′ : List ℕ) (a′ b′ : ℕ) : Type 0 where
+  pub left : ReadF s a b
+  pub right : ReadF s′ a′ b′
+  pub same : Same f01 (left .part .run) (right .part .run)
+  -- the totals that are given for each message of the one and of the other
+  pub totals : each (λ (m : Message). totalsOf s (refM m)) (left .part .run) ≡ each (λ (m : Message). totalsOf s′ (refM m)) (right .part .run)

@@ -1,0 +1,72 @@
+-- D2d: what a sealed interchange is, read back.
+use Prim.Native.Nat.{ℕ, _+_}
+use mathlib.Core.Path.{_≡_}
+use mathlib.Core.List.{List, _++_}
+use mathlib.Core.Option.{some}
+use lib.Seq.{slice}
+use Rattle.grammar.specs.Lists.{Snoc, _▷_, _+++_}
+use Rattle.grammar.specs.Segments.{number}
+use Rattle.grammar.specs.Interchange.{Leaf, Open, Message, message}
+use Rattle.grammar.specs.Valid.{Interchange, syntaxIn}
+use Rattle.grammar.specs.Verdict.{accepted, verdictOf}
+use Rattle.grammar.specs.Named.{placed}
+use Rattle.grammar.specs.Counted.{messagesIn}
+use Rattle.writing.specs.Written.{text}
+use Rattle.groups.specs.Calls.{given, serviceIn, messageIn}
+use Rattle.ranges.specs.Ranges.{parts, run, scope1Of, scope2Of}
+use Rattle.sealing.specs.Sealing.{newHeader, newTrailer, grown, sealedMessage, sealed, textBy, sealOctetsOf}
+
+-- the tree that sealing the message m of i gives: for VALUE v under F f, with the reference r
+abbrev pub sealedBy : Interchange → List ℕ → List ℕ → ℕ → List ℕ → Interchange
+sealedBy i m r f v = sealed i m (newHeader r f) (newTrailer (serviceIn i) r (textBy f v))
+
+-- "the result is accepted; its tree is the old one with the new header group first and the new trailer group last in that message and UNT's count
+-- four more, every other segment octet for octet"
+pub record Accepted (s m r : List ℕ) (f : ℕ) (v x : List ℕ) : Type 0 where
+  -- the old tree, its message m, and where its UNH stands
+  pub i : Interchange
+  pub read : verdictOf s ≡ accepted i
+  pub o : Open
+  pub n : Leaf
+  pub q : ℕ
+  pub named : messageIn i m ≡ some (placed (message o n) q)
+  -- the new tree: the same UNA, UNB and UNZ, the message that is sealed where the message was, and all other messages as they were
+  pub reads : verdictOf x ≡ accepted (sealedBy i m r f v)
+  pub before : Snoc Message
+  pub behind : Snoc Message
+  pub old : messagesIn i ≡ before ▷ message o n +++ behind
+  pub new : messagesIn (sealedBy i m r f v) ≡ before ▷ sealedMessage (newHeader r f) (newTrailer (serviceIn i) r (textBy f v)) (message o n) +++ behind
+  pub counts : number (grown n) 1 ≡ number n 1 + 4
+  -- it is found by the same 0062, at the same place
+  pub stays : messageIn (sealedBy i m r f v) m ≡ some (placed (sealedMessage (newHeader r f) (newTrailer (serviceIn i) r (textBy f v)) (message o n)) q)
+  -- the same repertoire, version and service characters are in force
+  pub settled : syntaxIn (sealedBy i m r f v) ≡ syntaxIn i
+
+-- "the new header's scope 1 octets in it are what `seal_octets` writes for the same interchange, message, REF and F"
+pub record Signed (s m r : List ℕ) (f : ℕ) (x : List ℕ) : Type 0 where
+  pub a : ℕ
+  pub b : ℕ
+  pub c : ℕ
+  pub d : ℕ
+  pub range : scope1Of x m r ≡ given (parts a b c d)
+  pub octets : sealOctetsOf s m r f ≡ text (slice a b x ++ slice c d x)
+
+-- "scope 1 and scope 2 ranges of headers that were there keep their octets": of the header h of the message k
+pub record Kept1 (s x k h : List ℕ) (a b c d : ℕ) : Type 0 where
+  pub header : ℕ
+  pub header-end : ℕ
+  pub body : ℕ
+  pub body-end : ℕ
+  pub range : scope1Of x k h ≡ given (parts header header-end body body-end)
+  pub header-octets : slice header header-end x ≡ slice a b s
+  pub body-octets : slice body body-end x ≡ slice c d s
+
+pub record Kept2 (s x k h : List ℕ) (a b : ℕ) : Type 0 where
+  pub start : ℕ
+  pub end : ℕ
+  pub range : scope2Of x k h ≡ given (run start end)
+  pub octets : slice start end x ≡ slice a b s
+
+pub record Kept (s x : List ℕ) : Type 0 where
+  pub scope1 : (k h : List ℕ) (a b c d : ℕ) → scope1Of s k h ≡ given (parts a b c d) → Kept1 s x k h a b c d
+  pub scope2 : (k h : List ℕ) (a b : ℕ) → scope2Of s k h ≡ given (run a b) → Kept2 s x k h a b

@@ -1,0 +1,153 @@
+-- A message that is sealed meets the rules on a message that it met.
+use Prim.Native.Nat.{ℕ, suc, _+_, _<_}
+use native.Mathlib.Omega.{arith}
+use mathlib.Core.Path.{_≡_, refl, ap, _∙_, sym, subst}
+use mathlib.Core.List.{List}
+use mathlib.Core.Bool.{Bool, true, false, not, cond, _&&_, _||_}
+use lib.Dec.{T, eqb, leb, T-not, leb→le, le→leb, eqb→eq}
+use borrow.Author.Tests.{eq-eqb}
+use Rattle.syntax.specs.Octets.{same}
+use Rattle.syntax.specs.TreeLaws.{and-left, and-right}
+use Rattle.syntax.specs.declared.Service.{Service}
+use Rattle.grammar.specs.Lists.{Snoc, nil, _▷_, _+++_, each, joined, size, among, Rule, test, _and_, holds, every, few, distinct}
+use Rattle.grammar.specs.Segments.{Unh, seg, number, reference, second}
+use Rattle.grammar.specs.Interchange.{Leaf, Header, Trailer, trailer, Body, plain, ack, msg, Message, message, showHeader, showTrailer, showBody, showOpen, showMessage}
+use Rattle.grammar.specs.Rules.{auto, okHeader, okBody, whole, okMessage, refH, refT, linked, one, refsMessage, sizeAt, counted, countsMessage, scopeRight, scopesMessage}
+use Rattle.sealing.specs.Sealing.{newHeader, newTrailer, grown, sealedMessage, refRight, filterRight, takesMore, isNew, maySeal}
+use Rattle.demands.specs.SealedListLaws.{front, of-true, false-of, same-self, same-swap, size-join, each-front, joined-front, every-front, distinct-front, away, aways, wider, longer, first-among}
+use Rattle.demands.specs.SealedNumberLaws.{ref-header, ref-trailer, grown-number, grown-second}
+
+-- what `maySeal` asks, part by part
+pub record May (u : Leaf) (hs : Snoc Header) (r : List ℕ) (f : ℕ) : Type 0 where
+  pub ref : T (refRight r)
+  pub filter : T (filterRight f)
+  pub other : T (not (auto u))
+  pub few : T (leb (size hs) 8)
+  pub new : T (not (among (each refH hs) r))
+
+pub may : (u : Leaf) (hs : Snoc Header) (b : Body) (ts : Snoc Trailer) (r : List ℕ) (f : ℕ) → T (maySeal (msg u hs b ts) r f) → May u hs r f
+may u hs b ts r f h =
+    let p : T (refRight r && filterRight f && takesMore (msg u hs b ts)) = and-left (refRight r && filterRight f && takesMore (msg u hs b ts)) (isNew (msg u hs b ts) r) h in
+    let w : T (refRight r && filterRight f) = and-left (refRight r && filterRight f) (takesMore (msg u hs b ts)) p in
+    let t : T (not (auto u) && leb (size hs) 8) = and-right (refRight r && filterRight f) (takesMore (msg u hs b ts)) p in
+    record {
+      ref = and-left (refRight r) (filterRight f) w;
+      filter = and-right (refRight r) (filterRight f) w;
+      other = and-left (not (auto u)) (leb (size hs) 8) t;
+      few = and-right (not (auto u)) (leb (size hs) 8) t;
+      new = and-right (refRight r && filterRight f && takesMore (msg u hs b ts)) (isNew (msg u hs b ts) r) h;
+    }
+
+-- ---- 0588 and the header of a reference
+
+size-other : (n : List ℕ) (x : Header) (hs : Snoc Header) → same (refH x) n ≡ false → sizeAt n (front x hs) ≡ sizeAt n hs
+size-other n x nil e = rw e
+size-other n x (hs ▷ h) e = ap (λ (k : ℕ). cond (same (refH h) n) (size (showHeader h)) k) (size-other n x hs e)
+
+size-new : (r : List ℕ) (x : Header) (hs : Snoc Header) → refH x ≡ r → T (not (among (each refH hs) r)) → sizeAt r (front x hs) ≡ size (showHeader x)
+size-new r x nil e k = rw (e, same-self r)
+size-new r x (hs ▷ h) e k = by (same (refH h) r) k (size-new r x hs e)
+  where
+    by : (b : Bool) → T (not (b || among (each refH hs) r)) → (T (not (among (each refH hs) r)) → sizeAt r (front x hs) ≡ size (showHeader x))
+        → cond b (size (showHeader h)) (sizeAt r (front x hs)) ≡ size (showHeader x)
+    by true k ih = absurd k
+    by false k ih = ih k
+
+recount : (r : List ℕ) (x : Header) (hs : Snoc Header) (ts : Snoc Trailer) → refH x ≡ r → T (not (among (each refH hs) r)) → holds (every (one (each refH hs)) (each refT ts))
+    → holds (every (counted hs) ts) → holds (every (counted (front x hs)) ts)
+recount r x hs nil e k n h = tt
+recount r x hs (ts ▷ trailer c o) e k n h = (
+  recount r x hs ts e k (n .0) (h .0),
+  subst (λ (m : ℕ). T (eqb (number c 2) (m + size (showTrailer (trailer c o)))))
+      (sym (size-other (reference c) x hs (ap (λ (z : List ℕ). same z (reference c)) e ∙ same-swap (reference c) r (away (each refH hs) r (reference c) k (n .1))))) (h .1),
+)
+
+-- ---- the segments of a message, four more
+
+size-four : {A : Type 0} (a b c d : Snoc A) → size (a +++ b +++ c +++ d) ≡ size a + size b + size c + size d
+size-four a b c d = omega (arith, size-join (a +++ b +++ c) d, size-join (a +++ b) c, size-join a b)
+
+size-open : (r : List ℕ) (f : ℕ) (σ : Service) (t : List ℕ) (u : Leaf) (hs : Snoc Header) (b : Body) (ts : Snoc Trailer)
+    → size (showOpen (msg u (front (newHeader r f) hs) b (ts ▷ newTrailer σ r t))) ≡ size (showOpen (msg u hs b ts)) + 4
+size-open r f σ t u hs b ts =
+    let h : size (joined showHeader (front (newHeader r f) hs)) ≡ 2 + size (joined showHeader hs) =
+    ap size (joined-front showHeader (newHeader r f) hs) ∙ size-join (nil +++ showHeader (newHeader r f)) (joined showHeader hs) in
+    let e : size (showOpen (msg u (front (newHeader r f) hs) b ts)) ≡ 1 + size (joined showHeader (front (newHeader r f) hs)) + size (showBody b) + size (joined showTrailer ts) =
+    size-four (nil ▷ seg Unh u) (joined showHeader (front (newHeader r f) hs)) (showBody b) (joined showTrailer ts) in
+    let d : size (showOpen (msg u hs b ts)) ≡ 1 + size (joined showHeader hs) + size (showBody b) + size (joined showTrailer ts) =
+    size-four (nil ▷ seg Unh u) (joined showHeader hs) (showBody b) (joined showTrailer ts) in
+    let z : size (showOpen (msg u (front (newHeader r f) hs) b (ts ▷ newTrailer σ r t))) ≡ suc (suc (size (showOpen (msg u (front (newHeader r f) hs) b ts)))) = refl in
+    omega (arith, h, e, d, z)
+
+-- ---- one message
+
+module _ (r : List ℕ) (f : ℕ) (σ : Service) (t : List ℕ) (u : Leaf) (hs : Snoc Header) (b : Body) (ts : Snoc Trailer) (n : Leaf) (q : May u hs r f) where
+  abbrev was : Message
+  was = message (msg u hs b ts) n
+
+  abbrev is : Message
+  is = sealedMessage (newHeader r f) (newTrailer σ r t) (message (msg u hs b ts) n)
+
+  -- "0 to 9 header groups"
+  nine : holds (few 9 (front (newHeader r f) hs))
+  nine = le→leb (size (front (newHeader r f) hs)) 9 (omega (arith, size-join (nil ▷ newHeader r f) hs, leb→le (size hs) 8 (q .few)))
+
+  -- 7
+  pub order-sealed : holds (okMessage was) → holds (okMessage is)
+  order-sealed o = by b (o .0 .1 .0) (o .0 .1 .1 .0) (o .1)
+    where
+      by : (b : Body) → holds (every okHeader hs) → holds (okBody (auto u) hs b) → holds (whole (auto u) b)
+          → holds (okMessage (sealedMessage (newHeader r f) (newTrailer σ r t) (message (msg u hs b ts) n)))
+      by (plain nil) e k w = ((nine, (every-front okHeader (newHeader r f) hs (tt, (tt, tt)) e, (tt, w))), w)
+      by (plain (c ▷ i)) e k w = ((nine, (every-front okHeader (newHeader r f) hs (tt, (tt, tt)) e, (k, w))), w)
+      by (ack c ls) e k w = absurd (T-not (auto u) (q .other) (k .0))
+
+  -- 9
+  abbrev refsAs : Snoc (List ℕ) → Snoc (List ℕ) → Bool → Rule
+  refsAs hr tr s = (distinct hr and every (one hr) (linked b) and distinct tr and every (one hr) tr) and test s and every (one tr) hr
+
+  -- a body of a message that is not AUTACK names no header
+  unlinked : (b : Body) (s : Snoc (List ℕ)) → holds (okBody (auto u) hs b) → holds (every (one s) (linked b))
+  unlinked (plain b) s o = tt
+  unlinked (ack c ls) s o = absurd (T-not (auto u) (q .other) (o .0))
+
+  pub refs-sealed : holds (okMessage was) → holds (refsMessage was) → holds (refsMessage is)
+  refs-sealed o k =
+      let hr : Snoc (List ℕ) = each refH hs in
+      let tr : Snoc (List ℕ) = each refT ts in
+      let eh : each refH (front (newHeader r f) hs) ≡ front r hr = each-front refH (newHeader r f) hs ∙ ap (λ (x : List ℕ). front x (each refH hs)) (ref-header r f) in
+      let w : holds (refsAs (front r hr) (tr ▷ r) (same (second n) (reference u))) = (
+        (
+          distinct-front r hr (k .0 .0) (q .new),
+          (
+            unlinked b (front r hr) (o .0 .1 .1 .0),
+            ((k .0 .1 .1 .0, aways hr r tr (q .new) (k .0 .1 .1 .1)), (wider r hr tr (k .0 .1 .1 .1), first-among r hr)),
+          ),
+        ),
+        (k .1 .0, every-front (one (tr ▷ r)) r hr (last-among tr) (longer r tr hr (k .1 .1))),
+      ) in
+      subst (λ (s : List ℕ). holds (refsAs (each refH (front (newHeader r f) hs)) (each refT ts ▷ refT (newTrailer σ r t)) (same s (reference u)))) (sym (grown-second n))
+      (subst (λ (x : List ℕ). holds (refsAs (each refH (front (newHeader r f) hs)) (each refT ts ▷ x) (same (second n) (reference u)))) (sym (ref-trailer σ r t))
+      (subst (λ (x : Snoc (List ℕ)). holds (refsAs x (each refT ts ▷ r) (same (second n) (reference u)))) (sym eh) w))
+    where
+      last-among : (s : Snoc (List ℕ)) → T (among (s ▷ r) r)
+      last-among s = subst (λ (c : Bool). T (c || among s r)) (sym (same-self r)) tt
+
+  -- 10
+  pub counts-sealed : number n 1 + 4 < 1000000 → holds (refsMessage was) → holds (countsMessage was) → holds (countsMessage is)
+  counts-sealed l k c =
+      let e : number n 1 ≡ size (showMessage was) = eqb→eq (number n 1) (size (showMessage was)) (c .0) in
+      let z : number (grown n) 1 ≡ size (showMessage is) = omega (arith, grown-number n l, e, size-open r f σ t u hs b ts) in (
+        of-true (eqb (number (grown n) 1) (size (showMessage is))) (eq-eqb (number (grown n) 1) (size (showMessage is)) z),
+        (
+          (
+            recount r (newHeader r f) hs ts (ref-header r f) (q .new) (k .0 .1 .1 .1) (c .1 .0),
+            subst (λ (m : ℕ). T (eqb 4 (m + 2))) (sym (ap (λ (x : List ℕ). sizeAt x (front (newHeader r f) hs)) (ref-trailer σ r t) ∙ size-new r (newHeader r f) hs (ref-header r f) (q .new))) tt,
+          ),
+          c .1 .1,
+        ),
+      )
+
+  -- 11
+  pub scopes-sealed : holds (scopesMessage was) → holds (scopesMessage is)
+  scopes-sealed k = every-front (scopeRight (auto u)) (newHeader r f) hs (subst (λ (a : Bool). holds (scopeRight a (newHeader r f))) (sym (false-of (auto u) (q .other))) tt) k
