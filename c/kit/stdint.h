@@ -1,0 +1,6 @@
+/* As far as the programs of this folder need it: the kit's compiler comes without C's headers. */
+#ifndef KIT_STDINT_H
+#define KIT_STDINT_H
+typedef __UINT8_TYPE__ uint8_t;
+typedef __UINT64_TYPE__ uint64_t;
+#endif

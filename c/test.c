@@ -1,0 +1,399 @@
+/*
+ * Holds the exported calls against the desk's cases:   test COMMANDS ANSWERS
+ *
+ * Each command is carried out by its exported call, and the answer line made of what comes back is compared. Each is made
+ * twice, and everything lent lies between guard octets that are complements of each other in the two turns, as is what the
+ * lent buffer held before: so one write outside the result shows in at least one turn, and so does an answer that depends on
+ * an octet that was not lent. After each call every lent octet, and every guard, has to be as it was, but for the octets
+ * of the result. A result is also written into a buffer of exactly its length, and refused in one that is shorter; a register
+ * that was written is checked; what was sealed is judged, and its octets and value are recovered. Interchanges of 65,535
+ * octets and of one more are made and tried.
+ * `report`, and lines that the desk answers `bad`, have no exported call; they are passed over and counted.
+ */
+#include "gurandepi.h"
+#include <stdio.h>
+#include <stdlib.h>
+#include <string.h>
+
+/* No result is longer than 65,535, so that a longer buffer is as good as one of 65,536. */
+enum { GUARD = 256, MOST = 150000, BUFFER = 65536, WORDS = 8, SHOWN = 20 };
+
+struct lent {
+    uint8_t now[GUARD + MOST + GUARD];
+    uint8_t before[GUARD + MOST + GUARD];
+    size_t length;
+};
+
+static struct lent lent[WORDS];     /* by the place of the argument */
+static uint64_t number[WORDS];
+static size_t written;              /* by this call, into the last argument */
+static char said[2 * MOST];
+static char commands[1 << 24], answers[1 << 24];
+static unsigned failed, compared, passed_over, checked;
+static unsigned long line;
+
+#define OCTETS(i) (lent[i].now + GUARD), lent[i].length
+
+static void fault(const char *what, const char *more) {
+    if (failed++ < SHOWN) printf("line %lu: %s%.200s\n", line, what, more);
+}
+
+/* ---- answers as the desk prints them */
+
+static void tell(uint64_t refusal, uint64_t place, const uint64_t *own, unsigned count) {
+    char *to = said;
+    unsigned i;
+    if (refusal != 0) {
+        for (i = 0; i < count; i++)
+            if (own[i] != 0) fault("a refusal gives back a number that is not 0", "");
+        snprintf(said, sizeof said, "refused %llu %llu", (unsigned long long)refusal, (unsigned long long)place);
+        return;
+    }
+    if (place != 0) fault("a place without a refusal", "");
+    to += snprintf(to, 8, "ok");
+    for (i = 0; i < count; i++) to += snprintf(to, 32, " %llu", (unsigned long long)own[i]);
+}
+
+static void tell_written(struct gurandepi_written r, unsigned out) {
+    size_t i;
+    if (r.number != 0 || r.place != 0 || r.length > lent[out].length) {
+        tell(r.number, r.place, &r.length, 1);
+        return;
+    }
+    written = (size_t)r.length;
+    snprintf(said, sizeof said, written == 0 ? "ok -" : "ok ");
+    for (i = 0; i < written; i++) snprintf(said + 3 + 2 * i, 3, "%02x", (unsigned)lent[out].now[GUARD + i]);
+}
+
+/* ---- the calls */
+
+static void make_judge(void) {
+    struct gurandepi_answer r = gurandepi_judge(OCTETS(0));
+    tell(r.number, r.place, NULL, 0);
+}
+
+static void make_totals(void) {
+    struct gurandepi_loads r = gurandepi_totals(OCTETS(0), OCTETS(1));
+    uint64_t own[] = {r.loads, r.grams};
+    tell(r.number, r.place, own, 2);
+}
+
+static void make_scope1(void) {
+    struct gurandepi_parts r = gurandepi_scope1(OCTETS(0), OCTETS(1), OCTETS(2));
+    uint64_t own[] = {r.header_start, r.header_end, r.body_start, r.body_end};
+    tell(r.number, r.place, own, 4);
+}
+
+static void make_scope2(void) {
+    struct gurandepi_range r = gurandepi_scope2(OCTETS(0), OCTETS(1), OCTETS(2));
+    uint64_t own[] = {r.start, r.end};
+    tell(r.number, r.place, own, 2);
+}
+
+/* Where the two interchanges are equal, the very same octets may be lent for both. */
+static void make_f01(void) {
+    struct gurandepi_range r = gurandepi_f01(OCTETS(0), OCTETS(1), OCTETS(2), OCTETS(3));
+    uint64_t own[] = {r.start, r.end};
+    if (lent[0].length == lent[1].length && memcmp(lent[0].now, lent[1].now, GUARD + lent[0].length) == 0) {
+        struct gurandepi_range one = gurandepi_f01(OCTETS(0), OCTETS(0), OCTETS(2), OCTETS(3));
+        if (memcmp(&r, &one, sizeof r) != 0) fault("another answer where one interchange is lent twice", "");
+    }
+    tell(r.number, r.place, own, 2);
+}
+
+static void make_value(void) {
+    tell_written(gurandepi_value(OCTETS(0), OCTETS(1), OCTETS(2), OCTETS(3)), 3);
+}
+
+static void make_seal_octets(void) {
+    tell_written(gurandepi_seal_octets(OCTETS(0), OCTETS(1), OCTETS(2), number[3], OCTETS(4)), 4);
+}
+
+static void make_seal(void) {
+    tell_written(gurandepi_seal(OCTETS(0), OCTETS(1), OCTETS(2), number[3], OCTETS(4), OCTETS(5)), 5);
+}
+
+/* The interchange that was just sealed is accepted; under the reference it has the octets to be signed, and the value. */
+static void seal_back(void) {
+    static uint8_t octets[BUFFER], value[BUFFER];
+    const uint8_t *sealed = lent[5].now + GUARD;
+    struct gurandepi_parts at = gurandepi_scope1(sealed, written, OCTETS(1), OCTETS(2));
+    size_t header = (size_t)(at.header_end - at.header_start), body = (size_t)(at.body_end - at.body_start);
+    struct gurandepi_written o = gurandepi_seal_octets(OCTETS(0), OCTETS(1), OCTETS(2), number[3], octets, BUFFER);
+    struct gurandepi_written v = gurandepi_value(sealed, written, OCTETS(1), OCTETS(2), value, BUFFER);
+    if (gurandepi_judge(sealed, written).number != GURANDEPI_OK) fault("what was sealed is refused", "");
+    if (at.number != 0 || o.number != 0 || o.length != header + body || memcmp(octets, sealed + at.header_start, header) != 0 ||
+        memcmp(octets + header, sealed + at.body_start, body) != 0)
+        fault("what was sealed has other octets than those to be signed", "");
+    if (v.number != 0 || v.length != lent[4].length || memcmp(value, lent[4].now + GUARD, lent[4].length) != 0)
+        fault("what was sealed has another value", "");
+}
+
+static void make_register(void) {
+    tell_written(gurandepi_register_write(OCTETS(0), OCTETS(1)), 1);
+}
+
+/* The register that was just written is the interchange's; cut by an octet, or with another octet, it is not. */
+static void check_back(void) {
+    uint8_t *kept = lent[1].now + GUARD;
+    uint64_t whole = gurandepi_register_check(OCTETS(0), kept, written).number, cut, other;
+    cut = gurandepi_register_check(OCTETS(0), kept, written - 1).number;
+    kept[written - 1] ^= 1;
+    other = gurandepi_register_check(OCTETS(0), kept, written).number;
+    if (whole != GURANDEPI_OK || cut != GURANDEPI_NOT_FOUND || other != GURANDEPI_NOT_FOUND)
+        fault("a register that was written is not told from others", "");
+    checked++;
+}
+
+static void make_check(void) {
+    struct gurandepi_answer r = gurandepi_register_check(OCTETS(0), OCTETS(1));
+    tell(r.number, r.place, NULL, 0);
+}
+
+/* The arguments: h octets, n a number, c the length of the lent buffer. */
+static struct call {
+    const char *name, *form;
+    void (*make)(void);
+    unsigned carried_out, refused;
+} calls[] = {
+    {"judge", "h", make_judge, 0, 0},
+    {"totals", "hh", make_totals, 0, 0},
+    {"scope1", "hhh", make_scope1, 0, 0},
+    {"scope2", "hhh", make_scope2, 0, 0},
+    {"f01", "hhhh", make_f01, 0, 0},
+    {"value", "hhhc", make_value, 0, 0},
+    {"sealoct", "hhhnc", make_seal_octets, 0, 0},
+    {"seal", "hhhnhc", make_seal, 0, 0},
+    {"regwrite", "hc", make_register, 0, 0},
+    {"regcheck", "hh", make_check, 0, 0},
+};
+enum { CALLS = sizeof calls / sizeof *calls, CHECK = CALLS - 1 };
+
+/* ---- what is lent */
+
+static int half(char c) {
+    if (c >= '0' && c <= '9') return c - '0';
+    if (c >= 'a' && c <= 'f') return c - 'a' + 10;
+    return -1;
+}
+
+static void guard(struct lent *l, size_t length, unsigned turn) {
+    size_t i;
+    l->length = length;
+    for (i = 0; i < GUARD + length + GUARD; i++) l->now[i] = (uint8_t)((i * 167 + 13) ^ (turn == 0 ? 0 : 255));
+}
+
+/* 1 where the word is no octets in hex. */
+static int lend_hex(struct lent *l, const char *word, unsigned turn) {
+    size_t i, length = strcmp(word, "-") == 0 ? 0 : strlen(word) / 2;
+    if (length > MOST || (length != 0 && strlen(word) % 2 != 0)) return 1;
+    guard(l, length, turn);
+    for (i = 0; i < length; i++) {
+        int high = half(word[2 * i]), low = half(word[2 * i + 1]);
+        if (high < 0 || low < 0) return 1;
+        l->now[GUARD + i] = (uint8_t)(high * 16 + low);
+    }
+    return 0;
+}
+
+/* A lent buffer has the length that the case names, but no more than `room`. */
+static int lend(unsigned i, char letter, const char *word, size_t room, unsigned turn) {
+    if (letter == 'h' && lend_hex(&lent[i], word, turn) != 0) return 1;
+    if (letter != 'h') number[i] = strtoull(word, NULL, 10);
+    if (letter == 'n') guard(&lent[i], 0, turn);
+    if (letter == 'c') guard(&lent[i], number[i] < room ? (size_t)number[i] : room, turn);
+    memcpy(lent[i].before, lent[i].now, GUARD + lent[i].length + GUARD);
+    return 0;
+}
+
+static void look_back(const char *form) {
+    unsigned i;
+    for (i = 0; form[i] != 0; i++) {
+        size_t own = form[i] == 'c' ? written : 0, all = GUARD + lent[i].length + GUARD;
+        if (memcmp(lent[i].now, lent[i].before, GUARD) != 0) fault("octets in front of a lent buffer were written", "");
+        if (memcmp(lent[i].now + GUARD + own, lent[i].before + GUARD + own, all - GUARD - own) != 0)
+            fault("octets that are none of the result were written", "");
+    }
+}
+
+/* ---- a case */
+
+/* 1 where the arguments cannot be read. `room` is the length of the lent buffer, where the call has one. */
+static int make(const struct call *call, char *words[], size_t room, const char *answer, unsigned turn) {
+    unsigned i;
+    written = 0;
+    for (i = 0; call->form[i] != 0; i++)
+        if (words[i + 1] == NULL || lend(i, call->form[i], words[i + 1], room, turn) != 0) {
+            fault("the test cannot read the arguments of ", words[0]);
+            return 1;
+        }
+    call->make();
+    look_back(call->form);
+    if (strcmp(said, answer) != 0 && failed++ < SHOWN) printf("line %lu: expected %.200s\n    got %.200s\n", line, answer, said);
+    return 0;
+}
+
+/* What was written fits a buffer of exactly its length, and is refused in one that is shorter by 1. */
+static void fit(const struct call *call, char *words[], const char *answer) {
+    size_t length = written;
+    make(call, words, length, answer, 0);
+    if (length != 0) make(call, words, length - 1, "refused 15 0", 1);
+}
+
+static void compare(struct call *call, char *words[], const char *answer) {
+    unsigned turn;
+    for (turn = 0; turn < 2; turn++)
+        if (make(call, words, BUFFER, answer, turn) != 0) return;
+    compared++;
+    if (said[0] == 'o') call->carried_out++;
+    else call->refused++;
+    if (call->make == make_register && written != 0) check_back();
+    if (call->make == make_seal && written != 0) seal_back();
+    if (said[0] == 'o' && call->form[strlen(call->form) - 1] == 'c') fit(call, words, answer);
+}
+
+static void command(char *text, const char *answer) {
+    char *words[WORDS + 1] = {text};
+    unsigned i, count = 1;
+    if (strcmp(answer, "bad") == 0) {
+        passed_over++;
+        return;
+    }
+    for (; *text != 0; text++)
+        if (*text == ' ' && count < WORDS) {
+            *text = 0;
+            words[count++] = text + 1;
+        }
+    for (i = 0; i < CALLS; i++)
+        if (strcmp(words[0], calls[i].name) == 0) {
+            compare(&calls[i], words, answer);
+            return;
+        }
+    if (strcmp(words[0], "report") == 0) passed_over++;
+    else fault("no exported call for ", words[0]);
+}
+
+/* ---- long interchanges: the cases have none */
+
+static size_t put(size_t at, const char *text) {
+    memcpy(lent[0].now + GUARD + at, text, strlen(text));
+    return at + strlen(text);
+}
+
+/* The i-th of the shortest references that there are: 0 to Z, 00 to ZZ, 000 to ZZZ. */
+static const char *name_of(unsigned i) {
+    static const char digits[] = "0123456789ABCDEFGHIJKLMNOPQRSTUVWXYZ";
+    static char name[4];
+    unsigned length = i < 36 ? 1 : i < 36 + 1296 ? 2 : 3, k;
+    i -= length == 1 ? 0 : length == 2 ? 36 : 36 + 1296;
+    for (k = length; k > 0; k--, i /= 36) name[k - 1] = digits[i % 36];
+    name[length] = 0;
+    return name;
+}
+
+/* So many messages in so many octets. The last has a load of a kilogram, and a text that fills up. Lends it, and a buffer. */
+static void lend_long(unsigned messages, size_t length) {
+    char text[64];
+    unsigned i;
+    size_t at, rest;
+    guard(&lent[0], length, 0);
+    at = put(0, "UNB+UNOC:4+A+B+20240105:0700+R1'");
+    for (i = 0; i + 1 < messages; i++) {
+        snprintf(text, sizeof text, "UNH+%s+A'UNT+2+", name_of(i));
+        at = put(put(put(at, text), name_of(i)), "'");
+    }
+    snprintf(text, sizeof text, "UNH+%s+A'QTY+1:1:KGM'FTX+", name_of(i));
+    at = put(at, text);
+    snprintf(text, sizeof text, "'UNT+4+%s'UNZ+%u+R1'", name_of(i), messages);
+    rest = length - at - strlen(text);
+    memset(lent[0].now + GUARD + at, 'X', rest);
+    put(at + rest, text);
+    memcpy(lent[0].before, lent[0].now, sizeof lent[0].now);
+}
+
+static void lend_octets(unsigned i, const void *octets, size_t length) {
+    guard(&lent[i], length, 0);
+    memcpy(lent[i].now + GUARD, octets, length);
+    memcpy(lent[i].before, lent[i].now, sizeof lent[i].now);
+}
+
+/* The answer starts with `answer`. */
+static void held(const char *form, void (*make)(void), const char *answer) {
+    written = 0;
+    make();
+    look_back(form);
+    if (strncmp(said, answer, strlen(answer)) != 0) fault("of a long interchange: got ", said);
+    compared++;
+}
+
+static void long_register(const char *answer, const char *back) {
+    static uint8_t kept[BUFFER];
+    lend_octets(1, kept, BUFFER);
+    held("hc", make_register, answer);
+    memcpy(kept, lent[1].now + GUARD, written);
+    lend_octets(1, kept, written);
+    held("hh", make_check, back);
+}
+
+/* A register of 3,276 messages has 65,524 octets, one of 3,277 has 65,544. */
+static void long_ones(void) {
+    lend_long(3276, 65535);
+    held("h", make_judge, "ok");
+    lend_octets(1, name_of(3275), strlen(name_of(3275)));
+    held("hh", make_totals, "ok 1 1000");
+    long_register("ok 00000ccc", "ok");
+    lend_long(3277, 65535);
+    held("h", make_judge, "ok");
+    long_register("refused 15 0", "refused 13 0");
+    lend_long(3276, 65536);
+    held("h", make_judge, "refused 1 0");
+    long_register("refused 1 0", "refused 1 0");
+}
+
+static char *read_all(const char *path, char *to, size_t room) {
+    FILE *file = fopen(path, "rb");
+    size_t length = file == NULL ? 0 : fread(to, 1, room, file);
+    if (length == 0 || length == room) {
+        fprintf(stderr, "test: cannot read %s\n", path);
+        exit(2);
+    }
+    fclose(file);
+    if (to[length - 1] != '\n') to[length++] = '\n';
+    return to + length;
+}
+
+/* The line at `*rest`, ended by a 0, or NULL. */
+static char *next_line(char **rest, const char *end) {
+    char *start = *rest, *at = start;
+    if (start == end) return NULL;
+    while (*at != '\n') at++;
+    *at = 0;
+    *rest = at + 1;
+    return start;
+}
+
+int main(int argc, char **argv) {
+    char *asked = commands, *told = answers, *asked_end, *told_end, *text, *answer;
+    unsigned i;
+    if (argc != 3) {
+        fprintf(stderr, "usage: test COMMANDS ANSWERS\n");
+        return 2;
+    }
+    asked_end = read_all(argv[1], commands, sizeof commands - 1);
+    told_end = read_all(argv[2], answers, sizeof answers - 1);
+    for (line = 1; (text = next_line(&asked, asked_end)) != NULL; line++) {
+        answer = next_line(&told, told_end);
+        if (answer == NULL) {
+            fault("no answer to this line", "");
+            break;
+        }
+        command(text, answer);
+    }
+    if (told != told_end) fault("more answers than commands", "");
+    long_ones();
+    calls[CHECK].carried_out += checked;
+    for (i = 0; i < CALLS; i++)
+        if (calls[i].carried_out == 0 || calls[i].refused == 0) fault("no case carried out, or none refused, of ", calls[i].name);
+    printf("%u cases compared, %u passed over (report, bad), %u failed\n", compared, passed_over, failed);
+    return failed != 0;
+}

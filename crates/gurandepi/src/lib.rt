@@ -1,0 +1,280 @@
+// The exported interface, for C and Rust: include/gurandepi.h says it in C. Each call takes slices, a pointer and a length
+// in C, and gives a struct of numbers: the number of the refusal, 0 for none, its place, then the call's own. Any octets of
+// any length are allowed everywhere; no call keeps anything.
+ghost use mathlib.Core.Path.{_≡_};
+ghost use Rattle.grammar.specs.Verdict.{verdictOf, numbers, totalsOf, totalNumbers};
+ghost use Rattle.judge.specs.Told.{told};
+ghost use Rattle.judge.specs.Finding.{toldTotals};
+ghost use Rattle.ranges.specs.Ranges.{scope1Of, scope2Of};
+ghost use Rattle.ranges.specs.F01.{f01Of};
+ghost use Rattle.ranges.specs.Told.{partNumbers, toldParts, runNumbers, toldRun};
+ghost use Rattle.writing.specs.Written.{toldWritten};
+ghost use Rattle.values.specs.Values.{valueOf};
+ghost use Rattle.sealing.specs.Sealing.{sealOctetsOf, sealOf};
+ghost use Rattle.register.specs.Register.{registerOf, checkNumbers, told as toldChecked};
+ghost use Rattle.gurandepi.specs.Answers.{answerFields, totalsFields, partsFields, rangeFields, Gives, writtenFields};
+use judge::run::Verdict;
+use judge::run::judge;
+use judge::totals::message_totals;
+use ranges::f01::f01_places;
+use ranges::scopes::Run;
+use ranges::scopes::Scope1;
+use ranges::scopes::scope1_places;
+use ranges::scopes::scope2_places;
+use register::register::Checked;
+use register::register::register_check;
+use register::register::register_write;
+use sealing::seal::seal;
+use sealing::seal::seal_octets;
+use values::value;
+
+#[repr(C)]
+pub struct Answer {
+    pub number: u64,
+    pub place: u64,
+}
+
+#[repr(C)]
+pub struct Totals {
+    pub number: u64,
+    pub place: u64,
+    pub loads: u64,
+    pub grams: u64,
+}
+
+#[repr(C)]
+pub struct Parts {
+    pub number: u64,
+    pub place: u64,
+    pub header_start: u64,
+    pub header_end: u64,
+    pub body_start: u64,
+    pub body_end: u64,
+}
+
+#[repr(C)]
+pub struct Range {
+    pub number: u64,
+    pub place: u64,
+    pub start: u64,
+    pub end: u64,
+}
+
+// How many octets stand at the front of the lent buffer.
+#[repr(C)]
+pub struct Written {
+    pub number: u64,
+    pub place: u64,
+    pub length: u64,
+}
+
+fn verdict_answer(v: Verdict) -> Answer
+    ensures { λ r. ⌜ answerFields r ≡ told v ⌝ }
+{
+    match v {
+        Verdict::Accepted => Answer {
+            number: 0,
+            place: 0,
+        },
+        Verdict::Refused(f) => Answer {
+            number: f.number as u64,
+            place: f.place as u64,
+        },
+    }
+}
+
+fn totals_answer(t: judge::totals::Totals) -> Totals
+    ensures { λ r. ⌜ totalsFields r ≡ toldTotals t ⌝ }
+{
+    match t {
+        judge::totals::Totals::Of(x) => Totals {
+            number: 0,
+            place: 0,
+            loads: x.loads as u64,
+            grams: x.grams,
+        },
+        judge::totals::Totals::Refused(f) => Totals {
+            number: f.number as u64,
+            place: f.place as u64,
+            loads: 0,
+            grams: 0,
+        },
+    }
+}
+
+fn parts_answer(p: Scope1) -> Parts
+    ensures { λ r. ⌜ partsFields r ≡ toldParts p ⌝ }
+{
+    match p {
+        Scope1::Of(x) => Parts {
+            number: 0,
+            place: 0,
+            header_start: x.header.start as u64,
+            header_end: x.header.end as u64,
+            body_start: x.body.start as u64,
+            body_end: x.body.end as u64,
+        },
+        Scope1::Refused(f) => Parts {
+            number: f.number as u64,
+            place: f.place as u64,
+            header_start: 0,
+            header_end: 0,
+            body_start: 0,
+            body_end: 0,
+        },
+    }
+}
+
+fn run_answer(p: Run) -> Range
+    ensures { λ r. ⌜ rangeFields r ≡ toldRun p ⌝ }
+{
+    match p {
+        Run::Of(x) => Range {
+            number: 0,
+            place: 0,
+            start: x.start as u64,
+            end: x.end as u64,
+        },
+        Run::Refused(f) => Range {
+            number: f.number as u64,
+            place: f.place as u64,
+            start: 0,
+            end: 0,
+        },
+    }
+}
+
+fn written_answer(w: writing::Written) -> Written
+    ensures { λ r. ⌜ writtenFields r ≡ toldWritten w ⌝ }
+{
+    match w {
+        writing::Written::Length(n) => Written {
+            number: 0,
+            place: 0,
+            length: n as u64,
+        },
+        writing::Written::Refused(f) => Written {
+            number: f.number as u64,
+            place: f.place as u64,
+            length: 0,
+        },
+    }
+}
+
+fn checked_answer(c: Checked) -> Answer
+    ensures { λ r. ⌜ answerFields r ≡ toldChecked c ⌝ }
+{
+    match c {
+        Checked::Same => Answer {
+            number: 0,
+            place: 0,
+        },
+        Checked::Refused(f) => Answer {
+            number: f.number as u64,
+            place: f.place as u64,
+        },
+    }
+}
+
+// The verdict on an interchange.
+#[no_mangle]
+pub extern "C" fn gurandepi_judge(interchange: &[u8]) -> Answer
+    ensures { λ r. ⌜ answerFields r ≡ numbers (verdictOf (now (interchange .entry))) ⌝ }
+{
+    verdict_answer(judge(interchange))
+}
+
+// The loads of a message, named by its 0062, and their grams.
+#[no_mangle]
+pub extern "C" fn gurandepi_totals(interchange: &[u8], message: &[u8]) -> Totals
+    ensures { λ r. ⌜ totalsFields r ≡ totalNumbers (totalsOf (now (interchange .entry)) (now (message .entry))) ⌝ }
+{
+    totals_answer(message_totals(interchange, message))
+}
+
+// Scope 1 of a header, named by its 0534: where its header part and the body part start and end.
+#[no_mangle]
+pub extern "C" fn gurandepi_scope1(interchange: &[u8], message: &[u8], header: &[u8]) -> Parts
+    ensures { λ r. ⌜ partsFields r ≡ partNumbers (scope1Of (now (interchange .entry)) (now (message .entry)) (now (header .entry))) ⌝ }
+{
+    parts_answer(scope1_places(interchange, message, header))
+}
+
+// Scope 2: where its run starts and ends.
+#[no_mangle]
+pub extern "C" fn gurandepi_scope2(interchange: &[u8], message: &[u8], header: &[u8]) -> Range
+    ensures { λ r. ⌜ rangeFields r ≡ runNumbers (scope2Of (now (interchange .entry)) (now (message .entry)) (now (header .entry))) ⌝ }
+{
+    run_answer(scope2_places(interchange, message, header))
+}
+
+// F01: where its run starts and ends in the referenced interchange. `message` is the AUTACK's 0062.
+#[no_mangle]
+pub extern "C" fn gurandepi_f01(
+    autack: &[u8],
+    referenced: &[u8],
+    message: &[u8],
+    header: &[u8],
+) -> Range
+    ensures { λ r. ⌜ rangeFields r ≡ runNumbers (f01Of (now (autack .entry)) (now (referenced .entry)) (now (message .entry)) (now (header .entry))) ⌝ }
+{
+    run_answer(f01_places(autack, referenced, message, header))
+}
+
+// The value that a header's seal carries, into `out`.
+#[no_mangle]
+pub extern "C" fn gurandepi_value(
+    interchange: &[u8],
+    message: &[u8],
+    header: &[u8],
+    out: &mut [u8],
+) -> Written
+    ensures { λ r. ⌜ Gives (valueOf (now (interchange .entry)) (now (message .entry)) (now (header .entry))) (now (out .entry)) r (now (out .exit)) ⌝ }
+{
+    written_answer(value(interchange, message, header, out))
+}
+
+// The octets to be signed when the message is sealed under `reference`, with the filter 2 or 7, into `out`.
+#[no_mangle]
+pub extern "C" fn gurandepi_seal_octets(
+    interchange: &[u8],
+    message: &[u8],
+    reference: &[u8],
+    filter: u64,
+    out: &mut [u8],
+) -> Written
+    ensures { λ r. ⌜ Gives (sealOctetsOf (now (interchange .entry)) (now (message .entry)) (now (reference .entry)) filter) (now (out .entry)) r (now (out .exit)) ⌝ }
+{
+    written_answer(seal_octets(interchange, message, reference, filter, out))
+}
+
+// The sealed interchange, into `out`. `value` is the signature, as octets.
+#[no_mangle]
+pub extern "C" fn gurandepi_seal(
+    interchange: &[u8],
+    message: &[u8],
+    reference: &[u8],
+    filter: u64,
+    value: &[u8],
+    out: &mut [u8],
+) -> Written
+    ensures { λ r. ⌜ Gives (sealOf (now (interchange .entry)) (now (message .entry)) (now (reference .entry)) filter (now (value .entry))) (now (out .entry)) r (now (out .exit)) ⌝ }
+{
+    written_answer(seal(interchange, message, reference, filter, value, out))
+}
+
+// The register of an interchange, into `out`.
+#[no_mangle]
+pub extern "C" fn gurandepi_register_write(interchange: &[u8], out: &mut [u8]) -> Written
+    ensures { λ r. ⌜ Gives (registerOf (now (interchange .entry))) (now (out .entry)) r (now (out .exit)) ⌝ }
+{
+    written_answer(register_write(interchange, out))
+}
+
+// Whether `register` is the register of the interchange.
+#[no_mangle]
+pub extern "C" fn gurandepi_register_check(interchange: &[u8], register: &[u8]) -> Answer
+    ensures { λ r. ⌜ answerFields r ≡ checkNumbers (registerOf (now (interchange .entry))) (now (register .entry)) ⌝ }
+{
+    checked_answer(register_check(interchange, register))
+}

@@ -1,0 +1,190 @@
+/*
+ * Gurandepi: judges EDIFACT interchanges, hands back what is sealed in them, recovers signature values, totals loads, seals
+ * a message and writes a register. C11 and later, C++11 and later; link libgurandepi.a (x86-64 Linux).
+ *
+ * How the calls are made
+ *
+ *   - Octets are lent as a pointer and a length. A length may be anything, 0 too; a pointer is never NULL, not even where
+ *     the length is 0 ("" serves). What is lent as `const` is only read, and may be lent twice in one call.
+ *   - An interchange is the whole file: UNA where there is one, UNB to UNZ, nothing else.
+ *   - `message` is the content of a message's 0062 (in UNH), `header` the content of a security header's 0534 (in USH):
+ *     the octets without release characters, and without a final 0.
+ *   - `out` is the caller's own buffer for a result. It overlaps nothing else that is lent in the same call.
+ *   - A call keeps nothing, allocates nothing and writes nothing but `out`: any number of threads may call at a time. It
+ *     takes less than 1 MB of stack.
+ *
+ * What is given back
+ *
+ *   Every answer is a struct of numbers. `number` is 0 where the call was carried out, else the number of the refusal,
+ *   from the table below. `place` says where: the first octet of the segment (or of the octet) that is at fault, counted
+ *   from 0 in the lent interchange; 0 where the table says so.
+ *   Places come as `start` and `end`: from the octet at `start` up to, but not with, the one at `end`.
+ *
+ *   On a refusal every other number of the answer is 0, and `out` is left as it was, every octet of it. Where a call
+ *   writes `length` octets, they stand at the front of `out`, and the octets of `out` behind them are left as they were.
+ *
+ *   For equal octets lent, the answer and the octets left in `out` are always the same. What they are is proved for every
+ *   call: crates/gurandepi in the sources.
+ */
+#ifndef GURANDEPI_H
+#define GURANDEPI_H
+
+#include <stddef.h>
+#include <stdint.h>
+
+#ifdef __cplusplus
+extern "C" {
+#endif
+
+/*
+ * The refusals. A file has one: numbers 1 and 2 are looked for first, then the segments are gone through in order, and the
+ * first bad one decides. Every call judges its interchange in this way before all else, so that each may refuse with 1 to
+ * 12; 13, 16, 14 and 15 are looked for after that, in this order.
+ */
+enum gurandepi_number {
+    GURANDEPI_OK = 0,               /* no refusal */
+    GURANDEPI_BAD_LENGTH = 1,       /* no octets, or more than 65,535. Place: 0 */
+    GURANDEPI_BAD_UNA = 2,          /* UNA is too short or names service characters that are not allowed. Place: 0 */
+    GURANDEPI_BAD_OCTET = 3,        /* an octet outside the repertoire of the interchange. Place: the octet */
+    GURANDEPI_BAD_SEGMENT = 4,      /* a segment without terminator, or with a bad tag. Place: the segment */
+    GURANDEPI_NO_UNB = 5,           /* the first segment is not UNB, or there is none. Place: the segment, or the end */
+    GURANDEPI_UNKNOWN_SYNTAX = 6,   /* the syntax identifier or version in UNB is unknown; or UNA names a repetition
+                                       character in version 3. Place: UNB */
+    GURANDEPI_OUT_OF_ORDER = 7,     /* a segment out of order; the input ends early; octets after UNZ. Place: the segment,
+                                       the end, the first octet after UNZ */
+    GURANDEPI_BAD_ELEMENT = 8,      /* a checked element is missing or malformed. Place: the segment */
+    GURANDEPI_BAD_REFERENCE = 9,    /* a reference differs, repeats or has no partner. Place: the segment */
+    GURANDEPI_BAD_COUNT = 10,       /* a count of segments or messages, or a control total, differs. Place: UNT or UNZ */
+    GURANDEPI_BAD_SCOPE = 11,       /* the scope code of a security header. Place: USH */
+    GURANDEPI_BAD_AMOUNT = 12,      /* the amount of a load. Place: QTY */
+    GURANDEPI_NOT_FOUND = 13,       /* no such message, header or F01 run; or the register is not this interchange's.
+                                       Place: 0 */
+    GURANDEPI_BAD_VALUE = 14,       /* the filter of a value is unknown, its text is bad or empty; or a value cannot be
+                                       written in this interchange. Place: 0 */
+    GURANDEPI_NO_ROOM = 15,         /* the result is longer than `out`, or than 65,535 octets. Place: 0 */
+    GURANDEPI_NOT_SEALABLE = 16     /* sealing: the reference is not allowed or already used in the message; the filter or
+                                       the length of the value is not allowed; nine headers already; an AUTACK. Place: 0 */
+};
+
+/* Carried out, or refused. */
+struct gurandepi_answer {
+    uint64_t number;
+    uint64_t place;
+};
+
+/* The loads of a message and the sum of their amounts, exact, in grams. */
+struct gurandepi_loads {
+    uint64_t number;
+    uint64_t place;
+    uint64_t loads;
+    uint64_t grams;
+};
+
+/* Two parts of the lent interchange, which are sealed as if joined: the header group and the body. */
+struct gurandepi_parts {
+    uint64_t number;
+    uint64_t place;
+    uint64_t header_start;
+    uint64_t header_end;
+    uint64_t body_start;
+    uint64_t body_end;
+};
+
+/* One part of a lent interchange. */
+struct gurandepi_range {
+    uint64_t number;
+    uint64_t place;
+    uint64_t start;
+    uint64_t end;
+};
+
+/* So many octets were written to the front of `out`. */
+struct gurandepi_written {
+    uint64_t number;
+    uint64_t place;
+    uint64_t length;
+};
+
+/* Is this an interchange without fault? Refuses with 1 to 12. */
+struct gurandepi_answer gurandepi_judge(const uint8_t *interchange, size_t interchange_length);
+
+/* The loads of a message; an AUTACK has none. Refuses with 1 to 12; 13: no such message. */
+struct gurandepi_loads gurandepi_totals(const uint8_t *interchange, size_t interchange_length,
+                                        const uint8_t *message, size_t message_length);
+
+/*
+ * What a header of scope 1 seals: the header group from its USH, and the message's body. An empty body starts and ends where
+ * it would stand. Refuses with 1 to 12; 13: no such message, or no such header of scope 1.
+ */
+struct gurandepi_parts gurandepi_scope1(const uint8_t *interchange, size_t interchange_length,
+                                        const uint8_t *message, size_t message_length,
+                                        const uint8_t *header, size_t header_length);
+
+/*
+ * What a header of scope 2 seals: from its USH up to the UST that belongs to it. Refuses with 1 to 12; 13: no such message,
+ * or no such header of scope 2.
+ */
+struct gurandepi_range gurandepi_scope2(const uint8_t *interchange, size_t interchange_length,
+                                        const uint8_t *message, size_t message_length,
+                                        const uint8_t *header, size_t header_length);
+
+/*
+ * What a header of scope F01 seals: in the interchange that the AUTACK refers to, from the first UNH to the last UNT of the
+ * messages that are no AUTACK. `autack` is the interchange with the AUTACK, `message` is the AUTACK's 0062; `referenced` is
+ * the other interchange, and may be the same one. The places are places in `referenced`.
+ * Refuses with 1 to 12, for `autack` first and then for `referenced`; 13: no such message or header of scope F01, no USY
+ * names the header, `referenced` is another interchange than the one referred to, holds no message but AUTACKs, or has an
+ * AUTACK between the others.
+ */
+struct gurandepi_range gurandepi_f01(const uint8_t *autack, size_t autack_length,
+                                     const uint8_t *referenced, size_t referenced_length,
+                                     const uint8_t *message, size_t message_length,
+                                     const uint8_t *header, size_t header_length);
+
+/*
+ * The value that a header's seal carries, of any scope, as octets: read by the filter that the header names (hexadecimal or
+ * base 64). Refuses with 1 to 12; 13: no such message or header; 14: the filter is unknown, the text is bad, empty or not
+ * there; 15.
+ */
+struct gurandepi_written gurandepi_value(const uint8_t *interchange, size_t interchange_length,
+                                         const uint8_t *message, size_t message_length,
+                                         const uint8_t *header, size_t header_length,
+                                         uint8_t *out, size_t out_length);
+
+/*
+ * Sealing a message, in two calls: the first writes the octets to be signed; the caller signs them; the second writes the
+ * interchange with the message sealed by a header of scope 1. In it gurandepi_scope1 for `reference` gives the octets that
+ * the first call wrote, and gurandepi_value gives `value`; ranges of scopes 1 and 2 that were there keep their octets.
+ * `reference` is the new header's 0534: 1 to 14 of A to Z and 0 to 9, new in the message. `filter` says how the value is
+ * written: 2 is hexadecimal, 7 is base 64. `value` has 1 to 256 octets for 2, 1 to 384 for 7.
+ * Both refuse with 1 to 12; 13: no such message; 16; 15. The second also with 14, before 15: the interchange's repertoire
+ * or service characters cannot write this value.
+ */
+struct gurandepi_written gurandepi_seal_octets(const uint8_t *interchange, size_t interchange_length,
+                                               const uint8_t *message, size_t message_length,
+                                               const uint8_t *reference, size_t reference_length, uint64_t filter,
+                                               uint8_t *out, size_t out_length);
+
+struct gurandepi_written gurandepi_seal(const uint8_t *interchange, size_t interchange_length,
+                                        const uint8_t *message, size_t message_length,
+                                        const uint8_t *reference, size_t reference_length, uint64_t filter,
+                                        const uint8_t *value, size_t value_length,
+                                        uint8_t *out, size_t out_length);
+
+/*
+ * The register of an interchange: the count of messages in 4 octets, then for each message 20: the place of its UNH (4), its
+ * length to the end of UNT (4), its loads (4), their grams (8); the highest octet first in each number. Refuses with 1 to
+ * 12; 15.
+ */
+struct gurandepi_written gurandepi_register_write(const uint8_t *interchange, size_t interchange_length,
+                                                  uint8_t *out, size_t out_length);
+
+/* Is `kept` the register of this interchange, octet for octet? Refuses with 1 to 12; 13: it is not. */
+struct gurandepi_answer gurandepi_register_check(const uint8_t *interchange, size_t interchange_length,
+                                                 const uint8_t *kept, size_t kept_length);
+
+#ifdef __cplusplus
+}
+#endif
+
+#endif

@@ -1,0 +1,284 @@
+//! The calls. All `unsafe` is here, and one thing makes it sound: each slice is lent with its own pointer and length, `out` as
+//! the only unique one.
+use crate::{Filter, Parts, Reason, Refusal, Totals};
+
+/// As include/gurandepi.h declares it.
+mod c {
+    #[repr(C)]
+    pub struct Answer {
+        pub number: u64,
+        pub place: u64,
+    }
+
+    #[repr(C)]
+    pub struct Loads {
+        pub number: u64,
+        pub place: u64,
+        pub loads: u64,
+        pub grams: u64,
+    }
+
+    #[repr(C)]
+    pub struct Parts {
+        pub number: u64,
+        pub place: u64,
+        pub header_start: u64,
+        pub header_end: u64,
+        pub body_start: u64,
+        pub body_end: u64,
+    }
+
+    #[repr(C)]
+    pub struct Range {
+        pub number: u64,
+        pub place: u64,
+        pub start: u64,
+        pub end: u64,
+    }
+
+    #[repr(C)]
+    pub struct Written {
+        pub number: u64,
+        pub place: u64,
+        pub length: u64,
+    }
+
+    type In = *const u8;
+    type Out = *mut u8;
+
+    #[rustfmt::skip]
+    extern "C" {
+        pub fn gurandepi_judge(i: In, il: usize) -> Answer;
+        pub fn gurandepi_totals(i: In, il: usize, m: In, ml: usize) -> Loads;
+        pub fn gurandepi_scope1(i: In, il: usize, m: In, ml: usize, h: In, hl: usize) -> Parts;
+        pub fn gurandepi_scope2(i: In, il: usize, m: In, ml: usize, h: In, hl: usize) -> Range;
+        pub fn gurandepi_f01(a: In, al: usize, r: In, rl: usize, m: In, ml: usize, h: In, hl: usize) -> Range;
+        pub fn gurandepi_value(i: In, il: usize, m: In, ml: usize, h: In, hl: usize, o: Out, ol: usize) -> Written;
+        pub fn gurandepi_seal_octets(i: In, il: usize, m: In, ml: usize, r: In, rl: usize, f: u64, o: Out, ol: usize) -> Written;
+        pub fn gurandepi_seal(i: In, il: usize, m: In, ml: usize, r: In, rl: usize, f: u64, v: In, vl: usize, o: Out, ol: usize) -> Written;
+        pub fn gurandepi_register_write(i: In, il: usize, o: Out, ol: usize) -> Written;
+        pub fn gurandepi_register_check(i: In, il: usize, k: In, kl: usize) -> Answer;
+    }
+}
+
+fn reason(number: u64) -> Reason {
+    use Reason::*;
+    let all = [
+        Length,
+        Una,
+        Octet,
+        Segment,
+        NoUnb,
+        Syntax,
+        Order,
+        Element,
+        Reference,
+        Count,
+        Scope,
+        Amount,
+        NotFound,
+        Value,
+        Room,
+        NotSealable,
+    ];
+    all[number as usize - 1]
+}
+
+fn given<T>(number: u64, place: u64, answer: impl FnOnce() -> T) -> Result<T, Refusal> {
+    match number {
+        0 => Ok(answer()),
+        _ => Err(Refusal { reason: reason(number), place: place as usize }),
+    }
+}
+
+fn part(octets: &[u8], start: u64, end: u64) -> &[u8] {
+    &octets[start as usize..end as usize]
+}
+
+fn written(r: c::Written, out: &mut [u8]) -> Result<&mut [u8], Refusal> {
+    given(r.number, r.place, || &mut out[..r.length as usize])
+}
+
+/// Is this an interchange without fault?
+///
+/// ```
+/// # let p = std::fs::read_to_string("../examples/p.edi").unwrap();
+/// assert!(gurandepi::judge(p.as_bytes()).is_ok());
+/// let refusal = gurandepi::judge(p.replace("UNT+5", "UNT+6").as_bytes()).unwrap_err();
+/// assert_eq!(refusal.to_string(), "refused 10 at 113");
+/// ```
+pub fn judge(interchange: &[u8]) -> Result<(), Refusal> {
+    let r = unsafe { c::gurandepi_judge(interchange.as_ptr(), interchange.len()) };
+    given(r.number, r.place, || ())
+}
+
+/// The loads of a message. An AUTACK has none.
+pub fn totals(interchange: &[u8], message: &[u8]) -> Result<Totals, Refusal> {
+    let (i, m) = (interchange, message);
+    let r = unsafe { c::gurandepi_totals(i.as_ptr(), i.len(), m.as_ptr(), m.len()) };
+    given(r.number, r.place, || Totals { loads: r.loads, grams: r.grams })
+}
+
+/// What a header of scope 1 seals: the header group from its USH, and the message's body. An empty body stands at its place.
+///
+/// The example sealed with A1:
+///
+/// ```
+/// # let p7 = std::fs::read("../examples/p7.edi").unwrap();
+/// let parts = gurandepi::scope1(&p7, b"M1", b"A1").unwrap();
+/// assert_eq!((parts.header.len(), parts.body.len()), (32, 50));
+/// assert!(parts.header.starts_with(b"USH+1+A1+"));
+/// ```
+///
+/// The parts are the caller's own octets, and are gone when these are:
+///
+/// ```compile_fail
+/// let parts = gurandepi::scope1(&std::fs::read("../examples/p7.edi").unwrap(), b"M1", b"A1").unwrap();
+/// assert_eq!(parts.header.len(), 32);
+/// ```
+pub fn scope1<'a>(interchange: &'a [u8], message: &[u8], header: &[u8]) -> Result<Parts<'a>, Refusal> {
+    let (i, m, h) = (interchange, message, header);
+    let r = unsafe { c::gurandepi_scope1(i.as_ptr(), i.len(), m.as_ptr(), m.len(), h.as_ptr(), h.len()) };
+    given(r.number, r.place, || Parts {
+        header: part(i, r.header_start, r.header_end),
+        body: part(i, r.body_start, r.body_end),
+    })
+}
+
+/// What a header of scope 2 seals: from its USH up to the UST that belongs to it.
+pub fn scope2<'a>(interchange: &'a [u8], message: &[u8], header: &[u8]) -> Result<&'a [u8], Refusal> {
+    let (i, m, h) = (interchange, message, header);
+    let r = unsafe { c::gurandepi_scope2(i.as_ptr(), i.len(), m.as_ptr(), m.len(), h.as_ptr(), h.len()) };
+    given(r.number, r.place, || part(i, r.start, r.end))
+}
+
+/// What a header of scope F01 seals: in the interchange that the AUTACK refers to, from the first UNH to the last UNT of the
+/// messages that are no AUTACK. `message` is the AUTACK's 0062. Both interchanges may be the same one; the part belongs to
+/// `referenced`.
+///
+/// ```
+/// # let file = std::fs::read("../examples/f01.edi").unwrap();
+/// let part = gurandepi::f01(&file, &file, b"11", b"1").unwrap();
+/// assert_eq!(part, b"UNH+1+DESADV:D:96A:UN'BGM+351+X1'UNT+3+1'");
+/// ```
+///
+/// The AUTACK's interchange is not needed any longer, the other is:
+///
+/// ```compile_fail
+/// # let file = std::fs::read("../examples/f01.edi").unwrap();
+/// let part = gurandepi::f01(&file, &file.clone(), b"11", b"1").unwrap();
+/// assert!(part.starts_with(b"UNH+"));
+/// ```
+pub fn f01<'r>(autack: &[u8], referenced: &'r [u8], message: &[u8], header: &[u8]) -> Result<&'r [u8], Refusal> {
+    let (a, i, m, h) = (autack, referenced, message, header);
+    let r =
+        unsafe { c::gurandepi_f01(a.as_ptr(), a.len(), i.as_ptr(), i.len(), m.as_ptr(), m.len(), h.as_ptr(), h.len()) };
+    given(r.number, r.place, || part(i, r.start, r.end))
+}
+
+/// The value that a header's seal carries, of any scope, read by the filter that the header names. It is written to the
+/// front of `out` and handed back; on a refusal `out` is left as it was.
+///
+/// ```
+/// # let p7 = std::fs::read("../examples/p7.edi").unwrap();
+/// let mut out = [0; 512];
+/// assert_eq!(gurandepi::value(&p7, b"M1", b"A1", &mut out).unwrap(), [0x0F, 0xA0]);
+/// ```
+pub fn value<'o>(
+    interchange: &[u8],
+    message: &[u8],
+    header: &[u8],
+    out: &'o mut [u8],
+) -> Result<&'o mut [u8], Refusal> {
+    let (i, m, h) = (interchange, message, header);
+    let r = unsafe {
+        c::gurandepi_value(i.as_ptr(), i.len(), m.as_ptr(), m.len(), h.as_ptr(), h.len(), out.as_mut_ptr(), out.len())
+    };
+    written(r, out)
+}
+
+/// The octets to be signed when a message is sealed under `reference`, the new header's 0534: 1 to 14 of A to Z and 0 to 9, new in
+/// the message. They are written to the front of `out` and handed back; on a refusal `out` is left as it was.
+///
+/// ```
+/// # let p = std::fs::read("../examples/p.edi").unwrap();
+/// # let p7 = std::fs::read("../examples/p7.edi").unwrap();
+/// use gurandepi::{scope1, seal, seal_octets, Filter};
+///
+/// let (mut out, mut sealed) = ([0; 200], [0; 200]);
+/// let octets = seal_octets(&p, b"M1", b"A1", Filter::Hex, &mut out).unwrap();
+/// assert_eq!(octets.len(), 82);
+/// // .. sign them; let 0F A0 be the signature ..
+/// let sealed = seal(&p, b"M1", b"A1", Filter::Hex, &[0x0F, 0xA0], &mut sealed).unwrap();
+/// assert_eq!(sealed, p7);
+/// let parts = scope1(sealed, b"M1", b"A1").unwrap();
+/// assert_eq!(octets, [parts.header, parts.body].concat());
+/// ```
+pub fn seal_octets<'o>(
+    interchange: &[u8],
+    message: &[u8],
+    reference: &[u8],
+    filter: Filter,
+    out: &'o mut [u8],
+) -> Result<&'o mut [u8], Refusal> {
+    let (i, m, r, f) = (interchange, message, reference, filter as u64);
+    let r = unsafe {
+        c::gurandepi_seal_octets(
+            i.as_ptr(),
+            i.len(),
+            m.as_ptr(),
+            m.len(),
+            r.as_ptr(),
+            r.len(),
+            f,
+            out.as_mut_ptr(),
+            out.len(),
+        )
+    };
+    written(r, out)
+}
+
+/// The interchange with the message sealed under `reference` by a header of scope 1; `value` is the signature. It is written to
+/// the front of `out` and handed back; on a refusal `out` is left as it was.
+pub fn seal<'o>(
+    interchange: &[u8],
+    message: &[u8],
+    reference: &[u8],
+    filter: Filter,
+    value: &[u8],
+    out: &'o mut [u8],
+) -> Result<&'o mut [u8], Refusal> {
+    let (i, m, r, f, v) = (interchange, message, reference, filter as u64, value);
+    let r = unsafe {
+        c::gurandepi_seal(
+            i.as_ptr(),
+            i.len(),
+            m.as_ptr(),
+            m.len(),
+            r.as_ptr(),
+            r.len(),
+            f,
+            v.as_ptr(),
+            v.len(),
+            out.as_mut_ptr(),
+            out.len(),
+        )
+    };
+    written(r, out)
+}
+
+/// The register of an interchange: the count of messages in 4 octets, then for each message the place of its UNH (4), its
+/// length to the end of UNT (4), its loads (4) and their grams (8), the highest octet first. It is written to the front of
+/// `out` and handed back; on a refusal `out` is left as it was.
+pub fn register_write<'o>(interchange: &[u8], out: &'o mut [u8]) -> Result<&'o mut [u8], Refusal> {
+    let i = interchange;
+    let r = unsafe { c::gurandepi_register_write(i.as_ptr(), i.len(), out.as_mut_ptr(), out.len()) };
+    written(r, out)
+}
+
+/// Is `kept` the register of this interchange, octet for octet? If not: [`Reason::NotFound`].
+pub fn register_check(interchange: &[u8], kept: &[u8]) -> Result<(), Refusal> {
+    let (i, k) = (interchange, kept);
+    let r = unsafe { c::gurandepi_register_check(i.as_ptr(), i.len(), k.as_ptr(), k.len()) };
+    given(r.number, r.place, || ())
+}

@@ -1,0 +1,116 @@
+//! Gurandepi judges EDIFACT interchanges, hands back what is sealed in them, recovers signature values, totals loads,
+//! seals a message and writes a register. The calls are written and proved in Rattle; this crate is a safe and thin layer over their static library,
+//! which is for x86-64 Linux.
+//!
+//! An interchange is the whole file as octets. A message is named by the content of its 0062, a security header by the
+//! content of its 0534. Every call judges the interchange first; the first fault decides and is given back as a [`Refusal`].
+//! For equal octets the answer is always the same, and it is proved what it is.
+//!
+//! The example of the rules paper, with its first variants:
+//!
+#![cfg_attr(all(target_arch = "x86_64", target_os = "linux"), doc = "```")]
+#![cfg_attr(not(all(target_arch = "x86_64", target_os = "linux")), doc = "```ignore")]
+//! use gurandepi::{judge, totals, Reason, Refusal, Totals};
+//!
+//! let p = b"UNB+UNOC:4+PITA+ROYALT+20240105:0700+R1'UNH+M1+DESADV:D:01B:UN'QTY+12:30000:KGM'\
+//! QTY+12:27.34:TNE'CNT+1:57.34:TNE'UNT+5+M1'UNZ+1+R1'";
+//! assert_eq!(judge(p), Ok(()));
+//! assert_eq!(totals(p, b"M1"), Ok(Totals { loads: 2, grams: 57_340_000 }));
+//!
+//! assert_eq!(judge(b""), Err(Refusal { reason: Reason::Length, place: 0 }));
+//! assert_eq!(judge(&p[..122]), Err(Refusal { reason: Reason::Order, place: 122 }));
+//! assert_eq!(totals(p, b"M2"), Err(Refusal { reason: Reason::NotFound, place: 0 }));
+//! ```
+#![no_std]
+#![warn(missing_docs)]
+
+use core::fmt;
+
+#[cfg(all(target_arch = "x86_64", target_os = "linux"))]
+mod calls;
+#[cfg(all(target_arch = "x86_64", target_os = "linux"))]
+pub use calls::*;
+
+/// Why a call refuses. The discriminant is the paper's number.
+#[derive(Clone, Copy, Debug, PartialEq, Eq, Hash)]
+#[repr(u8)]
+pub enum Reason {
+    /// No octets, or more than 65,535.
+    Length = 1,
+    /// UNA is too short or names service characters that are not allowed.
+    Una,
+    /// An octet outside the repertoire. The place is the octet.
+    Octet,
+    /// A segment without terminator, or with a bad tag.
+    Segment,
+    /// The first segment is not UNB, or there is none.
+    NoUnb,
+    /// The syntax identifier or version is unknown; or UNA names a repetition character in version 3.
+    Syntax,
+    /// A segment out of order; the input ends early; octets after UNZ.
+    Order,
+    /// A checked element is missing or malformed.
+    Element,
+    /// A reference differs, repeats or has no partner.
+    Reference,
+    /// A count or a control total differs. The place is UNT or UNZ.
+    Count,
+    /// The scope code of a security header.
+    Scope,
+    /// The amount of a load. The place is the QTY.
+    Amount,
+    /// No such message, header or F01 run; or the register is not this interchange's.
+    NotFound,
+    /// The filter of a value is unknown, its text is bad or empty; or a value cannot be written in this interchange.
+    Value,
+    /// The result is longer than the lent buffer, or than 65,535 octets.
+    Room,
+    /// Sealing: the reference, the filter or the value's length is not allowed, the reference is already used in the message,
+    /// nine headers already, or an AUTACK.
+    NotSealable,
+}
+
+/// A refusal: why, and the place of the fault, counted in octets from 0: its segment's first octet if [`Reason`] says nothing
+/// else, or the end of the input; 0 for the reasons 1, 2 and 13 to 16.
+#[derive(Clone, Copy, Debug, PartialEq, Eq, Hash)]
+pub struct Refusal {
+    /// Why.
+    pub reason: Reason,
+    /// Where.
+    pub place: usize,
+}
+
+impl fmt::Display for Refusal {
+    fn fmt(&self, f: &mut fmt::Formatter<'_>) -> fmt::Result {
+        write!(f, "refused {} at {}", self.reason as u8, self.place)
+    }
+}
+
+impl core::error::Error for Refusal {}
+
+/// The loads of a message and the sum of their amounts, exact, in grams.
+#[derive(Clone, Copy, Debug, PartialEq, Eq, Hash)]
+pub struct Totals {
+    /// How many loads.
+    pub loads: u64,
+    /// Their sum.
+    pub grams: u64,
+}
+
+/// What a header of scope 1 seals: two parts of the lent interchange, as if joined.
+#[derive(Clone, Copy, Debug, PartialEq, Eq, Hash)]
+pub struct Parts<'a> {
+    /// The header group, from its USH.
+    pub header: &'a [u8],
+    /// The message's body.
+    pub body: &'a [u8],
+}
+
+/// How a value is written in a seal: 0505.
+#[derive(Clone, Copy, Debug, PartialEq, Eq, Hash)]
+pub enum Filter {
+    /// Upper-case hexadecimal, for values of 1 to 256 octets.
+    Hex = 2,
+    /// Base 64, for values of 1 to 384 octets.
+    Base64 = 7,
+}
