@@ -36,11 +36,11 @@ use Rattle.groups.specs.Parts.{scopeH, headerNamed, trailerNamed, headerAt, hea
 use Rattle.groups.specs.PartsLaws.{headers-stand, body-stands}
 use Rattle.groups.specs.GroupsLaws.{chosen-stands}
 use Rattle.groups.specs.Calls.{Answered, given, refusedAs, orMissing, answeredBy, then, serviceIn, messageIn}
-use Rattle.groups.specs.CallsLaws.{begins, placed-stands}
+use Rattle.groups.specs.CallsLaws.{begins, placed-stands, none-some}
 use Rattle.ranges.specs.Ranges.{ofScope, headerIn, Parts, parts, scope1At, scope1In, scope1Of, Run, run, scope2At, scope2In, scope2Of}
 use Rattle.ranges.specs.F01.{referenceIn, runOf, runIn, f01By, f01Of}
 use Rattle.demands.specs.Printed.{Message′, Scope1, Scope2, F01}
-use Rattle.sealing.specs.WovenLaws.{joined-join}
+use Rattle.grammar.specs.ListsLaws.{joined-join}
 
 -- ---- what was asked, by what was given
 
@@ -63,9 +63,6 @@ module _ {A : Type 0} where
           each : (o : Option A) → f i ≡ o → orMissing o ≡ given a → Given s f a
           each none k e = missing-given e
           each (some b) k e = let j : b ≡ a = cc in record { i = i; read = d; gave = k ∙ ap some j }
-
-pub none-some : {A B : Type 0} {a : A} → none ≡ some a → B
-none-some e = let z : _≡_ {A = ℕ} 0 1 = cc in absurd (omega arith)
 
 pub record Then {A B : Type 0} (o : Option A) (f : A → Option B) (b : B) : Type 0 where
   pub a : A

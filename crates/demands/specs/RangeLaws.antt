@@ -18,8 +18,8 @@ use Rattle.grammar.specs.Rules.{order, okHeader, okItem, okBody, okTrailers}
 use Rattle.grammar.specs.Placing.{place}
 use Rattle.grammar.specs.PlacingLaws.{shows, Back, first, from, last-free, back, Before, shut-order}
 use Rattle.groups.specs.StandLaws.{list-join}
-use Rattle.sealing.specs.WovenLaws.{joined-join}
 use Rattle.demands.specs.Range.{Grammar, Reads, Range1, range1, scope1, Range2, range2, scope2, f01}
+use Rattle.grammar.specs.ListsLaws.{joined-join}
 
 -- ---- lists that grow at the end, as plain lists
 

@@ -41,7 +41,7 @@ use Rattle.demands.specs.PrintedLaws.{read-stands, message-stands, scope
 use Rattle.demands.specs.Range.{Grammar, Reads, Same, totalIn, Range1, range1, scope1, Range2, range2, scope2, f01}
 use Rattle.demands.specs.RangeLaws.{one-reading-1, one-reading-2, one-reading-f01}
 use Rattle.demands.specs.Read.{syntaxBy, syntaxOf, totalsFor, Read1, tree1, Alike1, Read2, tree2, Alike2, ReadF, AlikeF}
-use Rattle.sealing.specs.WovenLaws.{joined-join}
+use Rattle.grammar.specs.ListsLaws.{joined-join}
 
 -- ---- in parts
 

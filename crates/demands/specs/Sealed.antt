@@ -20,8 +20,8 @@ use Rattle.sealing.specs.Sealing.{newHeader, newTrailer, grown, sealedMessage, 
 abbrev pub sealedBy : Interchange → List ℕ → List ℕ → ℕ → List ℕ → Interchange
 sealedBy i m r f v = sealed i m (newHeader r f) (newTrailer (serviceIn i) r (textBy f v))
 
--- "the result is accepted; its tree is the old one with the new header group first and the new trailer group last in that message and UNT's count
--- four more, every other segment octet for octet"
+-- "A sealed message is accepted, keeps its other segments octet for octet": its tree is the old one with the new header group first and the new
+-- trailer group last in that message and UNT's count four more
 pub record Accepted (s m r : List ℕ) (f : ℕ) (v x : List ℕ) : Type 0 where
   -- the old tree, its message m, and where its UNH stands
   pub i : Interchange
@@ -42,7 +42,7 @@ pub record Accepted (s m r : List ℕ) (f : ℕ) (v x : List ℕ) : Type 0 where
   -- the same repertoire, version and service characters are in force
   pub settled : syntaxIn (sealedBy i m r f v) ≡ syntaxIn i
 
--- "the new header's scope 1 octets in it are what `seal_octets` writes for the same interchange, message, REF and F"
+-- "For one interchange, message, REF and F, the new header's range in the sealed interchange is what the first call wrote."
 pub record Signed (s m r : List ℕ) (f : ℕ) (x : List ℕ) : Type 0 where
   pub a : ℕ
   pub b : ℕ
@@ -51,7 +51,7 @@ pub record Signed (s m r : List ℕ) (f : ℕ) (x : List ℕ) : Type 0 where
   pub range : scope1Of x m r ≡ given (parts a b c d)
   pub octets : sealOctetsOf s m r f ≡ text (slice a b x ++ slice c d x)
 
--- "scope 1 and scope 2 ranges of headers that were there keep their octets": of the header h of the message k
+-- "Ranges of scopes 1 and 2 already there keep their octets": that of the header h of the message k
 pub record Kept1 (s x k h : List ℕ) (a b c d : ℕ) : Type 0 where
   pub header : ℕ
   pub header-end : ℕ

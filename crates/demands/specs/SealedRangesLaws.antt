@@ -24,9 +24,9 @@ use Rattle.groups.specs.Parts.{scopeH, trailerNamed, headerAt, headerEnd, trail
 use Rattle.groups.specs.PartsLaws.{headers-stand, body-stands}
 use Rattle.groups.specs.GroupsLaws.{chosen-stands}
 use Rattle.groups.specs.Calls.{given, orMissing, answeredBy, then, serviceIn, messageIn}
-use Rattle.groups.specs.CallsLaws.{placed-stands}
+use Rattle.groups.specs.CallsLaws.{placed-stands, none-some}
 use Rattle.ranges.specs.Ranges.{ofScope, headerIn, parts, scope1At, scope1Of, run, scope2At, scope2Of}
-use Rattle.demands.specs.PrintedLaws.{given-so, read-stands, none-some, message-stands}
+use Rattle.demands.specs.PrintedLaws.{given-so, read-stands, message-stands}
 
 -- ---- the message that is named
 

@@ -27,8 +27,9 @@ use Rattle.groups.specs.Parts.{scopeH, trailerNamed, headerAt, trailerAt}
 use Rattle.groups.specs.Calls.{given, orMissing, then, serviceIn, messageIn}
 use Rattle.ranges.specs.Ranges.{Run, run, scope2At, scope2Of}
 use Rattle.demands.specs.SealedRangesLaws.{asked-of, Asks, header-in}
-use Rattle.sealing.specs.WovenLaws.{joined-join}
-use Rattle.demands.specs.PrintedLaws.{none-some, run-list, stand-as, message-stands}
+use Rattle.demands.specs.PrintedLaws.{run-list, stand-as, message-stands}
+use Rattle.groups.specs.CallsLaws.{none-some}
+use Rattle.grammar.specs.ListsLaws.{joined-join}
 
 -- ---- the chosen one, in its row
 

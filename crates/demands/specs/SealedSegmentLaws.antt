@@ -34,7 +34,7 @@ use Rattle.demands.specs.SealedListLaws.{front, true-of, of-true, joined
 use Rattle.demands.specs.SealedNumberLaws.{plains-content, released-content, decimal-some, decimal-six}
 use Rattle.demands.specs.SealedSymbolLaws.{ush-passes, usa-passes, ust-passes, usr-passes, unt-passes}
 use Rattle.demands.specs.SealedWrittenLaws.{digits-tag, clearS, ok-passes, clear-passes, value-ok, value-clear, symbols-inside, inside-symbols, wellS, symbols-well, well-symbols}
-use Rattle.sealing.specs.WovenLaws.{every-left, every-right}
+use Rattle.grammar.specs.ListsLaws.{every-left, every-right}
 
 -- ---- a rule that the new segments meet, and UNT with its count grown where it met it
 

@@ -15,7 +15,7 @@ use Rattle.grammar.specs.Places.{wide}
 use Rattle.grammar.specs.Named.{placed, placedIn}
 use Rattle.sealing.specs.Sealing.{sealedMessage, sealedIn}
 use Rattle.demands.specs.SealedListLaws.{of-true}
-use Rattle.demands.specs.PrintedLaws.{none-some}
+use Rattle.groups.specs.CallsLaws.{none-some}
 
 -- ---- rules on the parts of a list of parts
 

@@ -32,7 +32,7 @@ use Rattle.demands.specs.SealedMessageLaws.{May, may, order-sealed, refs
 use Rattle.demands.specs.SealedTreeLaws.{joined-every, every-joined, refs-same, size-same, any-same, every-sealed}
 use Rattle.demands.specs.SealedWrittenLaws.{wellS, list-well, well-list}
 use Rattle.demands.specs.SealedSegmentLaws.{Takes, message-takes, takes-well, takes-inside, takes-formed, takes-amount}
-use Rattle.sealing.specs.WovenLaws.{every-left, every-right}
+use Rattle.grammar.specs.ListsLaws.{every-left, every-right}
 
 -- ---- a segment has four octets at least, so an interchange has few segments
 

@@ -1,4 +1,4 @@
-// The demands, in the words of document 01. Each is the promise of a function that does nothing, so that the gate holds it.
+// The demands, in the users' words and document 01's. Each is the promise of a function that does nothing, so that the gate holds it.
 // The definitions are those that the calls promise: of the crate `grammar` `Interchange` and `print` (Valid.antt, Interchange.antt), `Valid`
 // (Valid.antt, with the rules of Rules.antt, Elements.antt and Loads.antt), `verdictOf` and `totalsOf` (Verdict.antt), `countedIn` (Counted.antt);
 // of `ranges` `scope1Of`, `scope2Of` (Ranges.antt) and `f01Of` (F01.antt); of `values` `valueOf` (Values.antt); of `sealing` `sealOf`,
@@ -89,23 +89,23 @@ pub fn success_is_written()
     ensures { λ _. ⌜ ((t : Text) (out : List ℕ) (k : ℕ) (left : List ℕ) → Writes t out (Length k) left → (t ≡ text (take k left)) × ((length (take k left) ≡ k) × (k ≤ 65535))) ⌝ }
 {}
 
-// "the result is accepted; its tree is the old one with the new header group first and the new trailer group last in that message and UNT's count
-// four more, every other segment octet for octet"
+// "A sealed message is accepted, keeps its other segments octet for octet": the result is accepted; its tree is the old one with the new header
+// group first and the new trailer group last in that message and UNT's count four more
 pub fn sealed_is_accepted()
     ensures { λ _. ⌜ ((s m r : List ℕ) (f : ℕ) (v x : List ℕ) → sealOf s m r f v ≡ text x → length x ≤ 65535 → Accepted s m r f v x) ⌝ }
 {}
 
-// "the new header's scope 1 octets in it are what `seal_octets` writes for the same interchange, message, REF and F"
+// "For one interchange, message, REF and F, the new header's range in the sealed interchange is what the first call wrote."
 pub fn sealed_is_signed()
     ensures { λ _. ⌜ ((s m r : List ℕ) (f : ℕ) (v x : List ℕ) → sealOf s m r f v ≡ text x → length x ≤ 65535 → Signed s m r f x) ⌝ }
 {}
 
-// "`value` of it gives VALUE"
+// The value call gives VALUE of it.
 pub fn sealed_has_value()
     ensures { λ _. ⌜ ((s m r : List ℕ) (f : ℕ) (v x : List ℕ) → Octets v → sealOf s m r f v ≡ text x → length x ≤ 65535 → valueOf x m r ≡ text v) ⌝ }
 {}
 
-// "scope 1 and scope 2 ranges of headers that were there keep their octets"
+// "Ranges of scopes 1 and 2 already there keep their octets".
 pub fn sealed_keeps_ranges()
     ensures { λ _. ⌜ ((s m r : List ℕ) (f : ℕ) (v x : List ℕ) → sealOf s m r f v ≡ text x → length x ≤ 65535 → Kept s x) ⌝ }
 {}

@@ -25,3 +25,4 @@ pub mod StartLaws
 pub mod VerdictLaws
 pub mod PairLaws
 pub mod Named
+pub mod ListsLaws

@@ -47,7 +47,7 @@ use Rattle.groups.specs.declared.calls.Named.the-variants.{Message as He
 
 -- ---- a message of the reading, by its 0062
 
-none-some : {A B : Type 0} {a : A} → none ≡ some a → B
+pub none-some : {A B : Type 0} {a : A} → none ≡ some a → B
 none-some e = let z : _≡_ {A = ℕ} 0 1 = cc in absurd (omega arith)
 
 module _ (σ : Service) (p : ℕ) (u : Leaf) (r : List ℕ) where

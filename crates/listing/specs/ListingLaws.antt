@@ -36,13 +36,12 @@ use Rattle.groups.specs.StandLaws.{stand-front, stand-back, stand-asked}
 use Rattle.groups.specs.Groups.{nameAt}
 use Rattle.groups.specs.CallsLaws.{begins as begun-so}
 use Rattle.writing.specs.Laid.{Laid}
-use Rattle.writing.specs.LaidLaws.{laid-same, laid-length, laid-all, laid-front}
+use Rattle.writing.specs.LaidLaws.{laid-same, laid-length, laid-all, laid-front, laid-more, laid-none}
 use Rattle.writing.specs.Written.{refusedAs}
 use Rattle.writing.specs.declared.Written.{Written}
 use Rattle.writing.specs.declared.Written.the-variants.{Length, Refused}
 use Rattle.listing.specs.Listing.{acceptedLine, refusalLine, messageOf, acceptedOf, listingBy, listingOf, Lists}
 use Rattle.listing.specs.Laying.{Near, sectionAt, messagesRead, earlyAs, LaysAll}
-use Rattle.listing.specs.WordsLaws.{laid-more, laid-none}
 use Rattle.listing.specs.LayingLaws.{near-laid, section-lines}
 
 -- ---- what stands in the octets with a section more

@@ -17,10 +17,9 @@ use Rattle.groups.specs.declared.named.Sought.{Sought}
 use Rattle.groups.specs.declared.named.Sought.the-variants.{At, Nowhere}
 use Rattle.walk.specs.declared.sections.Layout.{Layout}
 use Rattle.writing.specs.Laid.{Laid}
-use Rattle.writing.specs.LaidLaws.{laid-same}
+use Rattle.writing.specs.LaidLaws.{laid-same, laid-more, laid-none}
 use Rattle.listing.specs.Listing.{messageLine, octetsWords, coveredWords}
 use Rattle.listing.specs.Laying.{nextAt, Near, upTo, twoAt, sealAt, sealsAt, sectionAt}
-use Rattle.listing.specs.WordsLaws.{laid-more, laid-none}
 
 -- ---- where the next group starts
 

@@ -17,15 +17,6 @@ use Rattle.writing.specs.LaidLaws.{Rest, rest-start, rest-same, rest-put, rest-
 
 -- ---- two texts, one behind the other
 
-pub laid-more : {out : List ℕ} {at : ℕ} {a : List ℕ} {p : ℕ} {out₁ : List ℕ} {b : List ℕ} {r : ℕ} {out′ : List ℕ} → Laid out at a p out₁ → Laid out₁ p b r out′ → Laid out at (a ++ b) r out′
-laid-more {out} {at} {a} {b = b} g h = record {
-  place = omega (arith, g .place, h .place, length-append a b);
-  octets = h .octets ∙ rw (g .octets, g .place) (sym (sets-joined out at a b));
-}
-
-pub laid-none : {out : List ℕ} {at : ℕ} → Laid out at [] at out
-laid-none = record { place = omega arith; octets = refl }
-
 -- ---- content under way: what is left of it is that of x from i on
 
 pub record Contenting (ρ : ℕ) (out₀ : List ℕ) (at : ℕ) (x : List ℕ) (i : ℕ) (out : List ℕ) (p : ℕ) : Type 0 where

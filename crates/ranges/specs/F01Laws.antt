@@ -43,7 +43,7 @@ use Rattle.groups.specs.PartsLaws.{body-row, body-tied}
 use Rattle.groups.specs.Links.{Tie, tie, tieIn, linkFrom}
 use Rattle.groups.specs.LinksLaws.{There, tie-there, tie-none}
 use Rattle.groups.specs.Calls.{Answered, refusedAs, orMissing, answeredBy, then, serviceIn, messageIn, Holds}
-use Rattle.groups.specs.CallsLaws.{begins}
+use Rattle.groups.specs.CallsLaws.{begins, none-some}
 use Rattle.groups.specs.declared.links.Places.{Places}
 use Rattle.groups.specs.declared.links.Linked.{Linked}
 use Rattle.groups.specs.declared.links.Linked.the-variants.{At as LinkedAt, Nowhere as Unlinked}
@@ -60,9 +60,6 @@ use Rattle.ranges.specs.declared.f01.Reference.{Reference}
 use Rattle.ranges.specs.declared.f01.Reference.the-variants.{At, Missing, Refused}
 use Rattle.ranges.specs.declared.scopes.Run.{Run as Ran}
 use Rattle.ranges.specs.declared.scopes.Run.the-variants.{Of as RunOf, Refused as RunRefused}
-
-none-some : {A B : Type 0} {a : A} → none ≡ some a → B
-none-some e = let z : _≡_ {A = ℕ} 0 1 = cc in absurd (omega arith)
 
 -- ---- the USX's 0020
 

@@ -44,11 +44,9 @@ use Rattle.ranges.specs.declared.scopes.Scope1.the-variants.{Of as Scope
 use Rattle.ranges.specs.declared.scopes.Run.{Run as Ran}
 use Rattle.ranges.specs.declared.scopes.Run.the-variants.{Of as RunOf, Refused as RunRefused}
 use Rattle.ranges.specs.Told.{missingAs, partNumbers, toldParts, runNumbers, toldRun, PartsInside, RunInside, headerPart, bodyPart, runPart, startOf, endOf, scopedBy, headerFound, trailerFound, partsBy, runBy}
+use Rattle.groups.specs.CallsLaws.{none-some}
 
 -- ---- scope 1 and scope 2
-
-none-some : {A B : Type 0} {a : A} → none ≡ some a → B
-none-some e = let z : _≡_ {A = ℕ} 0 1 = cc in absurd (omega arith)
 
 module _ {s m : List ℕ} {y : Syntax} {c : Layout} {rows : List ℕ} (h : Holds s m y c rows) (r : List ℕ) where
   pub header-scoped : (code : List ℕ) → headerFound (y .service) s c rows code r ≡ rangeOf showHeader (y .service) (headsAt (y .service) (h .q) (h .o)) (headerIn code (h .o) r)

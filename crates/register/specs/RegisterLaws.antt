@@ -40,21 +40,12 @@ use Rattle.judge.specs.FindingLaws.{verdict-by}
 use Rattle.groups.specs.CallsLaws.{begins as begun-so}
 use Rattle.groups.specs.Calls.{serviceIn}
 use Rattle.writing.specs.Laid.{Laid}
-use Rattle.writing.specs.LaidLaws.{laid-same, laid-length, laid-all, laid-part, sets-joined}
+use Rattle.writing.specs.LaidLaws.{laid-same, laid-length, laid-all, laid-part, sets-joined, laid-more, laid-none}
 use Rattle.writing.specs.Written.{Text, text, noText, refusedAs, Writes}
 use Rattle.writing.specs.WrittenLaws.{writes-none, writes-long, writes-full, writes-done}
 use Rattle.writing.specs.declared.Written.{Written}
 use Rattle.writing.specs.declared.Written.the-variants.{Length, Refused}
 use Rattle.register.specs.Register.{highest, entryOf, entriesOf, registerIn, registerBy, registerOf, entryAt, sectionAt, entriesRead, LaysAll, checkNumbers}
-
-pub laid-more : {out : List ℕ} {at : ℕ} {a : List ℕ} {p : ℕ} {out₁ : List ℕ} {b : List ℕ} {r : ℕ} {out′ : List ℕ} → Laid out at a p out₁ → Laid out₁ p b r out′ → Laid out at (a ++ b) r out′
-laid-more {out} {at} {a} {b = b} g h = record {
-  place = omega (arith, g .place, h .place, length-append a b);
-  octets = h .octets ∙ rw (g .octets, g .place) (sym (sets-joined out at a b));
-}
-
-pub laid-none : {out : List ℕ} {at : ℕ} → Laid out at [] at out
-laid-none = record { place = omega arith; octets = refl }
 
 -- ---- lengths
 

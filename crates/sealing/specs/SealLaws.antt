@@ -31,9 +31,7 @@ use Rattle.values.specs.Values.{answered}
 use Rattle.sealing.specs.Sealing.{maySeal, lengthRight, textBy, mayWrite, writable, octetsAt, sealOctetsOf, sealedText, orUnwritten, sealAt, sealOf}
 use Rattle.sealing.specs.Woven.{octetsPieces, sealedPieces, wovenOr, sizedOr}
 use Rattle.sealing.specs.WovenLaws.{woven, signed, read-short}
-
-writes-as : {x z : Text} {out left : List ℕ} {a : _} → x ≡ z → Writes x out a left → Writes z out a left
-writes-as {out = out} {left = left} {a = a} e w = subst (λ (v : Text). Writes v out a left) e w
+use Rattle.writing.specs.WrittenLaws.{writes-as}
 
 -- ---- what the layout of a message that is named lies within
 

@@ -53,6 +53,7 @@ use Rattle.groups.specs.CallsLaws.{placed-every}
 use Rattle.sealing.specs.Sealing.{single, newHeader, newTrailer, grown, sealedMessage, sealedIn, sealed, signedText, sealedText}
 use Rattle.sealing.specs.Woven.{headerText, trailerText, countBy, countAt, endBy, countEnd, restPieces, octetsPieces, sealedPieces}
 use Rattle.sealing.specs.PiecesLaws.{segment-print, single-print}
+use Rattle.grammar.specs.ListsLaws.{every-right, every-joined, joined-join}
 
 -- ---- UNT: its count, and where that ends
 
@@ -103,19 +104,6 @@ module _ (σ : Service) (s : List ℕ) (p : ℕ) (f : T (fit σ)) where
       (pass σ 4 (omega arith) (flatE e) (untTail es ++ w .behind) (p + 4) reads (below e) ∙ tail-stops es (w .behind) (p + 4 + length (spells σ (flatE e))))
 
 -- ---- rules on single segments hold for UNT
-
-pub every-left : {A : Type 0} (rule : A → Rule) (a b : Snoc A) → holds (every rule (a +++ b)) → holds (every rule a)
-every-left rule a nil h = h
-every-left rule a (b ▷ x) h = every-left rule a b (h .0)
-
-pub every-right : {A : Type 0} (rule : A → Rule) (a b : Snoc A) → holds (every rule (a +++ b)) → holds (every rule b)
-every-right rule a nil h = tt
-every-right rule a (b ▷ x) h = (every-right rule a b (h .0), h .1)
-
-pub every-joined : {A B : Type 0} (rule : B → Rule) (show : A → Snoc B) (s : Snoc A) → holds (every rule (grammar.joined show s)) → holds (every (λ (a : A). every rule (show a)) s)
-every-joined rule show nil h = tt
-every-joined rule show (s ▷ a) h =
-    (every-joined rule show s (every-left rule (grammar.joined show s) (show a) h), every-right rule (grammar.joined show s) (show a) h)
 
 unt-formed : (y : Version) (k : Leaf) → T (formed y (asked (seg Unt k))) → inRange (digits 1 6) (text k 1 0) ≡ true
 unt-formed y k h = let w : T (inRange (digits 1 6) (text k 1 0)) = search (and-left, and-right) in so (inRange (digits 1 6) (text k 1 0)) w
@@ -194,10 +182,6 @@ module _ (A B U E X s : List ℕ) (h u e : ℕ) (is : s ≡ A ++ (B ++ (U ++ (E 
       sum = omega (arith, length-append A (B ++ (U ++ E)), length-append B (U ++ E), length-append U E)
 
 -- ---- a message, and a sealed one, printed
-
-pub joined-join : {A B : Type 0} (f : A → Snoc B) (a b : Snoc A) → grammar.joined f (a +++ b) ≡ grammar.joined f a +++ grammar.joined f b
-joined-join f a nil = refl
-joined-join f a (b ▷ x) = ap (λ (s : Snoc _). s +++ f x) (joined-join f a b) ∙ sym (regroup (grammar.joined f a) (grammar.joined f b) (f x))
 
 -- between UNH and UNT
 abbrev inner : Snoc Header → Body → Snoc Trailer → Snoc Segment

@@ -14,22 +14,8 @@ use groups::named::Sought;
 use groups::named::group_named;
 use groups::named::headers_of;
 use syntax::Syntax;
+use syntax::cutting::tag_octet;
 use walk::sections::Layout;
-
-fn is_tag_octet(b: u8) -> bool
-    ensures { λ r. ⌜ r ≡ tagOctet b ⌝ }
-{
-    if b < 48 {
-        return false;
-    }
-    if b <= 57 {
-        return true;
-    }
-    if b < 65 {
-        return false;
-    }
-    b <= 90
-}
 
 // A to Z and 0 to 9.
 fn are_tag_octets(reference: &[u8]) -> bool
@@ -37,7 +23,7 @@ fn are_tag_octets(reference: &[u8]) -> bool
 {
     let mut i: usize = 0;
     while i < reference.len() {
-        if is_tag_octet(reference[i]) {
+        if tag_octet(reference[i]) {
             i += 1;
             continue;
         }

@@ -134,7 +134,7 @@ pub fn scan(s: &[u8], from: usize, t: &[u8; 256], y: Syntax) -> Cut
     Cut::Open
 }
 
-fn tag_octet(b: u8) -> bool
+pub fn tag_octet(b: u8) -> bool
     ensures { λ r. ⌜ r ≡ tagOctet b ⌝ }
 {
     if b < 48 {

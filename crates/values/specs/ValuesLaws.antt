@@ -47,6 +47,7 @@ use Rattle.groups.specs.declared.links.Places.{Places}
 use Rattle.groups.specs.declared.links.Linked.{Linked}
 use Rattle.groups.specs.declared.links.Linked.the-variants.{At as LinkedAt, Nowhere as Unlinked}
 use Rattle.values.specs.Values.{filterH, usrText, behind, trailerText, usyText, linkText, valueText, filtered, orNoHeader, valueIn, valueAt, answered, valueOf}
+use Rattle.writing.specs.WrittenLaws.{writes-as}
 
 -- the octets of no part have no content
 pub no-content : (ρ : ℕ) (s : List ℕ) {z : List ℕ} → z ≡ slice 0 0 s → content ρ z ≡ []
@@ -131,9 +132,6 @@ module _ {s m : List ℕ} {y : Syntax} {c : Layout} {rows : List ℕ} (h : Holds
   text-trailed z e d = d ∙ sym (ap (λ (b : Bool). cond b (linkText (bodyIn (h .o)) r) (trailerText (h .o) r)) (sym (h .laid .auto) ∙ e))
 
 -- ---- the call
-
-writes-as : {x z : Text} {out left : List ℕ} {a : _} → x ≡ z → Writes x out a left → Writes z out a left
-writes-as {out = out} {left = left} {a = a} e w = subst (λ (v : Text). Writes v out a left) e w
 
 module _ {s m : List ℕ} {y : Syntax} {c : Layout} {rows : List ℕ} (h : Holds s m y c rows) (r : List ℕ) {x : Sought}
     (e : x ≡ soughtIn (y .service) s rows 0 2 r (c .headers) (c .body)) where

@@ -1,5 +1,5 @@
 -- A text laid into a lent buffer, and a text that is made of pieces.
-use Prim.Native.Nat.{ℕ, _+_}
+use Prim.Native.Nat.{ℕ, _+_, _≤_, _<_}
 use mathlib.Core.List.{List, [], _∷_, _++_}
 use mathlib.Core.Path.{_≡_}
 use lib.ListN.{length}
@@ -14,3 +14,9 @@ pub record Laid (out : List ℕ) (at : ℕ) (text : List ℕ) (r : ℕ) (out′ 
 abbrev pub joined : List (List ℕ) → List ℕ
 joined [] = []
 joined (p ∷ ps) = p ++ joined ps
+
+-- of n octets that are laid from `at` on into a buffer of so much room, r have their place
+pub record Fits (room at n r : ℕ) : Type 0 where
+  pub few : r ≤ n
+  pub inside : (i : ℕ) → i < r → at + i < room
+  pub full : r < n → room ≤ at + r

@@ -2,22 +2,40 @@
 use Prim.Native.Nat.{ℕ, suc, _+_, _-_, _≤_, _<_}
 use native.Mathlib.Numerals.{add-one}
 use native.Mathlib.Omega.{arith}
+use mathlib.Core.Bool.{Bool, true, false}
 use mathlib.Core.List.{List, [], _∷_, _++_}
-use mathlib.Core.Path.{_≡_, refl, ap, _∙_}
+use mathlib.Core.Path.{_≡_, refl, ap, _∙_, sym}
+use lib.Dec.{ltb}
 use lib.ListN.{length, getD, set, take, drop, drop-of-length-le, length-append}
-use lib.Seq.{sets, sets-eq, drop-cons, length-sets, take-at}
-use Rattle.writing.specs.Laid.{Laid, joined}
+use borrow.Author.Tests.{ltb-true, ltb-false}
+use lib.Seq.{sets, sets-eq, set-out, drop-cons, length-sets, take-at}
+use Rattle.writing.specs.Laid.{Laid, Fits, joined}
 
 -- two texts one after the other
 pub sets-joined : (l : List ℕ) (i : ℕ) (v w : List ℕ) → sets l i (v ++ w) ≡ sets (sets l i v) (i + length v) w
 sets-joined l i [] w = ap (λ (k : ℕ). sets l k w) (omega arith)
 sets-joined l i (x ∷ v) w = sets-joined (set l i x) (suc i) v w ∙ ap (λ (k : ℕ). sets (sets (set l i x) (suc i) v) k w) (omega arith)
 
+-- behind the buffer's end nothing is laid
+pub sets-beyond : (v : List ℕ) (l : List ℕ) (i : ℕ) → length l ≤ i → sets l i v ≡ l
+sets-beyond [] l i h = refl
+sets-beyond (x ∷ v) l i h = ap (λ (k : List ℕ). sets k (suc i) v) (set-out l i x h) ∙ sets-beyond v l (suc i) (omega (arith, h))
+
 pub laid-same : {out : List ℕ} {at : ℕ} {p q : List ℕ} {r : ℕ} {out′ : List ℕ} → p ≡ q → Laid out at p r out′ → Laid out at q r out′
 laid-same e h = rw e at h
 
 pub laid-length : {out : List ℕ} {at : ℕ} {p : List ℕ} {r : ℕ} {out′ : List ℕ} → Laid out at p r out′ → length out′ ≡ length out
 laid-length {out} {at} {p} h = ap length (h .octets) ∙ length-sets out at p
+
+-- two texts laid one after the other, and none
+pub laid-more : {out : List ℕ} {at : ℕ} {a : List ℕ} {p : ℕ} {out₁ : List ℕ} {b : List ℕ} {r : ℕ} {out′ : List ℕ} → Laid out at a p out₁ → Laid out₁ p b r out′ → Laid out at (a ++ b) r out′
+laid-more {out} {at} {a} {b = b} g h = record {
+  place = omega (arith, g .place, h .place, length-append a b);
+  octets = h .octets ∙ rw (g .octets, g .place) (sym (sets-joined out at a b));
+}
+
+pub laid-none : {out : List ℕ} {at : ℕ} → Laid out at [] at out
+laid-none = record { place = omega arith; octets = refl }
 
 -- ---- what stands in the buffer then
 
@@ -78,8 +96,22 @@ module _ {out₀ : List ℕ} {at : ℕ} {v : List ℕ} where
         let e : at + (i + 1) ≡ at + i + 1 = omega arith in
         record { part = omega arith; going = rest-put (rest-same (g .going) (rw add-one (drop-cons v i 0 h))) e q }
 
-    pub copying-end : length v ≤ i → Laid out₀ at v (at + i) out
-    copying-end h = rest-end (rest-same (g .going) (drop-of-length-le v h))
+    -- all that has room is laid; the rest would be laid behind the buffer's end
+    pub copying-end : {n : ℕ} → length out ≡ length out₀ → Fits (length out₀) at (length v) n → i ≤ n → n ≤ i → Laid out₀ at v (at + length v) out
+    copying-end {n} m f l h = record { place = refl; octets = by (ltb n (length v)) refl }
+      where
+        by : (b : Bool) → ltb n (length v) ≡ b → out ≡ sets out₀ at v
+        by true e = let k = f .full (ltb-true n (length v) e) in sym (sets-beyond (drop i v) out (at + i) (omega (arith, k, h, m))) ∙ g .going .octets
+        by false e =
+            let k = ltb-false n (length v) e in
+            let z : length v ≤ i = omega (arith, k, l, h) in
+            ap (sets out (at + i)) (sym (drop-of-length-le v z)) ∙ g .going .octets
+
+    pub copying-next : {n : ℕ} {out′ : List ℕ} → Fits (length out₀) at (length v) n → i < n → out′ ≡ set out (at + i) (getD v i 0) → Copying out₀ at v (i + 1) out′
+    copying-next f l q = copying-on (omega (arith, f .few, l)) q
+
+    pub copying-in : {n : ℕ} → length out ≡ length out₀ → Fits (length out₀) at (length v) n → i < n → at + i < length out
+    copying-in m f l = let k = f .inside i l in omega (arith, k, m)
 
 -- ---- a row of pieces: `ps` are left to lay from `at` on
 

@@ -2,14 +2,17 @@
 use Prim.Native.Nat.{ℕ, _≤_, _<_}
 use native.Mathlib.Omega.{arith}
 use mathlib.Core.List.{List}
-use mathlib.Core.Path.{_≡_, refl, _∙_}
+use mathlib.Core.Path.{_≡_, refl, _∙_, subst}
 use lib.ListN.{length}
 use borrow.Author.Tests.{lt-ltb, le-ltb}
 use Rattle.writing.specs.Laid.{Laid}
 use Rattle.writing.specs.LaidLaws.{laid-front}
-use Rattle.writing.specs.Written.{text, noText, refusedAs, Writes}
+use Rattle.writing.specs.Written.{text, noText, refusedAs, Writes, Text}
 use Rattle.writing.specs.declared.Written.{Written}
 use Rattle.writing.specs.declared.Written.the-variants.{Length}
+
+pub writes-as : {x z : Text} {out left : List ℕ} {a : Written} → x ≡ z → Writes x out a left → Writes z out a left
+writes-as {out = out} {left = left} {a = a} e w = subst (λ (v : Text). Writes v out a left) e w
 
 pub writes-none : {number place : ℕ} {out : List ℕ} {r : Written} → r ≡ refusedAs number place → Writes (noText number place) out r out
 writes-none e = record { answer = e; octets = refl }

@@ -4,7 +4,7 @@ ghost use mathlib.Core.Path.{_≡_};
 ghost use Prim.Native.Nat.{_+_, _%_, _≤_, _<_};
 ghost use lib.ListN.{length, set};
 ghost use Rattle.writing.specs.Decimal.{decimalOf, Filled};
-ghost use Rattle.writing.specs.Laid.{Laid};
+ghost use Rattle.writing.specs.Laid.{Laid, Fits};
 use syntax::Refusal;
 
 // What a call that writes a text answers: how long the text is, or why there is none.
@@ -28,16 +28,31 @@ pub fn store(out: &mut [u8], at: usize, b: u8)
     }
 }
 
+// How many of `n` octets have room from `at` on.
+fn fitting(room: usize, at: usize, n: usize) -> usize
+    ensures { λ r. ⌜ Fits room at n r ⌝ }
+{
+    if room <= at {
+        return 0;
+    }
+    if room - at < n {
+        return room - at;
+    }
+    n
+}
+
+// The octets of `v`, as far as there is room.
 pub fn put(out: &mut [u8], at: usize, v: &[u8]) -> usize
     requires { ⌜ at + length (now v) < 18446744073709551616 ⌝ }
     ensures { λ r. ⌜ Laid (now (out .entry)) at (now (v .entry)) r (now (out .exit)) ⌝ }
 {
+    let n = fitting(out.len(), at, v.len());
     let mut i: usize = 0;
-    while i < v.len() {
-        store(&mut *out, at + i, v[i]);
+    while i < n {
+        out[at + i] = v[i];
         i += 1;
     }
-    at + i
+    at + v.len()
 }
 
 fn digit(n: u64) -> u8

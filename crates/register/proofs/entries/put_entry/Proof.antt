@@ -1,9 +1,9 @@
+use Rattle.writing.specs.LaidLaws.{laid-more}
 use Prim.Native.Nat.{_-_}
 use native.Mathlib.Omega.{arith}
 use mathlib.Core.Path.{refl, sym, ap, _∙_}
 use borrow.Author.Needs.{needs}
 use lib.ListN.{length}
-use Rattle.register.specs.RegisterLaws.{laid-more}
 use Rattle.register.proofs.entries.put_entry.Statement.{statement}
 use Rattle.register.proofs.entries.put_entry.Tie as tie
 use Rattle.register.proofs.entries.put_entry.Reads as reads

@@ -7,7 +7,7 @@ use Rattle.sealing.proofs.allowed.are_tag_octets.Statement.{statement}
 use Rattle.sealing.proofs.allowed.are_tag_octets.Tie as tie
 use Rattle.sealing.proofs.allowed.are_tag_octets.Reads as reads
 use Rattle.sealing.proofs.allowed.are_tag_octets.Lts as lts
-use Rattle.sealing.proofs.allowed.is_tag_octet.Reads as is-tag-octet-reads
+use Rattle.syntax.proofs.cutting.tag_octet.Reads as tag-octet-reads
 
 abbrev Inv-loop : tie.InvT-loop
 Inv-loop reference i₀ i = Testing tagOctet reference i
@@ -20,12 +20,12 @@ loop-holds : tie.Need-loop-holds Inv-loop μ-loop
 loop-holds c = testing-start
 
 -- src/allowed.rt:40:25
-shared-slice-read-is-tag-octet : tie.Need-shared-slice-read-is-tag-octet Inv-loop μ-loop
-shared-slice-read-is-tag-octet c = search needs
+shared-slice-read-tag-octet : tie.Need-shared-slice-read-tag-octet Inv-loop μ-loop
+shared-slice-read-tag-octet c = search needs
 
 -- src/allowed.rt:40:12
-is-tag-octet-requires : tie.Need-is-tag-octet-requires Inv-loop μ-loop
-is-tag-octet-requires c κs = search needs
+tag-octet-requires : tie.Need-tag-octet-requires Inv-loop μ-loop
+tag-octet-requires c κs = search needs
 
 -- src/allowed.rt:41:13
 add-i : tie.Need-add-i Inv-loop μ-loop
@@ -54,8 +54,8 @@ are-tag-octets-spec =
     Inv-loop
     μ-loop
     loop-holds
-    shared-slice-read-is-tag-octet
-    is-tag-octet-requires
+    shared-slice-read-tag-octet
+    tag-octet-requires
     add-i
     loop-less
     loop-again
