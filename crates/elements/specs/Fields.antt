@@ -3,11 +3,19 @@
 use Prim.Native.Nat.{ℕ, suc, _+_, _*_, _-_, _≤_, _<_}
 use mathlib.Core.Path.{_≡_}
 use mathlib.Core.List.{List, []}
-use mathlib.Core.Bool.{Bool, false, cond, _||_}
+use mathlib.Core.Bool.{Bool, true, false, cond, _||_}
 use lib.Dec.{eqb, leb, ltb}
 use lib.ListN.{length, getD, set}
 use Rattle.syntax.specs.Segment.{Piece, piecesAt, atElement, atComponent, components, repeats, elements, anyRepeats}
+use Rattle.syntax.specs.Cutting.{cutAt}
+use Rattle.syntax.specs.Clean.{sound}
 use Rattle.syntax.specs.declared.Service.{Service}
+use Rattle.syntax.specs.declared.Syntax.{Syntax}
+use Rattle.syntax.specs.declared.cutting.Cut.the-variants.{Ends}
+use Rattle.elements.specs.declared.fields.Past.{Past}
+use Rattle.elements.specs.declared.fields.Past.the-variants.{Behind, Broken}
+use Rattle.elements.specs.declared.fields.Pass.{Pass}
+use Rattle.elements.specs.declared.fields.Pass.the-variants.{Whole, Broken as Torn}
 use Rattle.syntax.specs.declared.reading.Span.the-variants.{Part}
 
 -- what is left of a segment: nothing, or what is read from i
@@ -20,6 +28,35 @@ pub record Passed (σ : Service) (s : List ℕ) (i : ℕ) (at : ℕ) (ends : Boo
   pub count : elements (piecesAt σ s i) ≡ cond ends 0 (suc (elements (rest σ s ends at)))
   pub any : anyRepeats (piecesAt σ s i) ≡ (repeated || anyRepeats (rest σ s ends at))
   pub on : ends ≡ false → (i < at) × (at ≤ length s)
+
+-- the segment is cut on the way from i to at: nothing is outside, and the cut is the one from there, or the segment ends just before
+pub record Through (y : Syntax) (s : List ℕ) (i : ℕ) (at : ℕ) (ends : Bool) : Type 0 where
+  pub on : ends ≡ false → cutAt y s at ≡ cutAt y s i
+  pub end : ends ≡ true → (1 ≤ at) × (cutAt y s i ≡ Ends (at - 1))
+
+-- .. or it has no end, or an octet outside
+abbrev pub PassedAs : Syntax → List ℕ → ℕ → Past → Type 0
+PassedAs y s i (Behind at ends b) = Passed (y .service) s i at ends b × Through y s i at ends
+PassedAs y s i Broken = sound (cutAt y s i) ≡ false
+
+-- the same of an element that repeats
+abbrev pub repeatingAs : Past → Past
+repeatingAs (Behind at ends b) = Behind at ends true
+repeatingAs Broken = Broken
+
+-- behind an element whose first repeat ends at q, before a separator of kind k
+pub record Again (y : Syntax) (s : List ℕ) (i : ℕ) (r : Past) : Type 0 where
+  pub rest : Past
+  pub passed : PassedAs y s i rest
+  pub same : r ≡ repeatingAs rest
+
+pub record ClosedAs (y : Syntax) (s : List ℕ) (q k : ℕ) (r : Past) : Type 0 where
+  pub again : k ≡ 3 → Again y s (q + 1) r
+  pub once : (k ≡ 3 → ⊥) → r ≡ Behind (q + 1) (eqb k 5) false
+
+-- the marks of its number of components, and of whether it repeats
+abbrev pub closedMarks : List ℕ → ℕ → ℕ → ℕ → List ℕ
+closedMarks m b n k = set (set m b n) (b + 1) (cond (eqb k 3) 1 0)
 
 -- the marks of component n
 abbrev pub placed : List ℕ → ℕ → ℕ → ℕ → ℕ → List ℕ
@@ -54,6 +91,14 @@ pub record TakenOne (σ : Service) (s : List ℕ) (i : ℕ) (at : ℕ) (ends : B
   pub kept : Kept (8 * n) m₀ m
   pub spared : Spared (8 * n) m₀ m
 
+abbrev pub TakenAs : Syntax → List ℕ → ℕ → Past → List ℕ → List ℕ → ℕ → Type 0
+TakenAs y s i (Behind at ends c) m₀ m b = Taken (y .service) s i at ends c m₀ m b × Through y s i at ends
+TakenAs y s i Broken m₀ m b = (sound (cutAt y s i) ≡ false) × (length m ≡ 40)
+
+abbrev pub TakenOneAs : Syntax → List ℕ → ℕ → Past → List ℕ → List ℕ → ℕ → Type 0
+TakenOneAs y s i (Behind at ends c) m₀ m n = TakenOne (y .service) s i at ends c m₀ m n × Through y s i at ends
+TakenOneAs y s i Broken m₀ m n = (sound (cutAt y s i) ≡ false) × (length m ≡ 40)
+
 -- no element from n on below p
 pub record Cleared (m : List ℕ) (n p : ℕ) : Type 0 where
   pub room : length m ≡ 40
@@ -68,6 +113,11 @@ pub record Fields (σ : Service) (s : List ℕ) (a : ℕ) (size : ℕ) (repeated
   pub sizes : size ≡ elements (piecesAt σ s a)
   pub any : repeated ≡ anyRepeats (piecesAt σ s a)
   pub marks : Marked σ s a m
+
+-- one pass over the segment at a: its end and its fields; or it has no end, or an octet outside
+abbrev pub FieldsAs : Syntax → List ℕ → ℕ → Pass → List ℕ → Type 0
+FieldsAs y s a (Whole e f) m = (cutAt y s a ≡ Ends e) × Fields (y .service) s a (f .size) (f .repeats) m
+FieldsAs y s a Torn m = (sound (cutAt y s a) ≡ false) × (length m ≡ 40)
 
 -- where component c of element p starts and ends by the marks; 0 and 0 if it is not there
 abbrev pub startIn : List ℕ → ℕ → ℕ → ℕ

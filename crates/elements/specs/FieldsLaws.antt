@@ -4,21 +4,28 @@ use native.Mathlib.Omega.{arith}
 use mathlib.Core.List.{List, [], _∷_}
 use mathlib.Core.Path.{_≡_, refl, ap, sym, _∙_, subst}
 use mathlib.Core.Bool.{Bool, true, false, cond, _||_}
-use borrow.Author.Tests.{ltb-true, ltb-false, ne-eqb, lt-ltb}
+use borrow.Author.Tests.{ltb-true, ltb-false, eqb-true, eqb-false, ne-eqb, lt-ltb}
 use lib.Dec.{eqb, ltb}
 use lib.ListN.{length, getD, take, drop, set, length-set, length-drop, drop-of-length-le}
 use lib.Seq.{getD-set-same, getD-set-other}
-use Rattle.syntax.specs.Segment.{Piece, piece, pieces, piecesAt, edgeAt, atElement, atComponent, componentAt, partOf, components, repeats, elements, anyRepeats}
+use Rattle.syntax.specs.Segment.{Piece, piece, pieces, piecesAt, edgeOf, edgeAt, atElement, atComponent, componentAt, partOf, components, repeats, elements, anyRepeats}
 use Rattle.syntax.specs.ContentLaws.{part-inside}
 use Rattle.syntax.specs.Service.{kind}
-use Rattle.syntax.specs.SegmentLaws.{edge-steps, edge-over, after}
+use Rattle.syntax.specs.SegmentLaws.{Stepped, edge-steps, edge-over, after}
 use Rattle.syntax.specs.declared.Service.{Service}
 use Rattle.syntax.specs.declared.Syntax.{Syntax}
 use Rattle.syntax.specs.declared.reading.Edge.{Edge}
 use Rattle.syntax.specs.declared.reading.Edge.the-variants.{On, Off}
 use Rattle.syntax.specs.declared.reading.Span.{Span}
 use Rattle.syntax.specs.declared.reading.Span.the-variants.{Part, Absent}
-use Rattle.elements.specs.Fields.{rest, Passed, placed, Noted, Kept, Spared, Taken, TakenOne, Cleared, Marked, Fields}
+use Rattle.syntax.specs.Cutting.{cutAt}
+use Rattle.syntax.specs.Clean.{sound, Clean, CleanEdge, TagAt}
+use Rattle.syntax.specs.declared.cutting.Cut.the-variants.{Ends}
+use Rattle.elements.specs.declared.fields.Shape.{Shape}
+use Rattle.elements.specs.declared.fields.Past.{Past}
+use Rattle.elements.specs.declared.fields.Past.the-variants.{Behind, Broken}
+use Rattle.elements.specs.declared.fields.Pass.the-variants.{Whole, Broken as Torn}
+use Rattle.elements.specs.Fields.{rest, Passed, Through, PassedAs, repeatingAs, Again, ClosedAs, closedMarks, placed, Noted, Kept, Spared, Taken, TakenOne, TakenAs, TakenOneAs, Cleared, Marked, Fields, FieldsAs}
 
 -- ---- elements and components of a list of pieces
 
@@ -130,28 +137,46 @@ pub record Inside (y : Syntax) (s : List ℕ) (a : ℕ) (b : Bool) (j : ℕ) : T
   pub next : atElement 1 (piecesAt (y .service) s a) ≡ atElement 1 (piecesAt (y .service) s j)
   pub count : elements (piecesAt (y .service) s a) ≡ elements (piecesAt (y .service) s j)
   pub any : anyRepeats (piecesAt (y .service) s a) ≡ (b || anyRepeats (piecesAt (y .service) s j))
+  pub cuts : cutAt y s j ≡ cutAt y s a
 
 pub inside-start : (y : Syntax) (s : List ℕ) (a : ℕ) → Inside y s a false a
-inside-start y s a = record { low = omega arith; next = refl; count = refl; any = refl }
+inside-start y s a = record { low = omega arith; next = refl; count = refl; any = refl; cuts = refl }
 
-module _ {y : Syntax} {s : List ℕ} {a j : ℕ} {b : Bool} (g : Inside y s a b j) {r : Edge} (e : r ≡ edgeAt (y .service) s j) where
-  pub inside-over : r ≡ Off → Passed (y .service) s a j true b
-  inside-over d =
-      let w = edge-over (y .service) s j e d in
-      record {
-        next = g .next ∙ ap (atElement 1) w;
-        count = g .count ∙ ap elements w;
-        any = g .any ∙ ap (λ (ps : List Piece). b || anyRepeats ps) w;
-        on = λ (h : true ≡ false). absurd (true-false h);
-      }
+-- a step of the cursor
+clean-at : (y : Syntax) (s : List ℕ) (j : ℕ) {q k : ℕ} {r : Edge} → CleanEdge y s j r → r ≡ On q k → Clean y s j q k
+clean-at y s j e d = subst (CleanEdge y s j) d e
+
+clean-steps : (y : Syntax) (s : List ℕ) (j : ℕ) {q k : ℕ} {r : Edge} → CleanEdge y s j r → r ≡ On q k → Stepped (y .service) s j q k
+clean-steps y s j e d = edge-steps (y .service) s j (clean-at y s j e d .edge) refl
+
+through-on : {y : Syntax} {s : List ℕ} {i at : ℕ} → cutAt y s at ≡ cutAt y s i → Through y s i at false
+through-on e = record { on = λ h. e; end = λ (h : false ≡ true). absurd (true-false (sym h)) }
+
+through-end : {y : Syntax} {s : List ℕ} {i q : ℕ} → cutAt y s i ≡ Ends q → Through y s i (q + 1) true
+through-end {y} {s} {i} {q} e =
+    let n : q + 1 - 1 ≡ q = omega arith in
+    record { on = λ (h : true ≡ false). absurd (true-false h); end = λ h. (omega arith, rw n e) }
+
+through-from : {y : Syntax} {s : List ℕ} {a i at : ℕ} {ends : Bool} → cutAt y s i ≡ cutAt y s a → Through y s i at ends → Through y s a at ends
+through-from e t = record { on = λ h. t .on h ∙ e; end = λ h. (t .end h .0, sym e ∙ t .end h .1) }
+
+module _ {y : Syntax} {s : List ℕ} {a j : ℕ} {b : Bool} (g : Inside y s a b j) {r : Edge} (e : CleanEdge y s j r) where
+  pub inside-over : r ≡ Off → sound (cutAt y s a) ≡ false
+  inside-over d = ap sound (sym (g .cuts)) ∙ subst (CleanEdge y s j) d e
 
   module _ {q k : ℕ} (d : r ≡ On q k) where
     pub inside-fits : (j ≤ q) × (q < length s)
-    inside-fits = let w = edge-steps (y .service) s j e d in (w .low, w .high)
+    inside-fits = let w = clean-steps y s j e d in (w .low, w .high)
 
-    pub inside-next : k ≡ 4 → Passed (y .service) s a (q + 1) false b
-    inside-next t =
-        let w = edge-steps (y .service) s j e d in
+    goes-on : (k ≡ 5 → ⊥) → cutAt y s (q + 1) ≡ cutAt y s a
+    goes-on n = clean-at y s j e d .next n ∙ g .cuts
+
+    ends-here : k ≡ 5 → cutAt y s a ≡ Ends q
+    ends-here n = sym (g .cuts) ∙ clean-at y s j e d .last n
+
+    passed-next : k ≡ 4 → Passed (y .service) s a (q + 1) false b
+    passed-next t =
+        let w = clean-steps y s j e d in
         let u = w .low in let v = w .high in let o = g .low in
         record {
           next = g .next ∙ ap (atElement 1) (w .first) ∙ rw t;
@@ -160,9 +185,9 @@ module _ {y : Syntax} {s : List ℕ} {a j : ℕ} {b : Bool} (g : Inside y s a b 
           on = λ (h : false ≡ false). (omega arith, omega arith);
         }
 
-    pub inside-last : k ≡ 5 → Passed (y .service) s a (q + 1) true b
-    inside-last t =
-        let w = edge-steps (y .service) s j e d in
+    passed-last : k ≡ 5 → Passed (y .service) s a (q + 1) true b
+    passed-last t =
+        let w = clean-steps y s j e d in
         record {
           next = g .next ∙ ap (atElement 1) (w .first) ∙ rw t;
           count = g .count ∙ ap elements (w .first) ∙ rw t;
@@ -170,15 +195,22 @@ module _ {y : Syntax} {s : List ℕ} {a j : ℕ} {b : Bool} (g : Inside y s a b 
           on = λ (h : true ≡ false). absurd (true-false h);
         }
 
+    pub inside-next : k ≡ 4 → PassedAs y s a (Behind (q + 1) false b)
+    inside-next t = (passed-next t, through-on (goes-on (λ z. omega arith)))
+
+    pub inside-last : k ≡ 5 → PassedAs y s a (Behind (q + 1) true b)
+    inside-last t = (passed-last t, through-end (ends-here t))
+
     pub inside-repeats : k ≡ 3 → Inside y s a true (q + 1)
     inside-repeats t =
-        let w = edge-steps (y .service) s j e d in
+        let w = clean-steps y s j e d in
         let u = w .low in let o = g .low in
         record {
           low = omega arith;
           next = g .next ∙ ap (atElement 1) (w .first) ∙ rw t;
           count = g .count ∙ ap elements (w .first) ∙ rw t;
           any = g .any ∙ ap (λ (ps : List Piece). b || anyRepeats ps) (w .first) ∙ rw t (or-true b);
+          cuts = goes-on (λ z. omega arith);
         }
       where
         or-true : (b : Bool) → (b || true) ≡ true
@@ -187,22 +219,23 @@ module _ {y : Syntax} {s : List ℕ} {a j : ℕ} {b : Bool} (g : Inside y s a b 
 
     pub inside-on : k ≡ 2 → Inside y s a b (q + 1)
     inside-on t =
-        let w = edge-steps (y .service) s j e d in
+        let w = clean-steps y s j e d in
         let u = w .low in let o = g .low in
         record {
           low = omega arith;
           next = g .next ∙ ap (atElement 1) (w .first) ∙ rw t;
           count = g .count ∙ ap elements (w .first) ∙ rw t;
           any = g .any ∙ ap (λ (ps : List Piece). b || anyRepeats ps) (w .first) ∙ rw t;
+          cuts = goes-on (λ z. omega arith);
         }
 
     pub inside-else : (k ≡ 4 → ⊥) → (k ≡ 5 → ⊥) → (k ≡ 3 → ⊥) → Inside y s a b (q + 1)
-    inside-else f v h = let w = edge-steps (y .service) s j e d in let l = w .least in let m = w .most in let t : k ≡ 2 = omega arith in inside-on t
+    inside-else f v h = let w = clean-steps y s j e d in let l = w .least in let m = w .most in let t : k ≡ 2 = omega arith in inside-on t
 
-    pub inside-skipped : k ≡ 3 → {at : ℕ} {ends c : Bool} → Passed (y .service) s (q + 1) at ends c → Passed (y .service) s a at ends true
+    inside-skipped : k ≡ 3 → {at : ℕ} {ends c : Bool} → Passed (y .service) s (q + 1) at ends c → Passed (y .service) s a at ends true
     inside-skipped t w =
         let i = inside-repeats t in
-        let u = edge-steps (y .service) s j e d .low in let o = g .low in
+        let u = clean-steps y s j e d .low in let o = g .low in
         record {
           next = i .next ∙ w .next;
           count = i .count ∙ w .count;
@@ -254,8 +287,8 @@ module _ (m : List ℕ) (b n x z : ℕ) (h : length m ≡ 40) (room : b + 8 ≤ 
 -- ---- the marks of an element
 
 -- the spans of n components are in the marks from b on
-abbrev pub Behind : List Piece → List ℕ → ℕ → ℕ → Type 0
-Behind ps m b n = (c : ℕ) → c ≤ 2 → c < n → Part (getD m (b + 2 + 2 * c) 0) (getD m (b + 2 + 2 * c + 1) 0) ≡ atComponent c ps
+abbrev pub Listed : List Piece → List ℕ → ℕ → ℕ → Type 0
+Listed ps m b n = (c : ℕ) → c ≤ 2 → c < n → Part (getD m (b + 2 + 2 * c) 0) (getD m (b + 2 + 2 * c + 1) 0) ≡ atComponent c ps
 
 pub done-long : (m : List ℕ) (b n v : ℕ) → length m ≡ 40 → length (set (set m b n) (b + 1) v) ≡ 40
 done-long m b n v h = length-set (set m b n) (b + 1) v ∙ length-set m b n ∙ h
@@ -264,7 +297,7 @@ module _ (ps : List Piece) (m : List ℕ) (b n v : ℕ) (h : length m ≡ 40) (r
   done-other : (i : ℕ) → (i ≡ b → ⊥) → (i ≡ b + 1 → ⊥) → getD (set (set m b n) (b + 1) v) i 0 ≡ getD m i 0
   done-other i f g = getD-set-other (set m b n) (b + 1) i v 0 g ∙ getD-set-other m b i n 0 f
 
-  done-noted : components ps ≡ n → eqb v 1 ≡ repeats ps → Behind ps m b n → Noted ps (set (set m b n) (b + 1) v) b
+  done-noted : components ps ≡ n → eqb v 1 ≡ repeats ps → Listed ps m b n → Noted ps (set (set m b n) (b + 1) v) b
   done-noted p r f =
       let w = length-set m b n in
       record {
@@ -289,7 +322,7 @@ pub record Noting (y : Syntax) (s : List ℕ) (a : ℕ) (m₀ m : List ℕ) (b j
   pub parts : components (piecesAt (y .service) s a) ≡ n + components (piecesAt (y .service) s j)
   pub repeating : repeats (piecesAt (y .service) s a) ≡ repeats (piecesAt (y .service) s j)
   pub ahead : (c : ℕ) → atComponent (n + c) (piecesAt (y .service) s a) ≡ atComponent c (piecesAt (y .service) s j)
-  pub behind : Behind (piecesAt (y .service) s a) m b n
+  pub behind : Listed (piecesAt (y .service) s a) m b n
   pub kept : Kept b m₀ m
   pub spared : Spared b m₀ m
 
@@ -311,22 +344,13 @@ noting-start y s a m b h =
     }
 
 module _ {y : Syntax} {s : List ℕ} {a : ℕ} {m₀ m : List ℕ} {b j n : ℕ} (g : Noting y s a m₀ m b j n) (room : b + 8 ≤ 40)
-    {r : Edge} (e : r ≡ edgeAt (y .service) s j) where
-  pub noting-over : r ≡ Off → Taken (y .service) s a j true false m₀ (set (set m b n) (b + 1) 0) b
-  noting-over d =
-      let w = edge-over (y .service) s j e d in
-      let p : components (piecesAt (y .service) s a) ≡ n + 0 = g .parts ∙ ap (λ (ps : List Piece). n + components ps) w in
-      record {
-        pass = inside-over (g .inside) e d;
-        long = done-long m b n 0 (g .long);
-        noted = done-noted (piecesAt (y .service) s a) m b n 0 (g .long) room (omega arith) (sym (g .repeating ∙ ap repeats w)) (g .behind);
-        kept = done-kept (piecesAt (y .service) s a) m b n 0 (g .long) room m₀ (g .kept);
-        spared = done-spared (piecesAt (y .service) s a) m b n 0 (g .long) room m₀ (g .spared);
-      }
+    {r : Edge} (e : CleanEdge y s j r) where
+  pub noting-over : r ≡ Off → TakenAs y s a Broken m₀ m b
+  noting-over d = (inside-over (g .inside) e d, g .long)
 
   module _ {q k : ℕ} (d : r ≡ On q k) where
     pub noting-fits : n < length s
-    noting-fits = let w = edge-steps (y .service) s j e d in let u = w .low in let v = w .high in let f = g .few in omega arith
+    noting-fits = let w = clean-steps y s j e d in let u = w .low in let v = w .high in let f = g .few in omega arith
 
     module _ {m′ : List ℕ} (p : m′ ≡ placed m b n j q) where
       pub noting-long : length m′ ≡ 40
@@ -339,19 +363,19 @@ module _ {y : Syntax} {s : List ℕ} {a : ℕ} {m₀ m : List ℕ} {b j n : ℕ}
       spared-on x l = ap (λ (u : List ℕ). getD u x 0) p ∙ placed-past m b n j q (g .long) room x l ∙ g .spared x l
 
       parts-on : components (piecesAt (y .service) s a) ≡ n + components (piece j q k ∷ after k (piecesAt (y .service) s (q + 1)))
-      parts-on = g .parts ∙ ap (λ (ps : List Piece). n + components ps) (edge-steps (y .service) s j e d .first)
+      parts-on = g .parts ∙ ap (λ (ps : List Piece). n + components ps) (clean-steps y s j e d .first)
 
       repeating-on : repeats (piecesAt (y .service) s a) ≡ repeats (piece j q k ∷ after k (piecesAt (y .service) s (q + 1)))
-      repeating-on = g .repeating ∙ ap repeats (edge-steps (y .service) s j e d .first)
+      repeating-on = g .repeating ∙ ap repeats (clean-steps y s j e d .first)
 
       this : n ≤ 2 → Part (getD m′ (b + 2 + 2 * n) 0) (getD m′ (b + 2 + 2 * n + 1) 0) ≡ atComponent n (piecesAt (y .service) s a)
       this l =
           let z : n ≡ n + 0 = omega arith in
           same-part (ap (λ (u : List ℕ). getD u (b + 2 + 2 * n) 0) p ∙ placed-start m b n j q (g .long) room l)
           (ap (λ (u : List ℕ). getD u (b + 2 + 2 * n + 1) 0) p ∙ placed-end m b n j q (g .long) room l) ∙
-          sym (ap (λ (x : ℕ). atComponent x (piecesAt (y .service) s a)) z ∙ g .ahead 0 ∙ ap (atComponent 0) (edge-steps (y .service) s j e d .first))
+          sym (ap (λ (x : ℕ). atComponent x (piecesAt (y .service) s a)) z ∙ g .ahead 0 ∙ ap (atComponent 0) (clean-steps y s j e d .first))
 
-      behind-on : Behind (piecesAt (y .service) s a) m′ b (n + 1)
+      behind-on : Listed (piecesAt (y .service) s a) m′ b (n + 1)
       behind-on c l h = pick (ltb c n) refl
         where
           pick : (t : Bool) → ltb c n ≡ t → Part (getD m′ (b + 2 + 2 * c) 0) (getD m′ (b + 2 + 2 * c + 1) 0) ≡ atComponent c (piecesAt (y .service) s a)
@@ -367,7 +391,7 @@ module _ {y : Syntax} {s : List ℕ} {a : ℕ} {m₀ m : List ℕ} {b j n : ℕ}
 
       pub noting-on : k ≡ 2 → Noting y s a m₀ m′ b (q + 1) (n + 1)
       noting-on t =
-          let w = edge-steps (y .service) s j e d in
+          let w = clean-steps y s j e d in
           let u = w .low in let f = g .few in
           let o : components (piecesAt (y .service) s a) ≡ n + suc (components (piecesAt (y .service) s (q + 1))) = parts-on ∙ rw t in
           record {
@@ -388,42 +412,60 @@ module _ {y : Syntax} {s : List ℕ} {a : ℕ} {m₀ m : List ℕ} {b j n : ℕ}
         last : components (piecesAt (y .service) s a) ≡ n + 1
         last = parts-on ∙ rw (ne-eqb k 2 t)
 
-        pub noting-repeats : k ≡ 3 → {at : ℕ} {ends c : Bool} → Passed (y .service) s (q + 1) at ends c →
-            Taken (y .service) s a at ends true m₀ (set (set m′ b (n + 1)) (b + 1) 1) b
-        noting-repeats o w =
-            record {
-              pass = inside-skipped (g .inside) e d o w;
-              long = done-long m′ b (n + 1) 1 noting-long;
-              noted = done-noted (piecesAt (y .service) s a) m′ b (n + 1) 1 noting-long room last (sym (repeating-on ∙ rw o)) behind-on;
-              kept = done-kept (piecesAt (y .service) s a) m′ b (n + 1) 1 noting-long room m₀ kept-on;
-              spared = done-spared (piecesAt (y .service) s a) m′ b (n + 1) 1 noting-long room m₀ spared-on;
-            }
+        noting-repeats : k ≡ 3 → (p : Past) → PassedAs y s (q + 1) p → TakenAs y s a (repeatingAs p) m₀ (set (set m′ b (n + 1)) (b + 1) 1) b
+        noting-repeats o (Behind at ends c) (w, x) = (
+          record {
+            pass = inside-skipped (g .inside) e d o w;
+            long = done-long m′ b (n + 1) 1 noting-long;
+            noted = done-noted (piecesAt (y .service) s a) m′ b (n + 1) 1 noting-long room last (sym (repeating-on ∙ rw o)) behind-on;
+            kept = done-kept (piecesAt (y .service) s a) m′ b (n + 1) 1 noting-long room m₀ kept-on;
+            spared = done-spared (piecesAt (y .service) s a) m′ b (n + 1) 1 noting-long room m₀ spared-on;
+          },
+          through-from (inside-repeats (g .inside) e d o .cuts) x,
+        )
+        noting-repeats o Broken w = (ap sound (sym (inside-repeats (g .inside) e d o .cuts)) ∙ w, done-long m′ b (n + 1) 1 noting-long)
 
         module _ (o : k ≡ 3 → ⊥) where
           once : false ≡ repeats (piecesAt (y .service) s a)
           once = sym (repeating-on ∙ rw (ne-eqb k 3 o, ne-eqb k 2 t))
 
-          pub noting-next : k ≡ 4 → Taken (y .service) s a (q + 1) false false m₀ (set (set m′ b (n + 1)) (b + 1) 0) b
-          noting-next f =
-              record {
-                pass = inside-next (g .inside) e d f;
-                long = done-long m′ b (n + 1) 0 noting-long;
-                noted = done-noted (piecesAt (y .service) s a) m′ b (n + 1) 0 noting-long room last once behind-on;
-                kept = done-kept (piecesAt (y .service) s a) m′ b (n + 1) 0 noting-long room m₀ kept-on;
-                spared = done-spared (piecesAt (y .service) s a) m′ b (n + 1) 0 noting-long room m₀ spared-on;
-              }
+          taken-once : {ends : Bool} → Passed (y .service) s a (q + 1) ends false → Taken (y .service) s a (q + 1) ends false m₀ (set (set m′ b (n + 1)) (b + 1) 0) b
+          taken-once f = record {
+            pass = f;
+            long = done-long m′ b (n + 1) 0 noting-long;
+            noted = done-noted (piecesAt (y .service) s a) m′ b (n + 1) 0 noting-long room last once behind-on;
+            kept = done-kept (piecesAt (y .service) s a) m′ b (n + 1) 0 noting-long room m₀ kept-on;
+            spared = done-spared (piecesAt (y .service) s a) m′ b (n + 1) 0 noting-long room m₀ spared-on;
+          }
 
-          pub noting-last : (k ≡ 4 → ⊥) → Taken (y .service) s a (q + 1) true false m₀ (set (set m′ b (n + 1)) (b + 1) 0) b
-          noting-last f =
-              let w = edge-steps (y .service) s j e d in let l = w .least in let h = w .most in
-              let v : k ≡ 5 = omega arith in
-              record {
-                pass = inside-last (g .inside) e d v;
-                long = done-long m′ b (n + 1) 0 noting-long;
-                noted = done-noted (piecesAt (y .service) s a) m′ b (n + 1) 0 noting-long room last once behind-on;
-                kept = done-kept (piecesAt (y .service) s a) m′ b (n + 1) 0 noting-long room m₀ kept-on;
-                spared = done-spared (piecesAt (y .service) s a) m′ b (n + 1) 0 noting-long room m₀ spared-on;
-              }
+          noting-once : TakenAs y s a (Behind (q + 1) (eqb k 5) false) m₀ (set (set m′ b (n + 1)) (b + 1) 0) b
+          noting-once = by (eqb k 5) refl
+            where
+              by : (x : Bool) → eqb k 5 ≡ x → TakenAs y s a (Behind (q + 1) x false) m₀ (set (set m′ b (n + 1)) (b + 1) 0) b
+              by true h = let v = inside-last (g .inside) e d (eqb-true k 5 h) in (taken-once (v .0), v .1)
+              by false h =
+                  let w = clean-steps y s j e d in let l = w .least in let u = w .most in let f = eqb-false k 5 h in
+                  let v = inside-next (g .inside) e d (omega arith) in (taken-once (v .0), v .1)
+
+        pub noting-closed-long : {m″ : List ℕ} → m″ ≡ closedMarks m′ b (n + 1) k → length m″ ≡ 40
+        noting-closed-long f = ap length f ∙ done-long m′ b (n + 1) (cond (eqb k 3) 1 0) noting-long
+
+        pub noting-closed : {p : Past} {m″ : List ℕ} → ClosedAs y s q k p → m″ ≡ closedMarks m′ b (n + 1) k → TakenAs y s a p m₀ m″ b
+        noting-closed {p} {m″} c f = rw f (by (eqb k 3) refl)
+          where
+            by : (x : Bool) → eqb k 3 ≡ x → TakenAs y s a p m₀ (set (set m′ b (n + 1)) (b + 1) (cond x 1 0)) b
+            by true h =
+                let o = eqb-true k 3 h in let z = c .again o in
+                subst (λ (p : Past). TakenAs y s a p m₀ (set (set m′ b (n + 1)) (b + 1) 1) b) (sym (z .same)) (noting-repeats o (z .rest) (z .passed))
+            by false h =
+                let o = eqb-false k 3 h in
+                subst (λ (p : Past). TakenAs y s a p m₀ (set (set m′ b (n + 1)) (b + 1) 0) b) (sym (c .once o)) (noting-once o)
+
+pub closed-again : {y : Syntax} {s : List ℕ} {q k : ℕ} {r : Past} (p : Past) → k ≡ 3 → PassedAs y s (q + 1) p → r ≡ repeatingAs p → ClosedAs y s q k r
+closed-again p t w e = record { again = λ h. record { rest = p; passed = w; same = e }; once = λ h. absurd (h t) }
+
+pub closed-once : {y : Syntax} {s : List ℕ} {q k : ℕ} {r : Past} → (k ≡ 3 → ⊥) → r ≡ Behind (q + 1) (eqb k 5) false → ClosedAs y s q k r
+closed-once t e = record { again = λ h. absurd (t h); once = λ h. e }
 
 -- ---- no element yet
 
@@ -493,24 +535,31 @@ noted-kept {ps} {m} {m′} {b} g k =
       spans = λ c l h. same-part (k (b + 2 + 2 * c) (omega arith)) (k (b + 2 + 2 * c + 1) (omega arith)) ∙ g .spans c l h;
     }
 
-pub one-past : {σ : Service} {s : List ℕ} {i at : ℕ} {ends c : Bool} {m : List ℕ} {n : ℕ} → Passed σ s i at ends c → length m ≡ 40 → 5 ≤ n →
-    TakenOne σ s i at ends c m m n
-one-past w h l = record { pass = w; long = h; noted = λ u. let z : ⊥ = omega arith in absurd z; kept = λ x u. refl; spared = λ x u. refl }
+pub one-past : (y : Syntax) (s : List ℕ) (i : ℕ) (m : List ℕ) (n : ℕ) (r : Past) → PassedAs y s i r → length m ≡ 40 → 5 ≤ n → TakenOneAs y s i r m m n
+one-past y s i m n (Behind at ends c) (w, x) h l =
+    (record { pass = w; long = h; noted = λ u. let z : ⊥ = omega arith in absurd z; kept = λ x u. refl; spared = λ x u. refl }, x)
+one-past y s i m n Broken w h l = (w, h)
+
+pub one-taken : (y : Syntax) (s : List ℕ) (i : ℕ) (m₀ m : List ℕ) (n : ℕ) (r : Past) → TakenAs y s i r m₀ m (8 * n) → TakenOneAs y s i r m₀ m n
+one-taken y s i m₀ m n (Behind at ends c) (w, x) = (record { pass = w .pass; long = w .long; noted = λ u. w .noted; kept = w .kept; spared = w .spared }, x)
+one-taken y s i m₀ m n Broken w = w
 
 -- n elements of the segment at a taken; the next starts at i, unless it ends. b: something before repeats
 pub record Fielding (y : Syntax) (s : List ℕ) (a : ℕ) (m : List ℕ) (i : ℕ) (ends : Bool) (b : Bool) (n : ℕ) : Type 0 where
   pub few : ends ≡ false → (n < i) × (i ≤ length s)
+  pub through : Through y s a i ends
   pub next : atElement (suc n) (piecesAt (y .service) s a) ≡ rest (y .service) s ends i
   pub count : elements (piecesAt (y .service) s a) ≡ n + cond ends 0 (suc (elements (rest (y .service) s ends i)))
   pub any : anyRepeats (piecesAt (y .service) s a) ≡ (b || anyRepeats (rest (y .service) s ends i))
   pub done : (p : ℕ) → p < n → p < 5 → Noted (atElement (suc p) (piecesAt (y .service) s a)) m (8 * p)
   pub free : Cleared m n 5
 
-pub fielding-start : {y : Syntax} {s : List ℕ} {a : ℕ} {m : List ℕ} {i : ℕ} {ends b : Bool} → Passed (y .service) s a i ends b → Cleared m 0 5 →
+pub fielding-start : {y : Syntax} {s : List ℕ} {a : ℕ} {m : List ℕ} {i : ℕ} {ends b : Bool} → PassedAs y s a (Behind i ends b) → Cleared m 0 5 →
     Fielding y s a m i ends b 0
-fielding-start w h =
+fielding-start (w, x) h =
     record {
       few = λ u. let o = w .on u in (omega arith, o .1);
+      through = x;
       next = w .next;
       count = w .count ∙ sym (zero-add _);
       any = w .any;
@@ -519,8 +568,8 @@ fielding-start w h =
     }
 
 module _ {y : Syntax} {s : List ℕ} {a : ℕ} {m : List ℕ} {i : ℕ} {ends b : Bool} {n : ℕ} (g : Fielding y s a m i ends b n) where
-  pub fielding-end : ends ≡ true → Fields (y .service) s a n b m
-  fielding-end t =
+  all-noted : ends ≡ true → Fields (y .service) s a n b m
+  all-noted t =
       let c = g .count in let z = count-off ends (elements (rest (y .service) s ends i)) t in
       record {
         sizes = omega arith;
@@ -539,11 +588,28 @@ module _ {y : Syntax} {s : List ℕ} {a : ℕ} {m : List ℕ} {i : ℕ} {ends b 
           subst (λ (ps : List Piece). Noted ps m (8 * p)) (sym (no-element (piecesAt (y .service) s a) (suc n) (suc p) gone (omega arith)))
           (record { parts = o .0; repeated = rw (o .1); spans = λ c l k. let z : ⊥ = omega arith in absurd z })
 
-  module _ (t : ends ≡ false) where
+  pub fielding-end : {e : ℕ} {f : Shape} → ends ≡ true → e ≡ i - 1 → f .size ≡ n → f .repeats ≡ b → FieldsAs y s a (Whole e f) m
+  fielding-end t u v w = (rw u (g .through .end t .1), rw (v, w) (all-noted t))
+
+  pub fielding-high : ends ≡ true → 1 ≤ i
+  fielding-high t = g .through .end t .0
+
+  module _ (t : ends ≡ false) (r : Past) (m′ : List ℕ) (v : TakenOneAs y s i r m m′ n) where
     pub fielding-fits : n < length s
     fielding-fits = let w = g .few t in omega arith
 
-    module _ {at : ℕ} {ends′ c : Bool} {m′ : List ℕ} (w : TakenOne (y .service) s i at ends′ c m m′ n) where
+    pub fielding-broken : r ≡ Broken → FieldsAs y s a Torn m′
+    fielding-broken d =
+        let w : TakenOneAs y s i Broken m m′ n = subst (λ (r : Past). TakenOneAs y s i r m m′ n) d v in
+        (ap sound (sym (g .through .on t)) ∙ w .0, w .1)
+
+    module _ {at : ℕ} {ends′ c : Bool} (d : r ≡ Behind at ends′ c) where
+      both : TakenOneAs y s i (Behind at ends′ c) m m′ n
+      both = subst (λ (r : Past). TakenOneAs y s i r m m′ n) d v
+
+      w : TakenOne (y .service) s i at ends′ c m m′ n
+      w = both .0
+
       pub fielding-less : left s ends′ at < left s ends i
       fielding-less = pick ends′ (w .pass .on)
         where
@@ -558,6 +624,7 @@ module _ {y : Syntax} {s : List ℕ} {a : ℕ} {m : List ℕ} {i : ℕ} {ends b 
           let v = w .pass .count in
           record {
             few = λ u. let x = g .few t in let o = w .pass .on u in (omega arith, o .1);
+            through = through-from (g .through .on t) (both .1);
             next = at-next (n + 1) (piecesAt (y .service) s a) ∙ ap (atElement 1) (ap (λ (x : ℕ). atElement x (piecesAt (y .service) s a)) (one-more n) ∙ here) ∙ w .pass .next;
             count = omega arith;
             any = g .any ∙ ap (λ (ps : List Piece). b || anyRepeats ps) (rest-on (y .service) s i ends t) ∙ ap (λ (x : Bool). b || x) (w .pass .any) ∙
@@ -579,6 +646,36 @@ module _ {y : Syntax} {s : List ℕ} {a : ℕ} {m : List ℕ} {i : ℕ} {ends b 
               let v = ltb-false p n e in
               let z : p ≡ n = omega arith in
               rw z (subst (λ (ps : List Piece). Noted ps m′ (8 * n)) (sym here) (w .noted (omega arith)))
+
+-- ---- a tag is passed at once
+
+tag-count : {σ : Service} {s : List ℕ} {a i at : ℕ} {ends b : Bool} → a ≤ i → atElement 1 (piecesAt σ s a) ≡ atElement 1 (piecesAt σ s i) →
+    elements (piecesAt σ s a) ≡ elements (piecesAt σ s i) → anyRepeats (piecesAt σ s a) ≡ anyRepeats (piecesAt σ s i) → Passed σ s i at ends b → Passed σ s a at ends b
+tag-count l n c r w = record { next = n ∙ w .next; count = c ∙ w .count; any = r ∙ w .any; on = λ h. let z = w .on h in (omega arith, z .1) }
+
+module _ {y : Syntax} {s : List ℕ} {a : ℕ} (g : TagAt y s a) where
+  tag-first : {at : ℕ} {ends b : Bool} → Passed (y .service) s (a + 3) at ends b → Passed (y .service) s a at ends b
+  tag-first {at} {ends} {b} w = by (edgeAt (y .service) s (a + 3)) refl (ap (edgeOf (y .service) s) (sym (g .stops)))
+    where
+      by : (r : Edge) → edgeAt (y .service) s (a + 3) ≡ r → edgeAt (y .service) s (a + 3) ≡ edgeAt (y .service) s a → Passed (y .service) s a at ends b
+      by (On q k) e d =
+          let u = edge-steps (y .service) s (a + 3) (sym e) refl .first in
+          let v = edge-steps (y .service) s a (sym e ∙ d) refl .first in
+          tag-count (omega arith) (rw (u, v)) (rw (u, v)) (rw (u, v)) w
+      by Off e d =
+          let u = edge-over (y .service) s (a + 3) (sym e) refl in
+          let v = edge-over (y .service) s a (sym e ∙ d) refl in
+          tag-count (omega arith) (rw (u, v)) (rw (u, v)) (rw (u, v)) w
+
+  pub tag-passed : (p : Past) → PassedAs y s (a + 3) p → PassedAs y s a p
+  tag-passed (Behind at ends b) (w, x) = (tag-first w, through-from (g .cuts) x)
+  tag-passed Broken w = ap sound (sym (g .cuts)) ∙ w
+
+pub tag-behind : {y : Syntax} {s : List ℕ} {a : ℕ} {p : Past} {at : ℕ} {ends b : Bool} → TagAt y s a → PassedAs y s (a + 3) p → p ≡ Behind at ends b → PassedAs y s a (Behind at ends b)
+tag-behind {y} {s} {a} {p} {at} {ends} {b} g w d = tag-passed g (Behind at ends b) (subst (PassedAs y s (a + 3)) d w)
+
+pub tag-broken : {y : Syntax} {s : List ℕ} {a : ℕ} {p : Past} (m : List ℕ) → TagAt y s a → PassedAs y s (a + 3) p → p ≡ Broken → length m ≡ 40 → FieldsAs y s a Torn m
+tag-broken {y} {s} {a} m g w d l = (tag-passed g Broken (subst (PassedAs y s (a + 3)) d w), l)
 
 -- ---- those who look
 

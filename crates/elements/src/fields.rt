@@ -1,14 +1,16 @@
 // One pass over the pieces of a segment that notes what the checks ask of it, so that each of them costs a look.
 ghost use mathlib.Core.Path.{_≡_};
 ghost use mathlib.Core.Bool.{_||_};
-ghost use Prim.Native.Nat.{_+_, _≤_};
+ghost use Prim.Native.Nat.{_+_, _≤_, _<_};
 ghost use lib.ListN.{length};
 ghost use Rattle.syntax.specs.Repertoire.{Table};
 ghost use Rattle.syntax.specs.Segment.{piecesAt, atElement, components, repeats, componentAt, partOf};
-ghost use Rattle.elements.specs.Fields.{Passed, placed, Taken, TakenOne, Cleared, Marked, Fields, startIn, endIn};
+ghost use Rattle.syntax.specs.Clean.{TagAt};
+ghost use Rattle.elements.specs.Fields.{PassedAs, repeatingAs, closedMarks, ClosedAs, placed, TakenAs, TakenOneAs, Cleared, Marked, FieldsAs, startIn, endIn};
+ghost use Rattle.elements.specs.declared.fields.Past.the-variants.{Behind};
 use syntax::Syntax;
 use syntax::reading::Edge;
-use syntax::reading::piece_end;
+use syntax::reading::clean_end;
 
 // How many elements a segment has, and whether anything in it repeats.
 pub struct Shape {
@@ -16,11 +18,17 @@ pub struct Shape {
     pub repeats: bool,
 }
 
-// Behind an element: where the next one starts, or that the segment ends; and whether the element repeats.
-pub struct Past {
-    pub at: usize,
-    pub ends: bool,
-    pub repeats: bool,
+// Behind an element: where the next one starts, whether the segment ends there instead, and whether the element repeats. Broken: the segment has no
+// end, or an octet outside the repertoire.
+pub enum Past {
+    Behind(usize, bool, bool),
+    Broken,
+}
+
+// A segment's end, and its shape; or that it has no end, or an octet outside the repertoire.
+pub enum Pass {
+    Whole(usize, Shape),
+    Broken,
 }
 
 fn either(a: bool, b: bool) -> bool
@@ -35,26 +43,18 @@ fn either(a: bool, b: bool) -> bool
 // From a piece at `from` to behind its element.
 fn skip(s: &[u8], from: usize, t: &[u8; 256], y: Syntax) -> Past
     requires { ⌜ Table y (now t) ⌝ }
-    ensures { λ r. ⌜ Passed (y .service) (now (s .entry)) from (r .at) (r .ends) (r .repeats) ⌝ }
+    ensures { λ r. ⌜ PassedAs y (now (s .entry)) from r ⌝ }
 {
     let mut j = from;
     let mut b = false;
     loop {
-        match piece_end(s, j, t, y) {
+        match clean_end(s, j, t, y) {
             Edge::On(q, k) => {
                 if k == 4 {
-                    return Past {
-                        at: q + 1,
-                        ends: false,
-                        repeats: b,
-                    };
+                    return Past::Behind(q + 1, false, b);
                 }
                 if k == 5 {
-                    return Past {
-                        at: q + 1,
-                        ends: true,
-                        repeats: b,
-                    };
+                    return Past::Behind(q + 1, true, b);
                 }
                 if k == 3 {
                     b = true;
@@ -64,11 +64,7 @@ fn skip(s: &[u8], from: usize, t: &[u8; 256], y: Syntax) -> Past
                 j = q + 1;
             }
             Edge::Off => {
-                return Past {
-                    at: j,
-                    ends: true,
-                    repeats: b,
-                };
+                return Past::Broken;
             }
         }
     }
@@ -86,16 +82,50 @@ fn place(marks: &mut [usize], b: usize, n: usize, x: usize, z: usize)
     }
 }
 
+fn repeating(p: Past) -> Past
+    ensures { λ r. ⌜ r ≡ repeatingAs p ⌝ }
+{
+    match p {
+        Past::Behind(at, ends, _) => Past::Behind(at, ends, true),
+        Past::Broken => Past::Broken,
+    }
+}
+
+// The element's first repeat, of `n` components, ends at `q`, before a separator of kind `k`: goes behind the element.
+fn closed(
+    s: &[u8],
+    q: usize,
+    k: u8,
+    t: &[u8; 256],
+    y: Syntax,
+    marks: &mut [usize],
+    b: usize,
+    n: usize,
+) -> Past
+    requires { ⌜ Table y (now t) ⌝ }
+    requires { ⌜ (length (now marks) ≡ 40) × (b + 8 ≤ 40) × (q < length (now s)) ⌝ }
+    ensures { λ r. ⌜ ClosedAs y (now (s .entry)) q k r ⌝ }
+    ensures { λ r. ⌜ now (marks .exit) ≡ closedMarks (now (marks .entry)) b n k ⌝ }
+{
+    marks[b] = n;
+    if k == 3 {
+        marks[b + 1] = 1;
+        return repeating(skip(s, q + 1, t, y));
+    }
+    marks[b + 1] = 0;
+    Past::Behind(q + 1, k == 5, false)
+}
+
 // Notes the element at `from` in the eight marks from `b` on, and goes behind it.
 fn note(s: &[u8], from: usize, t: &[u8; 256], y: Syntax, marks: &mut [usize], b: usize) -> Past
     requires { ⌜ Table y (now t) ⌝ }
     requires { ⌜ (length (now marks) ≡ 40) × (b + 8 ≤ 40) ⌝ }
-    ensures { λ r. ⌜ Taken (y .service) (now (s .entry)) from (r .at) (r .ends) (r .repeats) (now (marks .entry)) (now (marks .exit)) b ⌝ }
+    ensures { λ r. ⌜ TakenAs y (now (s .entry)) from r (now (marks .entry)) (now (marks .exit)) b ⌝ }
 {
     let mut j = from;
     let mut n: usize = 0;
     loop {
-        match piece_end(s, j, t, y) {
+        match clean_end(s, j, t, y) {
             Edge::On(q, k) => {
                 place(marks, b, n, j, q);
                 n += 1;
@@ -103,38 +133,10 @@ fn note(s: &[u8], from: usize, t: &[u8; 256], y: Syntax, marks: &mut [usize], b:
                     j = q + 1;
                     continue;
                 }
-                marks[b] = n;
-                if k == 3 {
-                    marks[b + 1] = 1;
-                    let w = skip(s, q + 1, t, y);
-                    return Past {
-                        at: w.at,
-                        ends: w.ends,
-                        repeats: true,
-                    };
-                }
-                marks[b + 1] = 0;
-                if k == 4 {
-                    return Past {
-                        at: q + 1,
-                        ends: false,
-                        repeats: false,
-                    };
-                }
-                return Past {
-                    at: q + 1,
-                    ends: true,
-                    repeats: false,
-                };
+                return closed(s, q, k, t, y, marks, b, n);
             }
             Edge::Off => {
-                marks[b] = n;
-                marks[b + 1] = 0;
-                return Past {
-                    at: j,
-                    ends: true,
-                    repeats: false,
-                };
+                return Past::Broken;
             }
         }
     }
@@ -144,7 +146,7 @@ fn note(s: &[u8], from: usize, t: &[u8; 256], y: Syntax, marks: &mut [usize], b:
 fn take_one(s: &[u8], from: usize, t: &[u8; 256], y: Syntax, marks: &mut [usize], n: usize) -> Past
     requires { ⌜ Table y (now t) ⌝ }
     requires { ⌜ length (now marks) ≡ 40 ⌝ }
-    ensures { λ r. ⌜ TakenOne (y .service) (now (s .entry)) from (r .at) (r .ends) (r .repeats) (now (marks .entry)) (now (marks .exit)) n ⌝ }
+    ensures { λ r. ⌜ TakenOneAs y (now (s .entry)) from r (now (marks .entry)) (now (marks .exit)) n ⌝ }
 {
     if n < 5 {
         return note(s, from, t, y, marks, 8 * n);
@@ -165,30 +167,59 @@ fn clear(marks: &mut [usize])
     }
 }
 
-// Of the segment at `at`, for each element p from 1 to 5, in the eight marks from 8 * (p - 1) on: how many components its first
-// repeat has (0: it is not there), 1 if it repeats, and start and end of its first three components, as far as they are there.
-pub fn fields(s: &[u8], at: usize, t: &[u8; 256], y: Syntax, marks: &mut [usize]) -> Shape
+// The elements of the segment at `at`, from behind its tag on.
+fn elements_from(
+    s: &[u8],
+    at: usize,
+    from: usize,
+    over: bool,
+    repeats: bool,
+    t: &[u8; 256],
+    y: Syntax,
+    marks: &mut [usize],
+) -> Pass
     requires { ⌜ Table y (now t) ⌝ }
-    requires { ⌜ length (now marks) ≡ 40 ⌝ }
-    ensures { λ r. ⌜ Fields (y .service) (now (s .entry)) at (r .size) (r .repeats) (now (marks .exit)) ⌝ }
+    requires { ⌜ PassedAs y (now s) at (Behind from over repeats) × Cleared (now marks) 0 5 ⌝ }
+    ensures { λ r. ⌜ FieldsAs y (now (s .entry)) at r (now (marks .exit)) ⌝ }
+{
+    let mut i = from;
+    let mut ends = over;
+    let mut b = repeats;
+    let mut n: usize = 0;
+    while !ends {
+        match take_one(s, i, t, y, marks, n) {
+            Past::Broken => {
+                return Pass::Broken;
+            }
+            Past::Behind(a, e, r) => {
+                n += 1;
+                i = a;
+                ends = e;
+                b = either(b, r);
+            }
+        }
+    }
+    Pass::Whole(
+        i - 1,
+        Shape {
+            size: n,
+            repeats: b,
+        },
+    )
+}
+
+// One pass over the segment with a tag at `at`: it is cut, and of each element p from 1 to 5 it is noted, in the eight marks from 8 * (p - 1) on: how many
+// components its first repeat has (0: it is not there), 1 if it repeats, and start and end of its first three components, as far as they are there.
+pub fn fields(s: &[u8], at: usize, t: &[u8; 256], y: Syntax, marks: &mut [usize]) -> Pass
+    requires { ⌜ Table y (now t) ⌝ }
+    requires { ⌜ TagAt y (now s) at × (length (now marks) ≡ 40) ⌝ }
+    ensures { λ r. ⌜ FieldsAs y (now (s .entry)) at r (now (marks .exit)) ⌝ }
 {
     // Before the elements: the number of stores is known here, so no branch is guessed wrong as behind the last one.
     clear(marks);
-    let tag = skip(s, at, t, y);
-    let mut i = tag.at;
-    let mut ends = tag.ends;
-    let mut b = tag.repeats;
-    let mut n: usize = 0;
-    while !ends {
-        let w = take_one(s, i, t, y, marks, n);
-        n += 1;
-        i = w.at;
-        ends = w.ends;
-        b = either(b, w.repeats);
-    }
-    Shape {
-        size: n,
-        repeats: b,
+    match skip(s, at + 3, t, y) {
+        Past::Broken => Pass::Broken,
+        Past::Behind(i, ends, b) => elements_from(s, at, i, ends, b, t, y, marks),
     }
 }
 

@@ -18,7 +18,8 @@ use syntax::Refusal;
 use syntax::Syntax;
 use syntax::opening::Begun;
 use syntax::opening::begin;
-use syntax::repertoire::table;
+use syntax::repertoire::OUTSIDE;
+use syntax::repertoire::classes;
 use turns::state::Phase;
 use turns::state::State;
 use turns::state::Stretch;
@@ -116,7 +117,18 @@ fn run(
     refused(7, at)
 }
 
-// A small interchange has few messages, and small tables for them.
+// A small interchange has few messages, and small tables for them: to clear large ones would take longer than to judge it.
+fn run_tiny(s: &[u8], from: usize, t: &[u8; 256], y: Syntax) -> Verdict
+    requires { ⌜ Table y (now t) ⌝ }
+    requires { ⌜ T (fit (y .service)) ⌝ }
+    requires { ⌜ length (now s) ≤ 256 ⌝ }
+    ensures { λ r. ⌜ told r ≡ walked (walk y start (chain (y .service) false (drop from (now (s .entry)))) from) ⌝ }
+{
+    let mut names = [0u64; 64];
+    let mut slots = [0u16; 95];
+    run(s, from, t, y, &mut names, &mut slots)
+}
+
 fn run_small(s: &[u8], from: usize, t: &[u8; 256], y: Syntax) -> Verdict
     requires { ⌜ Table y (now t) ⌝ }
     requires { ⌜ T (fit (y .service)) ⌝ }
@@ -148,7 +160,11 @@ pub fn judge(s: &[u8]) -> Verdict
         Begun::Ready(b) => {
             let y = b.syntax;
             let at = b.at;
-            let t = table(y);
+            let mut t = [OUTSIDE; 256];
+            classes(&mut t, y);
+            if s.len() <= 256 {
+                return run_tiny(s, at, &t, y);
+            }
             if s.len() <= 2048 {
                 return run_small(s, at, &t, y);
             }

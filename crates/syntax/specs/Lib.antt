@@ -5,6 +5,7 @@ pub mod Repertoire
 pub mod Cutting
 pub mod Content
 pub mod Segment
+pub mod Clean
 pub mod Opening
 pub mod Tree
 pub mod Example
@@ -18,4 +19,5 @@ pub mod SegmentLaws
 pub mod OpeningLaws
 pub mod TreeLaws
 pub mod ReaderLaws
+pub mod CleanLaws
 pub mod BridgeLaws

@@ -285,7 +285,7 @@ clash true false false s h k = h
 clash false d c s h k = k
 
 -- a letter or digit is no service character
-tag-data : (σ : Service) → T (fit σ) → (b : ℕ) → T (tagOctet b) → kindOf σ b ≡ 1
+pub tag-data : (σ : Service) → T (fit σ) → (b : ℕ) → T (tagOctet b) → kindOf σ b ≡ 1
 tag-data σ d b t =
     go (eqb b 32) (eqb b (σ .release)) (eqb b (σ .terminator)) (eqb b (σ .element)) (eqb b (σ .component)) (eqb b (σ .repetition)) refl refl refl refl refl refl
   where
@@ -389,11 +389,11 @@ tag-is false x y z a b c h = absurd (bad h)
     bad : Bad ≡ Is a b c → ⊥
     bad h = let z : _≡_ {A = ℕ} 0 1 = cc in omega arith
 
-abbrev Tagged : Service → List ℕ → ℕ → ℕ → ℕ → Type 0
+abbrev pub Tagged : Service → List ℕ → ℕ → ℕ → ℕ → Type 0
 Tagged σ s a b c =
     (d : ℕ) × (r : List ℕ) × (a ∷ b ∷ c ∷ d ∷ r ≡ s) × T (tagOctet a && tagOctet b && tagOctet c && (eqb d (σ .element) || eqb d (σ .terminator)))
 
-tag-split : (σ : Service) (s : List ℕ) (a b c : ℕ) → tagOf σ s ≡ Is a b c → Tagged σ s a b c
+pub tag-split : (σ : Service) (s : List ℕ) (a b c : ℕ) → tagOf σ s ≡ Is a b c → Tagged σ s a b c
 tag-split σ [] a b c h = absurd ((tag-is false 0 0 0 a b c h) .0)
 tag-split σ (x ∷ []) a b c h = absurd ((tag-is false 0 0 0 a b c h) .0)
 tag-split σ (x ∷ y ∷ []) a b c h = absurd ((tag-is false 0 0 0 a b c h) .0)

@@ -4,7 +4,7 @@ use mathlib.Core.List.{List}
 use mathlib.Core.Path.{_≡_}
 use mathlib.Core.Bool.{Bool, false, cond, not, _||_}
 use lib.Dec.{eqb}
-use lib.ListN.{length, getD}
+use lib.ListN.{length, getD, replicate}
 use Rattle.syntax.specs.Octets.{octets, within, digit, capital, small, among}
 use Rattle.syntax.specs.Service.{kindOf, serves}
 use Rattle.syntax.specs.declared.Service.{Service}
@@ -47,6 +47,10 @@ toClass k i = cond (eqb k 1) (dataClass i) (cond (eqb k 0) releaseClass (cond (e
 
 unfoldable pub classOf : Syntax → ℕ → ℕ
 classOf y b = toClass (kindOf (y .service) b) (inside (y .level) b)
+
+-- a table with nothing inside
+abbrev pub Blank : List ℕ → Type 0
+Blank t = t ≡ replicate 256 outsideClass
 
 -- a table of what is outside, and a table of classes: one rule for every octet
 pub record Base (l : Level) (t : List ℕ) : Type 0 where

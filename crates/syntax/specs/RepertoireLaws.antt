@@ -9,7 +9,7 @@ use lib.Dec.{eqb, leb, ltb}
 use lib.ListN.{length, getD, set, length-set, replicate, getD-replicate, List·getD-eq-default}
 use lib.Seq.{getD-set-same, getD-set-other, set-out}
 use Rattle.syntax.specs.Service.{kindOf}
-use Rattle.syntax.specs.Repertoire.{inside, endClass, releaseClass, outsideClass, dataClass, toClass, classOf, Base, Table}
+use Rattle.syntax.specs.Repertoire.{inside, endClass, releaseClass, outsideClass, dataClass, toClass, classOf, Blank, Base, Table}
 use Rattle.syntax.specs.declared.Service.{Service}
 use Rattle.syntax.specs.declared.Syntax.{Syntax}
 use Rattle.syntax.specs.declared.Level.{Level}
@@ -119,31 +119,35 @@ right A x h = eqb-true _ _ (below-all (λ (x : ℕ). eqb (ranged A x) (dataClass
 right B x h = eqb-true _ _ (below-all (λ (x : ℕ). eqb (ranged B x) (dataClass (inside B x))) 256 x refl h)
 right C x h = eqb-true _ _ (below-all (λ (x : ℕ). eqb (ranged C x) (dataClass (inside C x))) 256 x refl h)
 
-blank : (x : ℕ) → x < 256 → _≡_ {A = ℕ} (getD (replicate 256 outsideClass) x 0) outsideClass
-blank x h = getD-replicate 256 x outsideClass 0 h
+module _ {o : List ℕ} (z : Blank o) where
+  blank : (x : ℕ) → x < 256 → getD o x 0 ≡ outsideClass
+  blank x h = ap (λ (l : List ℕ). getD l x 0) z ∙ getD-replicate 256 x outsideClass 0 h
 
-pub base-c : {t u : List ℕ} → Filled 32 127 (replicate 256 outsideClass) t → Filled 160 256 t u → Base C u
-base-c a b = record {
-  size = b .size ∙ a .size;
-  rule = λ x h. b .at x ∙ ap (λ (r : ℕ). cond (leb 160 x && ltb x 256) 0 r)
-      (a .at x ∙ ap (λ (r : ℕ). cond (leb 32 x && ltb x 127) 0 r) (blank x h)) ∙ right C x h;
-}
+  full : length o ≡ 256
+  full = ap length z
 
-module _ {t u v : List ℕ} (a : Filled 32 35 (replicate 256 outsideClass) t) (b : Filled 37 64 t u) (c : Filled 65 91 u v) where
-  in-a : (x : ℕ) → x < 256 → getD v x 0 ≡ ranged A x
-  in-a x h =
-      c .at x ∙ ap (λ (r : ℕ). cond (leb 65 x && ltb x 91) 0 r)
-      (b .at x ∙ ap (λ (r : ℕ). cond (leb 37 x && ltb x 64) 0 r)
-      (a .at x ∙ ap (λ (r : ℕ). cond (leb 32 x && ltb x 35) 0 r) (blank x h)))
-
-  pub base-a : Base A v
-  base-a = record { size = c .size ∙ b .size ∙ a .size; rule = λ x h. in-a x h ∙ right A x h }
-
-  pub base-b : {w : List ℕ} → Filled 97 123 v w → Base B w
-  base-b d = record {
-    size = d .size ∙ c .size ∙ b .size ∙ a .size;
-    rule = λ x h. d .at x ∙ ap (λ (r : ℕ). cond (leb 97 x && ltb x 123) 0 r) (in-a x h) ∙ right B x h;
+  pub base-c : {t u : List ℕ} → Filled 32 127 o t → Filled 160 256 t u → Base C u
+  base-c a b = record {
+    size = b .size ∙ a .size ∙ full;
+    rule = λ x h. b .at x ∙ ap (λ (r : ℕ). cond (leb 160 x && ltb x 256) 0 r)
+        (a .at x ∙ ap (λ (r : ℕ). cond (leb 32 x && ltb x 127) 0 r) (blank x h)) ∙ right C x h;
   }
+
+  module _ {t u v : List ℕ} (a : Filled 32 35 o t) (b : Filled 37 64 t u) (c : Filled 65 91 u v) where
+    in-a : (x : ℕ) → x < 256 → getD v x 0 ≡ ranged A x
+    in-a x h =
+        c .at x ∙ ap (λ (r : ℕ). cond (leb 65 x && ltb x 91) 0 r)
+        (b .at x ∙ ap (λ (r : ℕ). cond (leb 37 x && ltb x 64) 0 r)
+        (a .at x ∙ ap (λ (r : ℕ). cond (leb 32 x && ltb x 35) 0 r) (blank x h)))
+
+    pub base-a : Base A v
+    base-a = record { size = c .size ∙ b .size ∙ a .size ∙ full; rule = λ x h. in-a x h ∙ right A x h }
+
+    pub base-b : {w : List ℕ} → Filled 97 123 v w → Base B w
+    base-b d = record {
+      size = d .size ∙ c .size ∙ b .size ∙ a .size ∙ full;
+      rule = λ x h. d .at x ∙ ap (λ (r : ℕ). cond (leb 97 x && ltb x 123) 0 r) (in-a x h) ∙ right B x h;
+    }
 
 -- ---- the six stores of `table`
 

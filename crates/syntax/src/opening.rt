@@ -19,7 +19,8 @@ use crate::cutting::Tag;
 use crate::cutting::stop;
 use crate::cutting::tag_at;
 use crate::reading::component_part;
-use crate::repertoire::table;
+use crate::repertoire::OUTSIDE;
+use crate::repertoire::classes;
 
 // What is known before UNB. Without UNA the repetition is the one of version 4.
 pub struct Opening {
@@ -392,7 +393,8 @@ fn begin_at(s: &[u8], o: Opening) -> Begun
         level: Level::C,
         service: v,
     };
-    let t = table(y);
+    let mut t = [OUTSIDE; 256];
+    classes(&mut t, y);
     if !is_there(stop(s, at, &t, y, 5)) {
         return unb_refused(4, at);
     }

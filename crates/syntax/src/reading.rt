@@ -5,10 +5,13 @@ ghost use Prim.Native.Nat.{_≤_, _<_};
 ghost use lib.ListN.{length};
 ghost use Rattle.syntax.specs.Repertoire.{Table};
 ghost use Rattle.syntax.specs.Segment.{edgeAt, piecesAt, Reaches, atElement, atComponent, componentAt, partOf, components, repeats, elements, anyRepeats};
+ghost use Rattle.syntax.specs.Clean.{CleanEdge};
+ghost use Rattle.syntax.specs.CleanLaws.{Stopping};
 use crate::Found;
 use crate::Syntax;
 use crate::content::part;
 use crate::cutting::stop;
+use crate::repertoire::OUTSIDE;
 use crate::repertoire::TERMINATOR;
 use crate::repertoire::class;
 
@@ -38,6 +41,55 @@ pub fn piece_end(s: &[u8], from: usize, t: &[u8; 256], y: Syntax) -> Edge
             Edge::On(q, c)
         }
         Found::Nothing => Edge::Off,
+    }
+}
+
+// Past the data octets at `from`.
+fn data_end(s: &[u8], from: usize, t: &[u8; 256], y: Syntax) -> usize
+    requires { ⌜ Table y (now t) ⌝ }
+    ensures { λ r. ⌜ Stopping y (now (s .entry)) from r ⌝ }
+{
+    let mut i = from;
+    while i < s.len() {
+        if class(t, y, s[i]) != 0 {
+            return i;
+        }
+        i += 1;
+    }
+    i
+}
+
+// The same cursor for a segment that is cut on the way: it stops as well where the segment has no end or an octet outside the repertoire.
+// What it does for nearly every octet is a loop of its own, so that the loop stays short.
+pub fn clean_end(s: &[u8], from: usize, t: &[u8; 256], y: Syntax) -> Edge
+    requires { ⌜ Table y (now t) ⌝ }
+    ensures { λ r. ⌜ CleanEdge y (now (s .entry)) from r ⌝ }
+{
+    let mut i = from;
+    loop {
+        i = data_end(s, i, t, y);
+        if s.len() <= i {
+            return Edge::Off;
+        }
+        let c = class(t, y, s[i]);
+        if c < TERMINATOR {
+            return Edge::On(i, c);
+        }
+        if c == TERMINATOR {
+            return Edge::On(i, 5);
+        }
+        if c == OUTSIDE {
+            return Edge::Off;
+        }
+        i += 1;
+        if s.len() <= i {
+            return Edge::Off;
+        }
+        let d = class(t, y, s[i]);
+        if d == OUTSIDE {
+            return Edge::Off;
+        }
+        i += 1;
     }
 }
 

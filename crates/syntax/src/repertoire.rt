@@ -2,7 +2,7 @@
 ghost use mathlib.Core.Path.{_≡_};
 ghost use Prim.Native.Nat.{_+_, _≤_, _<_};
 ghost use lib.ListN.{set};
-ghost use Rattle.syntax.specs.Repertoire.{classOf, Base, Table};
+ghost use Rattle.syntax.specs.Repertoire.{classOf, Blank, Base, Table};
 ghost use Rattle.syntax.specs.RepertoireLaws.{Filled};
 use crate::Level;
 use crate::Syntax;
@@ -33,29 +33,26 @@ fn fill(t: &mut [u8; 256], a: u8, e: u8)
     }
 }
 
-// The repertoire test, for every octet at once: 0 inside.
-fn base(l: Level) -> [u8; 256]
-    ensures { λ r. ⌜ Base l r ⌝ }
+// The repertoire test, for every octet at once: 0 inside. The table is filled where it stands: to copy it costs more than to fill it.
+fn base(t: &mut [u8; 256], l: Level)
+    requires { ⌜ Blank (now t) ⌝ }
+    ensures { λ r. ⌜ Base l (now (t .exit)) ⌝ }
 {
-    let mut t = [OUTSIDE; 256];
     match l {
         Level::A => {
-            fill(&mut t, 32, 34);
-            fill(&mut t, 37, 63);
-            fill(&mut t, 65, 90);
-            return t;
+            fill(t, 32, 34);
+            fill(t, 37, 63);
+            fill(t, 65, 90);
         }
         Level::B => {
-            fill(&mut t, 32, 34);
-            fill(&mut t, 37, 63);
-            fill(&mut t, 65, 90);
-            fill(&mut t, 97, 122);
-            return t;
+            fill(t, 32, 34);
+            fill(t, 37, 63);
+            fill(t, 65, 90);
+            fill(t, 97, 122);
         }
         Level::C => {
-            fill(&mut t, 32, 126);
-            fill(&mut t, 160, 255);
-            return t;
+            fill(t, 32, 126);
+            fill(t, 160, 255);
         }
     }
 }
@@ -68,18 +65,26 @@ fn put(t: &mut [u8; 256], b: u8, c: u8)
 
 // The class of each octet: 0 data, 2 component, 3 repetition, 4 element, and the three at which a scan stops.
 // Later stores win, so what is tested first in `kindOf` is stored last.
-pub fn table(y: Syntax) -> [u8; 256]
-    ensures { λ r. ⌜ Table y r ⌝ }
+pub fn classes(t: &mut [u8; 256], y: Syntax)
+    requires { ⌜ Blank (now t) ⌝ }
+    ensures { λ r. ⌜ Table y (now (t .exit)) ⌝ }
 {
     let v = y.service;
     let l = y.level;
-    let mut t = base(l);
-    put(&mut t, v.repetition, 3);
-    put(&mut t, v.component, 2);
-    put(&mut t, v.element, 4);
-    put(&mut t, v.terminator, TERMINATOR);
-    put(&mut t, v.release, RELEASE);
-    put(&mut t, 32, 0);
+    base(t, l);
+    put(t, v.repetition, 3);
+    put(t, v.component, 2);
+    put(t, v.element, 4);
+    put(t, v.terminator, TERMINATOR);
+    put(t, v.release, RELEASE);
+    put(t, 32, 0);
+}
+
+pub fn table(y: Syntax) -> [u8; 256]
+    ensures { λ r. ⌜ Table y r ⌝ }
+{
+    let mut t = [OUTSIDE; 256];
+    classes(&mut t, y);
     t
 }
 

@@ -36,15 +36,19 @@ use Rattle.turns.specs.declared.state.Step.the-variants.{On, Stop}
 use Rattle.elements.specs.declared.Kind.{Kind}
 use Rattle.turns.specs.declared.state.Looked.{Looked}
 use Rattle.turns.specs.declared.state.Looked.the-variants.{Seen, Bad}
+use Rattle.turns.specs.declared.state.Sight.{Sight}
 
 abbrev pub unseenAs : ℕ → ℕ → Looked
 unseenAs n p = Bad (record { number = n; place = p })
 
--- "Others: 4, 3, ..": the cut, once the tag is good
+-- "Others: 4, 3, ..": the cut, once the tag is good and gives this kind
+abbrev pub seenIn : Cut → Kind → ℕ → Looked
+seenIn (Ends e) k p = Seen e k
+seenIn (Spoilt e q) k p = unseenAs 3 q
+seenIn Open k p = unseenAs 4 p
+
 abbrev pub seenAs : Cut → ℕ → ℕ → ℕ → ℕ → Looked
-seenAs (Ends e) a b c p = Seen e (kindOf (a ∷ b ∷ c ∷ []))
-seenAs (Spoilt e q) a b c p = unseenAs 3 q
-seenAs Open a b c p = unseenAs 4 p
+seenAs x a b c p = seenIn x (kindOf (a ∷ b ∷ c ∷ [])) p
 
 abbrev pub seenBy : Cut → Tag → ℕ → Looked
 seenBy x NoTag p = unseenAs 4 p
@@ -52,6 +56,18 @@ seenBy x (Is a b c) p = seenAs x a b c p
 
 abbrev pub lookedAt : Syntax → List ℕ → ℕ → Looked
 lookedAt y s p = seenBy (cutAt y s p) (tagOf (y .service) (drop p s)) p
+
+-- a look at a segment of kind k, with its fields in the marks if it was seen
+pub record Entered (y : Syntax) (s : List ℕ) (p : ℕ) (k : Kind) (r : Sight) (m : List ℕ) : Type 0 where
+  pub look : r .looked ≡ seenIn (cutAt y s p) k p
+  pub noted : (e : ℕ) (k′ : Kind) → r .looked ≡ Seen e k′ → Fields (y .service) s p (r .shape .size) (r .shape .repeats) m
+  pub marks : length m ≡ 40
+
+-- a look at a segment, with its fields in the marks if it was seen and is looked into
+pub record Sighted (y : Syntax) (s : List ℕ) (p : ℕ) (r : Sight) (m : List ℕ) : Type 0 where
+  pub look : r .looked ≡ lookedAt y s p
+  pub noted : (e : ℕ) (k : Kind) → r .looked ≡ Seen e k → looked k ≡ true → Fields (y .service) s p (r .shape .size) (r .shape .repeats) m
+  pub marks : length m ≡ 40
 
 -- ---- the state that is kept
 

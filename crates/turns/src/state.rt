@@ -16,15 +16,16 @@ ghost use Rattle.grammar.specs.Interchange.{start};
 ghost use Rattle.grammar.specs.Elements.{inRange, digits, formed};
 ghost use Rattle.elements.specs.Kinds.{kindOf};
 ghost use Rattle.elements.specs.Octets.{textAt, askedAt};
-ghost use Rattle.elements.specs.Fields.{Marked, Fields};
+ghost use Rattle.elements.specs.Fields.{Marked, Fields, FieldsAs};
 ghost use Rattle.message.specs.Heads.{headFlags};
 ghost use Rattle.message.specs.Summary.{numberIn, evenAll, totalRight, allNamed, mayCome, atBusy};
 ghost use Rattle.message.specs.Steps.{stepM, summaryIn, Roomy, Sought, MovedIs};
-ghost use Rattle.turns.specs.Held.{unseenAs, seenAs, lookedAt, stateIn, Held, Ready, decidedFrom, StepIs};
+ghost use Rattle.turns.specs.Held.{unseenAs, seenIn, Entered, Sighted, stateIn, Held, Ready, decidedFrom, StepIs};
 ghost use Rattle.elements.specs.Formed.{looked};
 ghost use Rattle.turns.specs.declared.state.Phase.the-variants.{Start, Idle, Busy, Done};
 ghost use Rattle.elements.specs.declared.Kind.the-variants.{Unb, Unh, Unt, Unz, Ust};
 use elements::Kind;
+use elements::fields::Pass;
 use elements::fields::Shape;
 use elements::fields::field;
 use elements::fields::field_end;
@@ -105,6 +106,12 @@ pub enum Looked {
     Bad(Refusal),
 }
 
+// .. and if it is looked into, its shape; its fields are then in the marks.
+pub struct Sight {
+    pub looked: Looked,
+    pub shape: Shape,
+}
+
 // After a segment: the state, the place of the next one, and what the segment was.
 pub struct Ahead {
     pub state: State,
@@ -126,26 +133,83 @@ fn unseen(number: u8, place: usize) -> Looked
     })
 }
 
-fn seen(c: Cut, a: u8, b: u8, d: u8, at: usize) -> Looked
-    ensures { λ r. ⌜ r ≡ seenAs c a b d at ⌝ }
+fn seen(c: Cut, k: Kind, at: usize) -> Looked
+    ensures { λ r. ⌜ r ≡ seenIn c k at ⌝ }
 {
     match c {
-        Cut::Ends(e) => Looked::Seen(e, kind_of(a, b, d)),
+        Cut::Ends(e) => Looked::Seen(e, k),
         Cut::Spoilt(_, q) => unseen(3, q),
         Cut::Open => unseen(4, at),
     }
 }
 
-// The segment at `at`: 4, then 3.
-pub fn look(s: &[u8], at: usize, t: &[u8; 256], y: Syntax) -> Looked
+// Without fields.
+fn seen_alone(x: Looked) -> Sight
+    ensures { λ r. ⌜ r .looked ≡ x ⌝ }
+{
+    Sight {
+        looked: x,
+        shape: Shape {
+            size: 0,
+            repeats: false,
+        },
+    }
+}
+
+// Whether a segment of this kind is looked into.
+fn looked_into(k: Kind) -> bool
+    ensures { λ r. ⌜ r ≡ looked k ⌝ }
+{
+    match k {
+        Kind::Usa => false,
+        Kind::Usc => false,
+        Kind::Reserved => false,
+        Kind::Other => false,
+        Kind::Unb => true,
+        Kind::Unh => true,
+        Kind::Unt => true,
+        Kind::Unz => true,
+        Kind::Ush => true,
+        Kind::Usr => true,
+        Kind::Ust => true,
+        Kind::Usb => true,
+        Kind::Usx => true,
+        Kind::Usy => true,
+        Kind::Qty => true,
+        Kind::Cnt => true,
+    }
+}
+
+// A segment whose fields were read on the way to its end. Where that failed, a scan tells why.
+fn entered(p: Pass, s: &[u8], at: usize, t: &[u8; 256], y: Syntax, k: Kind) -> Sight
     requires { ⌜ Table y (now t) ⌝ }
-    ensures { λ r. ⌜ r ≡ lookedAt y (now (s .entry)) at ⌝ }
+    ensures { λ r. ⌜ ((m : List ℕ) → FieldsAs y (now (s .entry)) at p m → Entered y (now (s .entry)) at k r m) ⌝ }
+{
+    match p {
+        Pass::Whole(e, f) => Sight {
+            looked: Looked::Seen(e, k),
+            shape: f,
+        },
+        Pass::Broken => seen_alone(seen(scan(s, at, t, y), k, at)),
+    }
+}
+
+// The segment at `at`: 4, then 3. One that is looked into is read only once; of the others only the end is looked for, from behind the tag.
+pub fn look(s: &[u8], at: usize, t: &[u8; 256], y: Syntax, marks: &mut [usize]) -> Sight
+    requires { ⌜ Table y (now t) ⌝ }
+    requires { ⌜ T (fit (y .service)) × (length (now marks) ≡ 40) ⌝ }
+    ensures { λ r. ⌜ Sighted y (now (s .entry)) at r (now (marks .exit)) ⌝ }
 {
     let v = y.service;
-    let c = scan(s, at, t, y);
     match tag_at(s, at, v) {
-        Tag::Bad => unseen(4, at),
-        Tag::Is(a, b, d) => seen(c, a, b, d, at),
+        Tag::Bad => seen_alone(unseen(4, at)),
+        Tag::Is(a, b, d) => {
+            let k = kind_of(a, b, d);
+            if looked_into(k) {
+                return entered(fields(s, at, t, y, marks), s, at, t, y, k);
+            }
+            seen_alone(seen(scan(s, at + 3, t, y), k, at))
+        }
     }
 }
 

@@ -1,64 +1,64 @@
-use borrow.Author.Tests.{not-true, not-false}
-use Rattle.elements.specs.FieldsLaws.{Fielding, left, fielding-start, fielding-end, fielding-fits, fielding-less, fielding-on}
+use Rattle.elements.specs.FieldsLaws.{tag-behind, tag-broken}
 use borrow.Author.Needs.{needs}
 use Rattle.elements.proofs.fields.fields.Statement.{statement}
 use Rattle.elements.proofs.fields.fields.Tie as tie
 use Rattle.elements.proofs.fields.fields.Reads as reads
 use Rattle.elements.proofs.fields.fields.Lts as lts
 use Rattle.elements.proofs.fields.clear.Reads as clear-reads
-use Rattle.elements.proofs.fields.either.Reads as either-reads
+use Rattle.elements.proofs.fields.elements_from.Reads as elements-from-reads
 use Rattle.elements.proofs.fields.skip.Reads as skip-reads
-use Rattle.elements.proofs.fields.take_one.Reads as take-one-reads
 
-abbrev Inv-loop : tie.InvT-loop
-Inv-loop s at t y marks₀ i₀ ends₀ b₀ n₀ marks i ends b n = Fielding y s at marks i ends b n
-
-abbrev μ-loop : tie.MeasureT-loop
-μ-loop s at t y marks₀ i₀ ends₀ b₀ n₀ marks i ends b n = left s ends i
-
-clear-requires : tie.Need-clear-requires Inv-loop μ-loop
+-- src/fields.rt:219:5
+clear-requires : tie.Need-clear-requires
 clear-requires c κs = search needs
 
-skip-requires : tie.Need-skip-requires Inv-loop μ-loop
+-- src/fields.rt:220:19
+add-skip : tie.Need-add-skip
+add-skip c = search needs
+
+-- src/fields.rt:220:11
+skip-requires : tie.Need-skip-requires
 skip-requires c κs = search needs
 
-loop-holds : tie.Need-loop-holds Inv-loop μ-loop
-loop-holds c = fielding-start (c .skip .ensures) (c .before .before .before .clear .ensures)
+-- src/fields.rt:221:25
+enum-told : tie.Need-enum-told
+enum-told c = search needs
 
-take-one-requires : tie.Need-take-one-requires Inv-loop μ-loop
-take-one-requires c κs = search needs
+-- src/fields.rt:222:22
+enum-known-i : tie.Need-enum-known-i
+enum-known-i c = search needs
 
-add-n : tie.Need-add-n Inv-loop μ-loop
-add-n c = let w = fielding-fits (c .before .before .before .before .before .loop .inv) (not-true _ (c .before .before .before .before .loop-test .taken)) in search needs
+-- src/fields.rt:222:37
+elements-from-requires : tie.Need-elements-from-requires
+elements-from-requires c κs = (c .before .before .before .before .before .before .before .before .before .before .before .pre .0, (tag-behind (c .before .before .before .before .before .before .before .before .before .before .before .pre .1 .0) (c .before .before .before .before .skip .ensures) (c .before .before .i .given .1), c .before .before .before .before .before .before .before .clear .ensures))
 
-either-requires : tie.Need-either-requires Inv-loop μ-loop
-either-requires c κs = search needs
-
-loop-less : tie.Need-loop-less Inv-loop μ-loop
-loop-less c = fielding-less (c .before .before .before .before .before .before .loop .inv) (not-true _ (c .before .before .before .before .before .loop-test .taken)) (c .before .before .before .take-one .ensures)
-
-loop-again : tie.Need-loop-again Inv-loop μ-loop
-loop-again c = fielding-on (c .before .before .before .before .before .before .loop .inv) (not-true _ (c .before .before .before .before .before .loop-test .taken)) (c .before .before .before .take-one .ensures) (c .either .ensures)
-
-same-length : tie.Need-same-length Inv-loop μ-loop
+-- src/fields.rt:213:1
+same-length : tie.Need-same-length
 same-length c = search needs
 
-returns : tie.Need-returns Inv-loop μ-loop
-returns c = fielding-end (c .before .loop .inv) (not-false _ (c .loop-test .left))
+-- src/fields.rt:213:1
+returns : tie.Need-returns
+returns c = tag-broken (c .before .before .before .before .before .clear .last .0) (c .before .before .before .before .before .before .before .before .before .pre .1 .0) (c .before .before .skip .ensures) (c .enum-told .given .1) (c .before .before .before .before .before .clear .ensures .room)
+
+-- src/fields.rt:213:1
+same-length-2 : tie.Need-same-length-2
+same-length-2 c = search needs
+
+-- src/fields.rt:213:1
+returns-2 : tie.Need-returns-2
+returns-2 c = search needs
 
 pub fields-spec : {M : Type 1} → statement M
 fields-spec =
     tie.close
     (tie.spec
-    Inv-loop
-    μ-loop
     clear-requires
+    add-skip
     skip-requires
-    loop-holds
-    take-one-requires
-    add-n
-    either-requires
-    loop-less
-    loop-again
+    enum-told
+    enum-known-i
+    elements-from-requires
     same-length
-    returns)
+    returns
+    same-length-2
+    returns-2)

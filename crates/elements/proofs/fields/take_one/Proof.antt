@@ -1,4 +1,4 @@
-use Rattle.elements.specs.FieldsLaws.{one-past}
+use Rattle.elements.specs.FieldsLaws.{one-past, one-taken}
 use borrow.Author.Needs.{needs}
 use Rattle.elements.proofs.fields.take_one.Statement.{statement}
 use Rattle.elements.proofs.fields.take_one.Tie as tie
@@ -21,7 +21,7 @@ same-length c = search needs
 
 -- src/fields.rt:165:9
 returns : tie.Need-returns
-returns c = search needs
+returns c = one-taken (c .before .before .before .before .before .before .before .args .y) (c .before .before .before .before .before .before .before .args .s .now) (c .before .before .before .before .before .before .before .args .from) (c .before .before .before .before .before .before .before .args .marks .now) (c .before .before .note .last .1 .1 .1 .1 .0) (c .before .before .before .before .before .before .before .args .n) (c .before .before .note .result) (c .before .before .note .ensures)
 
 -- src/fields.rt:167:5
 skip-requires : tie.Need-skip-requires
@@ -29,7 +29,7 @@ skip-requires c κs = search needs
 
 -- src/fields.rt:152:1
 returns-2 : tie.Need-returns-2
-returns-2 c = one-past (c .skip .ensures) (c .before .before .before .before .pre .1) (c .before .if1 .left)
+returns-2 c = one-past (c .before .before .before .before .args .y) (c .before .before .before .before .args .s .now) (c .before .before .before .before .args .from) (c .before .before .before .before .args .marks .now) (c .before .before .before .before .args .n) (c .skip .result) (c .skip .ensures) (c .before .before .before .before .pre .1) (c .before .if1 .left)
 
 pub take-one-spec : {M : Type 1} → statement M
 take-one-spec =

@@ -3,33 +3,57 @@ use Rattle.walk.specs.RunLaws.{begun-refused, begun-ready, begun-fits}
 use borrow.Author.Needs.{needs}
 use Rattle.judge.proofs.run.judge.Statement.{statement}
 use Rattle.judge.proofs.run.judge.Tie as tie
+use Rattle.judge.proofs.run.judge.Reads as reads
+use Rattle.judge.proofs.run.judge.Lts as lts
+use Rattle.judge.proofs.run.run_large.Reads as run-large-reads
+use Rattle.judge.proofs.run.run_small.Reads as run-small-reads
+use Rattle.judge.proofs.run.run_tiny.Reads as run-tiny-reads
+use Rattle.syntax.proofs.opening.begin.Reads as begin-reads
+use Rattle.syntax.proofs.repertoire.classes.Reads as classes-reads
 
+-- src/run.rt:158:11
 begin-requires : tie.Need-begin-requires
 begin-requires c κs = search needs
 
+-- src/run.rt:159:24
 enum-known-f : tie.Need-enum-known-f
 enum-known-f c = search needs
 
+-- src/run.rt:160:22
 enum-known-b : tie.Need-enum-known-b
 enum-known-b c = search needs
 
-table-requires : tie.Need-table-requires
-table-requires c κs = search needs
+-- src/run.rt:164:13
+classes-requires : tie.Need-classes-requires
+classes-requires c κs = search needs
 
-run-small-requires : tie.Need-run-small-requires
-run-small-requires c κs = let w = begun-fits (c .before .before .before .before .before .before .before .before .before .args .s .now) (c .before .before .before .before .before .before .before .begin .ensures) (c .before .before .before .before .before .b .given .1) in (c .before .before .table .ensures, (w .0, c .before .if1 .taken))
+-- src/run.rt:166:17
+run-tiny-requires : tie.Need-run-tiny-requires
+run-tiny-requires c κs = let w = begun-fits (c .before .before .before .before .before .before .before .before .before .before .args .s .now) (c .before .before .before .before .before .before .before .before .begin .ensures) (c .before .before .before .before .before .before .b .given .1) in (c .before .before .classes .ensures, (w .0, c .before .if1 .taken))
 
+-- src/run.rt:166:17
 returns : tie.Need-returns
-returns c = c .run-small .ensures ∙ sym (begun-ready (c .before .before .before .before .before .before .before .before .before .before .args .s .now) (c .before .before .before .before .before .before .before .before .begin .ensures) (c .before .before .before .before .before .before .b .given .1))
+returns c = c .run-tiny .ensures ∙ sym (begun-ready (c .before .before .before .before .before .before .before .before .before .before .before .args .s .now) (c .before .before .before .before .before .before .before .before .before .begin .ensures) (c .before .before .before .before .before .before .before .b .given .1))
 
-run-large-requires : tie.Need-run-large-requires
-run-large-requires c κs = let w = begun-fits (c .before .before .before .before .before .before .before .before .before .args .s .now) (c .before .before .before .before .before .before .before .begin .ensures) (c .before .before .before .before .before .b .given .1) in (c .before .before .table .ensures, (w .0, w .1))
+-- src/run.rt:169:17
+run-small-requires : tie.Need-run-small-requires
+run-small-requires c κs = let w = begun-fits (c .before .before .before .before .before .before .before .before .before .before .before .args .s .now) (c .before .before .before .before .before .before .before .before .before .begin .ensures) (c .before .before .before .before .before .before .before .b .given .1) in (c .before .before .before .classes .ensures, (w .0, c .before .if2 .taken))
 
+-- src/run.rt:169:17
 returns-2 : tie.Need-returns-2
-returns-2 c = sym (begun-refused (c .before .before .before .before .before .args .s .now) (c .before .before .before .begin .ensures) (c .before .f .given .1))
+returns-2 c = c .run-small .ensures ∙ sym (begun-ready (c .before .before .before .before .before .before .before .before .before .before .before .before .args .s .now) (c .before .before .before .before .before .before .before .before .before .before .begin .ensures) (c .before .before .before .before .before .before .before .before .b .given .1))
 
+-- src/run.rt:171:13
+run-large-requires : tie.Need-run-large-requires
+run-large-requires c κs = let w = begun-fits (c .before .before .before .before .before .before .before .before .before .before .before .args .s .now) (c .before .before .before .before .before .before .before .before .before .begin .ensures) (c .before .before .before .before .before .before .before .b .given .1) in (c .before .before .before .classes .ensures, (w .0, w .1))
+
+-- src/run.rt:155:1
 returns-3 : tie.Need-returns-3
-returns-3 c = c .run-large .ensures ∙ sym (begun-ready (c .before .before .before .before .before .before .before .before .before .before .args .s .now) (c .before .before .before .before .before .before .before .before .begin .ensures) (c .before .before .before .before .before .before .b .given .1))
+returns-3 c = sym (begun-refused (c .before .before .before .before .before .args .s .now) (c .before .before .before .begin .ensures) (c .before .f .given .1))
+
+-- src/run.rt:155:1
+returns-4 : tie.Need-returns-4
+returns-4 c = c .run-large .ensures ∙ sym (begun-ready (c .before .before .before .before .before .before .before .before .before .before .before .before .args .s .now) (c .before .before .before .before .before .before .before .before .before .before .begin .ensures) (c .before .before .before .before .before .before .before .before .b .given .1))
 
 pub judge-spec : {M : Type 1} → statement M
 judge-spec =
@@ -38,9 +62,11 @@ judge-spec =
     begin-requires
     enum-known-f
     enum-known-b
-    table-requires
-    run-small-requires
+    classes-requires
+    run-tiny-requires
     returns
-    run-large-requires
+    run-small-requires
     returns-2
-    returns-3)
+    run-large-requires
+    returns-3
+    returns-4)

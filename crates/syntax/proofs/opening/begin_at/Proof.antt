@@ -15,8 +15,8 @@ unb-refused-requires c κs = search needs
 returns : tie.Need-returns
 returns c = rw (le-leb _ _ (c .before .if1 .taken)) (c .unb-refused .ensures)
 
-table-requires : tie.Need-table-requires
-table-requires c κs = search needs
+classes-requires : tie.Need-classes-requires
+classes-requires c κs = search needs
 
 stop-requires : tie.Need-stop-requires
 stop-requires c κs = search needs
@@ -30,7 +30,7 @@ unb-refused-requires-2 c κs = search needs
 returns-2 : tie.Need-returns-2
 returns-2 c =
     let d = c .before .before in
-    let g = d .before .before .before .before in
+    let g = d .before .before .before .before .before in
     let e = g .before .without-repetition .ensures in
     let a = g .before .before .before .args in
     let there = there-by (a .s .now) (a .o) e (d .before .stop .ensures) (d .is-there .ensures) in
@@ -48,7 +48,7 @@ unb-refused-requires-3 c κs = search needs
 returns-3 : tie.Need-returns-3
 returns-3 c =
     let d = c .before .before .before .before .before in
-    let g = d .before .before .before .before in
+    let g = d .before .before .before .before .before in
     let e = g .before .without-repetition .ensures in
     let a = g .before .before .before .args in
     let there = there-by (a .s .now) (a .o) e (d .before .stop .ensures) (d .is-there .ensures) in
@@ -69,7 +69,7 @@ unb-refused-requires-4 c κs = search needs
 returns-4 : tie.Need-returns-4
 returns-4 c =
     let d = c .before .before .before .before .before .before .before in
-    let g = d .before .before .before .before in
+    let g = d .before .before .before .before .before in
     let e = g .before .without-repetition .ensures in
     let a = g .before .before .before .args in
     let there = there-by (a .s .now) (a .o) e (d .before .stop .ensures) (d .is-there .ensures) in
@@ -88,7 +88,7 @@ declared-requires c κs = search needs
 returns-5 : tie.Need-returns-5
 returns-5 c =
     let d = c .before .before .before .before .before .before .before .before in
-    let g = d .before .before .before .before in
+    let g = d .before .before .before .before .before in
     let e = g .before .without-repetition .ensures in
     let a = g .before .before .before .args in
     let there = there-by (a .s .now) (a .o) e (d .before .stop .ensures) (d .is-there .ensures) in
@@ -108,7 +108,7 @@ begin-at-spec =
     without-repetition-requires
     unb-refused-requires
     returns
-    table-requires
+    classes-requires
     stop-requires
     is-there-requires
     unb-refused-requires-2

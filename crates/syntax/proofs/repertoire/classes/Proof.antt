@@ -1,9 +1,9 @@
 use Rattle.syntax.specs.RepertoireLaws.{table-by}
 use borrow.Author.Needs.{needs}
-use Rattle.syntax.proofs.repertoire.table.Statement.{statement}
-use Rattle.syntax.proofs.repertoire.table.Tie as tie
-use Rattle.syntax.proofs.repertoire.table.Reads as reads
-use Rattle.syntax.proofs.repertoire.table.Lts as lts
+use Rattle.syntax.proofs.repertoire.classes.Statement.{statement}
+use Rattle.syntax.proofs.repertoire.classes.Tie as tie
+use Rattle.syntax.proofs.repertoire.classes.Reads as reads
+use Rattle.syntax.proofs.repertoire.classes.Lts as lts
 use Rattle.syntax.proofs.repertoire.base.Reads as base-reads
 use Rattle.syntax.proofs.repertoire.put.Reads as put-reads
 
@@ -32,8 +32,8 @@ returns : tie.Need-returns
 returns c = table-by (record { component = search needs; element = search needs; release = search needs; repetition = search needs; terminator = search needs })
     (c .before .before .before .before .before .before .before .before .before .before .before .before .base .ensures) (c .before .before .before .before .before .before .before .before .before .before .put .ensures) (c .before .before .before .before .before .before .before .before .put2 .ensures) (c .before .before .before .before .before .before .put3 .ensures) (c .before .before .before .before .put4 .ensures) (c .before .before .put5 .ensures) (c .put6 .ensures)
 
-pub table-spec : {M : Type 1} → statement M
-table-spec =
+pub classes-spec : {M : Type 1} → statement M
+classes-spec =
     tie.close
     (tie.spec
     base-requires

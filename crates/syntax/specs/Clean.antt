@@ -1,0 +1,35 @@
+-- A segment that is cut while its pieces are read.
+use Prim.Native.Nat.{ℕ, _+_, _≤_}
+use mathlib.Core.Path.{_≡_}
+use mathlib.Core.List.{List}
+use mathlib.Core.Bool.{Bool, true, false}
+use lib.ListN.{length, drop}
+use Rattle.syntax.specs.Cutting.{stopFrom, cutAt}
+use Rattle.syntax.specs.Segment.{edgeAt}
+use Rattle.syntax.specs.declared.Syntax.{Syntax}
+use Rattle.syntax.specs.declared.cutting.Cut.{Cut}
+use Rattle.syntax.specs.declared.cutting.Cut.the-variants.{Ends, Spoilt, Open}
+use Rattle.syntax.specs.declared.reading.Edge.{Edge}
+use Rattle.syntax.specs.declared.reading.Edge.the-variants.{On, Off}
+
+-- a segment that ends, with nothing in it that is outside the repertoire
+abbrev pub sound : Cut → Bool
+sound (Ends e) = true
+sound (Spoilt e b) = false
+sound Open = false
+
+-- the piece at a ends at q, and nothing before is outside: the cut is the one from behind it, or it is the segment's last
+pub record Clean (y : Syntax) (s : List ℕ) (a q k : ℕ) : Type 0 where
+  pub edge : On q k ≡ edgeAt (y .service) s a
+  pub next : (k ≡ 5 → ⊥) → cutAt y s (q + 1) ≡ cutAt y s a
+  pub last : k ≡ 5 → cutAt y s a ≡ Ends q
+
+abbrev pub CleanEdge : Syntax → List ℕ → ℕ → Edge → Type 0
+CleanEdge y s a (On q k) = Clean y s a q k
+CleanEdge y s a Off = sound (cutAt y s a) ≡ false
+
+-- a tag stands at a: stops and cuts are those from behind its three octets
+pub record TagAt (y : Syntax) (s : List ℕ) (a : ℕ) : Type 0 where
+  pub long : a + 4 ≤ length s
+  pub stops : stopFrom (y .service) 2 false (drop a s) a ≡ stopFrom (y .service) 2 false (drop (a + 3) s) (a + 3)
+  pub cuts : cutAt y s (a + 3) ≡ cutAt y s a

@@ -1,0 +1,182 @@
+-- How a segment is cut while its pieces are read, and that a tag is passed at once.
+use Prim.Native.Nat.{ℕ, zero, suc, _+_, _-_, _≤_, _<_}
+use native.Mathlib.Omega.{arith}
+use mathlib.Core.List.{List, [], _∷_}
+use mathlib.Core.Path.{_≡_, refl, ap, sym, _∙_}
+use mathlib.Core.Bool.{Bool, true, false, cond, _&&_, _||_}
+use lib.Dec.{T, eqb, leb, le→leb, leb→le}
+use lib.ListN.{length, getD, drop, length-drop}
+use Rattle.syntax.specs.Octets.{octets, within, digit, capital, small, among}
+use Rattle.syntax.specs.Service.{fit, kindOf}
+use Rattle.syntax.specs.Repertoire.{inside, endClass, releaseClass, outsideClass, toClass, classOf}
+use Rattle.syntax.specs.RepertoireLaws.{Sorted, is-data, is-bad, is-release, is-separator, is-end, sorted}
+use Rattle.syntax.specs.Cutting.{stopFrom, cutBy, cutAt, tagOctet, tagOf}
+use Rattle.syntax.specs.CuttingLaws.{drop-tail, drop-head, Going, class-on, class-hit, class-freed, Cutting, cutting-at, cutting-from, cutting-none, cutting-on, cutting-end, cutting-bad, cutting-short, cutting-freed, cutting-freed-bad}
+use Rattle.syntax.specs.SegmentLaws.{edge-on, edge-end}
+use Rattle.syntax.specs.TreeLaws.{and-left, and-right, and-both}
+use Rattle.syntax.specs.ReaderLaws.{tag-data, Tagged, tag-split}
+use Rattle.syntax.specs.Clean.{sound, Clean, CleanEdge, TagAt}
+use Rattle.syntax.specs.declared.Service.{Service}
+use Rattle.syntax.specs.declared.Syntax.{Syntax}
+use Rattle.syntax.specs.declared.Level.{Level}
+use Rattle.syntax.specs.declared.Level.the-variants.{A, B, C}
+use Rattle.syntax.specs.declared.Found.{Found}
+use Rattle.syntax.specs.declared.Found.the-variants.{At, Nothing}
+use Rattle.syntax.specs.declared.cutting.Cut.{Cut}
+use Rattle.syntax.specs.declared.cutting.Cut.the-variants.{Ends, Spoilt, Open}
+use Rattle.syntax.specs.declared.cutting.Tag.the-variants.{Is}
+use Rattle.syntax.specs.declared.reading.Edge.the-variants.{On, Off}
+
+-- from a to i there is neither a separator nor an octet outside: stop and cut from a are those from i
+pub record Tidy (y : Syntax) (s : List ℕ) (a i : ℕ) : Type 0 where
+  pub low : a ≤ i
+  pub going : Going y 2 (stopFrom (y .service) 2 false (drop a s) a) s i
+  pub cutting : Cutting y (cutAt y s a) s i
+
+pub tidy-start : (y : Syntax) (s : List ℕ) (a : ℕ) → Tidy y s a a
+tidy-start y s a = record { low = omega arith; going = record { finds = refl }; cutting = cutting-at refl }
+
+pub tidy-then : {y : Syntax} {s : List ℕ} {a i j : ℕ} → Tidy y s a i → Tidy y s i j → Tidy y s a j
+tidy-then g h =
+    let l = g .low in let m = h .low in
+    record {
+      low = omega arith;
+      going = record { finds = g .going .finds ∙ h .going .finds };
+      cutting = cutting-at (cutting-from (h .cutting) ∙ cutting-from (g .cutting));
+    }
+
+-- .. and an octet that is no data stands at i, if there is one
+pub record Stopping (y : Syntax) (s : List ℕ) (a i : ℕ) : Type 0 where
+  pub tidy : Tidy y s a i
+  pub stops : i < length s → classOf y (getD s i 0) ≡ 0 → ⊥
+
+unsound : (q : Found) (b : ℕ) → sound (cutBy q (At b)) ≡ false
+unsound Nothing b = refl
+unsound (At e) b = refl
+
+pub tidy-none : {y : Syntax} {s : List ℕ} {a i : ℕ} → Tidy y s a i → length s ≤ i → sound (cutAt y s a) ≡ false
+tidy-none g h = sym (ap sound (cutting-none (g .cutting) h))
+
+pub stopping-none : {y : Syntax} {s : List ℕ} {a i : ℕ} → Tidy y s a i → length s ≤ i → Stopping y s a i
+stopping-none g h = record { tidy = g; stops = λ l e. let z : ⊥ = omega arith in z }
+
+module _ {y : Syntax} {s : List ℕ} {a i : ℕ} (g : Tidy y s a i) (h : i < length s) {c : ℕ} (e : c ≡ classOf y (getD s i 0)) where
+  pub tidy-data : c ≡ 0 → Tidy y s a (i + 1)
+  tidy-data d =
+      let l = g .low in
+      record {
+        low = omega arith;
+        going = class-on (g .going) (omega arith) (omega arith) h e (omega arith);
+        cutting = cutting-on (g .cutting) h e (omega arith);
+      }
+
+  pub tidy-stop : (c ≡ 0 → ⊥) → Stopping y s a i
+  tidy-stop d = record { tidy = g; stops = λ l u. d (e ∙ u) }
+
+  pub tidy-separator : (classOf y (getD s i 0) ≡ 0 → ⊥) → c < endClass → Clean y s a i c
+  tidy-separator d l = by-class (sorted y (getD s i 0) e)
+    where
+      by-class : Sorted (kindOf (y .service) (getD s i 0)) (inside (y .level) (getD s i 0)) c → Clean y s a i c
+      by-class (is-data p q r) = absurd (d (sym e ∙ r))
+      by-class (is-bad p q r) = let z : ⊥ = omega arith in absurd z
+      by-class (is-release p r) = let z : ⊥ = omega arith in absurd z
+      by-class (is-separator p q r) = record {
+        edge = edge-on y s a refl (sym (class-hit (g .going) (omega arith) (omega arith) h e (omega arith) (omega arith))) e (λ z. omega arith);
+        next = λ n. cutting-from (cutting-on (g .cutting) h e l);
+        last = λ n. let z : ⊥ = omega arith in absurd z;
+      }
+      by-class (is-end p r) = let z : ⊥ = omega arith in absurd z
+
+  pub tidy-end : c ≡ endClass → Clean y s a i 5
+  tidy-end d = record {
+    edge = edge-end y s a refl (sym (class-hit (g .going) (omega arith) (omega arith) h e (omega arith) (omega arith))) e d;
+    next = λ n. absurd (n refl);
+    last = λ n. sym (cutting-end (g .cutting) h e d);
+  }
+
+  pub tidy-bad : c ≡ outsideClass → sound (cutAt y s a) ≡ false
+  tidy-bad d =
+      let q : Found = stopFrom (y .service) 5 false (drop (i + 1) s) (i + 1) in
+      sym (ap sound (cutting-bad (g .cutting) h e {q = q} {w = cutBy q (At i)} d refl refl)) ∙ unsound q i
+
+  module _ (l : endClass ≤ c) (n : c ≡ endClass → ⊥) (o : c ≡ outsideClass → ⊥) where
+    pub tidy-short : length s ≤ i + 1 → sound (cutAt y s a) ≡ false
+    tidy-short k = sym (ap sound (cutting-short (g .cutting) h e l n o k))
+
+    module _ (h′ : i + 1 < length s) {c′ : ℕ} (e′ : c′ ≡ classOf y (getD s (i + 1) 0)) where
+      pub tidy-freed-bad : c′ ≡ outsideClass → sound (cutAt y s a) ≡ false
+      tidy-freed-bad d =
+          let q : Found = stopFrom (y .service) 5 false (drop (i + 1 + 1) s) (i + 1 + 1) in
+          sym (ap sound (cutting-freed-bad (g .cutting) h e l n o h′ e′ {q = q} {w = cutBy q (At (i + 1))} d refl refl)) ∙ unsound q (i + 1)
+
+      pub tidy-freed : (c′ ≡ outsideClass → ⊥) → Tidy y s a (i + 1 + 1)
+      tidy-freed d =
+          let m = g .low in
+          record {
+            low = omega arith;
+            going = class-freed (g .going) (omega arith) (omega arith) h e (omega (arith, l, n)) o h′;
+            cutting = cutting-freed (g .cutting) h e l n o h′ e′ d;
+          }
+
+-- ---- a tag
+
+low-tag : (b : ℕ) → T (tagOctet b) → (48 ≤ b) × (b ≤ 90)
+low-tag b h = by (digit b) refl h
+  where
+    by : (d : Bool) → digit b ≡ d → T (d || capital b) → (48 ≤ b) × (b ≤ 90)
+    by true e k =
+        let t : T (digit b) = rw e tt in
+        let l = leb→le 48 b (and-left (leb 48 b) (leb b 57) t) in let m = leb→le b 57 (and-right (leb 48 b) (leb b 57) t) in (omega arith, omega arith)
+    by false e k =
+        let l = leb→le 65 b (and-left (leb 65 b) (leb b 90) k) in let m = leb→le b 90 (and-right (leb 65 b) (leb b 90) k) in (omega arith, omega arith)
+
+-- letters and digits are inside every repertoire
+pub tag-inside : (l : Level) (b : ℕ) → T (tagOctet b) → inside l b ≡ true
+unfolding inside
+tag-inside A b h = by (digit b) (capital b) (eqb b 32) (among (octets ".,-()/='+:?!\"%&*;<>") b) h
+  where
+    by : (d c x y : Bool) → T (d || c) → (c || d || x || y) ≡ true
+    by true true x y h = refl
+    by true false x y h = refl
+    by false true x y h = refl
+    by false false x y h = absurd h
+tag-inside B b h = by (digit b) (capital b) (eqb b 32) (among (octets ".,-()/='+:?!\"%&*;<>") b) h
+  where
+    by : (d c x y : Bool) → T (d || c) → ((c || d || x || y) || small b) ≡ true
+    by true true x y h = refl
+    by true false x y h = refl
+    by false true x y h = refl
+    by false false x y h = absurd h
+tag-inside C b h =
+    let k = low-tag b h in
+    by (within 32 126 b) (and-both (leb 32 b) (leb b 126) (le→leb 32 b (omega (arith, k .0))) (le→leb b 126 (omega (arith, k .1))))
+  where
+    by : (w : Bool) → T w → (w || within 160 255 b) ≡ true
+    by true h = refl
+    by false h = absurd h
+
+tag-class : (y : Syntax) → T (fit (y .service)) → (b x : ℕ) → x ≡ b → T (tagOctet b) → 0 ≡ classOf y x
+unfolding classOf
+tag-class y f b x e h = rw (e, tag-data (y .service) f b h, tag-inside (y .level) b h)
+
+pub tag-here : (y : Syntax) → T (fit (y .service)) → (s : List ℕ) (i a b c : ℕ) → tagOf (y .service) (drop i s) ≡ Is a b c → TagAt y s i
+tag-here y f s i a b c e = by (tag-split (y .service) (drop i s) a b c e)
+  where
+    by : Tagged (y .service) (drop i s) a b c → TagAt y s i
+    by (d, r, p, t) =
+        let n : length (a ∷ b ∷ c ∷ d ∷ r) ≡ length s - i = ap length p ∙ length-drop i s in
+        let x : Bool = eqb d (y .service .element) || eqb d (y .service .terminator) in
+        let t₃ : T (tagOctet a && tagOctet b && tagOctet c) = and-left (tagOctet a && tagOctet b && tagOctet c) x t in
+        let t₂ : T (tagOctet a && tagOctet b) = and-left (tagOctet a && tagOctet b) (tagOctet c) t₃ in
+        let p₁ : drop (suc i) s ≡ b ∷ c ∷ d ∷ r = drop-tail i s (sym p) in
+        let p₂ : drop (suc (suc i)) s ≡ c ∷ d ∷ r = drop-tail (suc i) s p₁ in
+        let h₀ = tag-class y f a (getD s i 0) (drop-head i s (sym p)) (and-left (tagOctet a) (tagOctet b) t₂) in
+        let h₁ = tag-class y f b (getD s (suc i) 0) (drop-head (suc i) s p₁) (and-right (tagOctet a) (tagOctet b) t₂) in
+        let h₂ = tag-class y f c (getD s (suc (suc i)) 0) (drop-head (suc (suc i)) s p₂) (and-right (tagOctet a && tagOctet b) (tagOctet c) t₃) in
+        let e₁ : i + 1 ≡ suc i = omega arith in
+        let e₂ : suc i + 1 ≡ suc (suc i) = omega arith in
+        let e₃ : suc (suc i) + 1 ≡ i + 3 = omega arith in
+        let g₁ = rw e₁ at (tidy-data (tidy-start y s i) (omega arith) h₀ refl) in
+        let g₂ = rw e₂ at (tidy-data g₁ (omega arith) h₁ refl) in
+        let g₃ = rw e₃ at (tidy-data g₂ (omega arith) h₂ refl) in
+        record { long = omega arith; stops = g₃ .going .finds; cuts = cutting-from (g₃ .cutting) }
