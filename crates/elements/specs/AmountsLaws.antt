@@ -223,34 +223,6 @@ module _ (c : List ℕ) (kgm tne : ℕ) {p : Bool} (e : p ≡ same c (octets "KG
     pub unit-none : q ≡ false → Unknown ≡ unitIs (unit c (shape kgm 3) (shape tne 6))
     unit-none l = rw (← e, h, ← f, l)
 
--- ---- zeros behind a number
-
-pub record Scaling (answer g n : ℕ) : Type 0 where
-  pub small : answer < 1000000000000000000
-  pub makes : answer ≡ g * tens n
-
-module _ {answer g n : ℕ} (u : Scaling answer g n) where
-  pub scaling-end : n ≤ 0 → g ≡ answer
-  scaling-end h = let z : n ≡ 0 = omega arith in sym (u .makes ∙ rw (z, mul-one g))
-
-  module _ (h : 0 < n) where
-    scaling-step : answer ≡ g * 10 * tens (n - 1)
-    scaling-step =
-        let p : n ≡ suc (n - 1) = omega arith in
-        u .makes ∙ ap (λ (k : ℕ). g * tens k) p ∙ sym (mul-assoc g 10 (tens (n - 1)))
-
-    pub scaling-fits : g * 10 < 1000000000000000000
-    scaling-fits =
-        let k = tens-pos (n - 1) in
-        let l : 1 ≤ tens (n - 1) = omega arith in
-        let m = mul-le-mul-left (g * 10) l in
-        let o = scaling-step in
-        let q = u .small in
-        omega arith
-
-    pub scaling-on : Scaling answer (g * 10) (n - 1)
-    scaling-on = record { small = u .small; makes = scaling-step }
-
 -- ---- for callers: what an answer says, and that it is below 10 to the 18
 
 and-l : (a b : Bool) → T (a && b) → T a

@@ -94,17 +94,38 @@ fn fraction(x: &[u8], from: usize, release: u8, v: u64, decimals: usize) -> Amou
     }
 }
 
+// How much a digit counts that stands before so many others.
+fn power(zeros: usize) -> u64
+    requires { ⌜ zeros ≤ 6 ⌝ }
+    ensures { λ r. ⌜ r ≡ tens zeros ⌝ }
+{
+    if zeros == 0 {
+        return 1;
+    }
+    if zeros == 1 {
+        return 10;
+    }
+    if zeros == 2 {
+        return 100;
+    }
+    if zeros == 3 {
+        return 1000;
+    }
+    if zeros == 4 {
+        return 10000;
+    }
+    if zeros == 5 {
+        return 100000;
+    }
+    1000000
+}
+
 fn scaled(v: u64, zeros: usize) -> u64
     requires { ⌜ v * tens zeros < 1000000000000000000 ⌝ }
+    requires { ⌜ zeros ≤ 6 ⌝ }
     ensures { λ r. ⌜ r ≡ v * tens zeros ⌝ }
 {
-    let mut g = v;
-    let mut n = zeros;
-    while 0 < n {
-        g = g * 10;
-        n -= 1;
-    }
-    g
+    v * power(zeros)
 }
 
 // The grams that the content gives, where it is written right.

@@ -46,13 +46,17 @@ module _ (ρ : ℕ) (x : List ℕ) (i : ℕ) where
   next-none h = rw (drop-of-length-le x h)
 
   module _ (h : i < length x) where
+    pub next-other : (getD x i 0 ≡ ρ → ⊥) → Octet (getD x i 0) (i + 1) ≡ nextOf ρ (drop i x) i
+    next-other d = by (eqb (getD x i 0) 32) refl
+      where
+        by : (t : Bool) → eqb (getD x i 0) 32 ≡ t → Octet (getD x i 0) (i + 1) ≡ nextOf ρ (drop i x) i
+        by true e = rw (drop-cons x i 0 h, e)
+        by false e = rw (drop-cons x i 0 h, e, ne-eqb _ _ d)
+
     pub next-space : getD x i 0 ≡ 32 → Octet (getD x i 0) (i + 1) ≡ nextOf ρ (drop i x) i
     next-space e = rw (drop-cons x i 0 h, eq-eqb _ _ e)
 
     module _ (w : getD x i 0 ≡ 32 → ⊥) where
-      pub next-plain : (getD x i 0 ≡ ρ → ⊥) → Octet (getD x i 0) (i + 1) ≡ nextOf ρ (drop i x) i
-      next-plain d = rw (drop-cons x i 0 h, ne-eqb _ _ w, ne-eqb _ _ d)
-
       pub next-cut : getD x i 0 ≡ ρ → length x ≤ i + 1 → Over ≡ nextOf ρ (drop i x) i
       next-cut e l =
           let m : length x ≤ suc i = omega arith in
@@ -189,6 +193,31 @@ module _ {ρ : ℕ} {answer : Bool} {x : List ℕ} {i : ℕ} {t : List ℕ} {k :
     pub spelling-on : k < length t → b ≡ getD t k 0 → Spelling ρ answer x j t (k + 1)
     spelling-on m u =
         record { in-text = omega arith; spells = g .spells ∙ rw (add-one k, spelling-steps .gives, drop-cons t k 0 m, eq-eqb _ _ u) }
+
+-- ---- octet for octet
+
+-- where x and z are the same from i on, they are the same
+pub record Alike (x z : List ℕ) (i : ℕ) : Type 0 where
+  pub size : length x ≡ length z
+  pub rest : drop i x ≡ drop i z → x ≡ z
+
+pub alike-on : {x z : List ℕ} {i : ℕ} → Alike x z i → i < length x → getD x i 0 ≡ getD z i 0 → Alike x z (i + 1)
+alike-on {x} {z} {i} g h e =
+    let n = g .size in
+    record { size = n; rest = λ d. g .rest (drop-cons x i 0 h ∙ cons e (rw (← add-one i) d) ∙ sym (drop-cons z i 0 (omega arith))) }
+  where
+    cons : {a b : ℕ} {l m : List ℕ} → a ≡ b → l ≡ m → a ∷ l ≡ b ∷ m
+    cons p q = cc
+
+pub alike-end : {x z : List ℕ} {i : ℕ} → Alike x z i → length x ≤ i → true ≡ true → x ≡ z
+alike-end {x} {z} {i} g h t = let n = g .size in let m : length z ≤ i = omega arith in g .rest (drop-of-length-le x h ∙ sym (drop-of-length-le z m))
+
+pub same-self : (x : List ℕ) → same x x ≡ true
+same-self [] = refl
+same-self (b ∷ x) = rw (eq-eqb b b refl) (same-self x)
+
+pub same-alike : {ρ ς : ℕ} {x z : List ℕ} → ρ ≡ ς → x ≡ z → true ≡ same (content ρ x) (content ς z)
+same-alike {ρ} {ς} {x} {z} e d = rw (e, d) (sym (same-self (content ς z)))
 
 -- the same of two contents, from i of x and from k of z
 pub record Matching (ρ ς : ℕ) (answer : Bool) (x : List ℕ) (i : ℕ) (z : List ℕ) (k : ℕ) : Type 0 where

@@ -73,7 +73,7 @@ returns-6 : tie.Need-returns-6 Inv-loop μ-loop
 returns-6 c = search (wholing-none, needs)
 
 scaled-requires : tie.Need-scaled-requires Inv-loop μ-loop
-scaled-requires c κs = search (wholing-scales, needs)
+scaled-requires c κs = (search (wholing-scales, needs), search needs)
 
 returns-7 : tie.Need-returns-7 Inv-loop μ-loop
 returns-7 c = search (wholing-end, needs)

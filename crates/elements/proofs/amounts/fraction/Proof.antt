@@ -68,7 +68,7 @@ sub-scaled : tie.Need-sub-scaled Inv-loop μ-loop
 sub-scaled c = search needs
 
 scaled-requires : tie.Need-scaled-requires Inv-loop μ-loop
-scaled-requires c κs = search (parting-scales, needs)
+scaled-requires c κs = (search (parting-scales, needs), search needs)
 
 returns-5 : tie.Need-returns-5 Inv-loop μ-loop
 returns-5 c = search (parting-end, needs)

@@ -1,34 +1,24 @@
-use Prim.Native.Nat.{_*_}
-use mathlib.Core.Path.{refl}
+use Prim.Native.Nat.{ℕ, _*_}
+use mathlib.Core.Path.{_≡_, ap}
 use Rattle.grammar.specs.Loads.{tens}
-use Rattle.elements.specs.AmountsLaws.{Scaling, scaling-end, scaling-fits, scaling-on}
 use borrow.Author.Needs.{needs}
 use Rattle.elements.proofs.amounts.scaled.Statement.{statement}
 use Rattle.elements.proofs.amounts.scaled.Tie as tie
+use Rattle.elements.proofs.amounts.scaled.Reads as reads
+use Rattle.elements.proofs.amounts.scaled.Lts as lts
+use Rattle.elements.proofs.amounts.power.Reads as power-reads
 
-abbrev Inv-loop : tie.InvT-loop
-Inv-loop v zeros g₀ n₀ g n = Scaling (v * tens zeros) g n
+-- src/amounts.rt:128:9
+power-requires : tie.Need-power-requires
+power-requires c κs = search needs
 
-abbrev μ-loop : tie.MeasureT-loop
-μ-loop v zeros g₀ n₀ g n = n
+-- src/amounts.rt:128:5
+mul-result : tie.Need-mul-result
+mul-result c = let p : c .before .args .v * c .power .result ≡ c .before .args .v * tens (c .before .args .zeros) = ap (λ (n : ℕ). c .before .args .v * n) (c .power .ensures) in let h = c .before .pre .0 in search needs
 
-loop-holds : tie.Need-loop-holds Inv-loop μ-loop
-loop-holds c = record { small = search needs; makes = refl }
-
-mul-g : tie.Need-mul-g Inv-loop μ-loop
-mul-g c = let h = scaling-fits (c .before .loop .inv) (c .loop-test .taken) in search needs
-
-sub-n : tie.Need-sub-n Inv-loop μ-loop
-sub-n c = search needs
-
-loop-less : tie.Need-loop-less Inv-loop μ-loop
-loop-less c = search needs
-
-loop-again : tie.Need-loop-again Inv-loop μ-loop
-loop-again c = search (scaling-on, needs)
-
-returns : tie.Need-returns Inv-loop μ-loop
-returns c = search (scaling-end, needs)
+-- src/amounts.rt:123:1
+returns : tie.Need-returns
+returns c = rw (c .power .ensures)
 
 pub scaled-spec : {M : Type 1} → statement M
-scaled-spec = tie.close (tie.spec Inv-loop μ-loop loop-holds mul-g sub-n loop-less loop-again returns)
+scaled-spec = tie.close (tie.spec power-requires mul-result returns)

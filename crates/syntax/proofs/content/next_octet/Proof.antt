@@ -1,4 +1,4 @@
-use Rattle.syntax.specs.ContentLaws.{next-none, next-space, next-plain, next-cut, next-freed}
+use Rattle.syntax.specs.ContentLaws.{next-none, next-other, next-space, next-cut, next-freed}
 use borrow.Author.Needs.{needs}
 use Rattle.syntax.proofs.content.next_octet.Statement.{statement}
 use Rattle.syntax.proofs.content.next_octet.Tie as tie
@@ -13,13 +13,13 @@ add-t10 : tie.Need-add-t10
 add-t10 c = search needs
 
 returns-2 : tie.Need-returns-2
-returns-2 c = search (next-space, needs)
+returns-2 c = search (next-other, needs)
 
 add-t11 : tie.Need-add-t11
 add-t11 c = search needs
 
 returns-3 : tie.Need-returns-3
-returns-3 c = search (next-plain, needs)
+returns-3 c = search (next-space, needs)
 
 add-j : tie.Need-add-j
 add-j c = search needs

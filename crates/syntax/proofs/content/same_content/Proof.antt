@@ -1,82 +1,27 @@
-use Prim.Native.Nat.{_-_}
-use mathlib.Core.Path.{refl}
-use lib.ListN.{length}
-use Rattle.syntax.specs.Content.{content}
-use Rattle.syntax.specs.Octets.{same}
-use Rattle.syntax.specs.ContentLaws.{Matching, matching-end, matching-less, matching-short, matching-long, matching-other, matching-on}
+use Rattle.syntax.specs.ContentLaws.{same-alike}
 use borrow.Author.Needs.{needs}
 use Rattle.syntax.proofs.content.same_content.Statement.{statement}
 use Rattle.syntax.proofs.content.same_content.Tie as tie
+use Rattle.syntax.proofs.content.same_content.Reads as reads
+use Rattle.syntax.proofs.content.same_content.Lts as lts
+use Rattle.syntax.proofs.content.alike.Reads as alike-reads
+use Rattle.syntax.proofs.content.same_freed.Reads as same-freed-reads
 
-abbrev Inv-loop : tie.InvT-loop
-Inv-loop x release z other i₀ k₀ i k = Matching release other (same (content release x) (content other z)) x i z k
+-- src/content.rt:158:12
+alike-requires : tie.Need-alike-requires
+alike-requires c κs = search needs
 
-abbrev μ-loop : tie.MeasureT-loop
-μ-loop x release z other i₀ k₀ i k = length x - i
+-- src/content.rt:159:13
+returns : tie.Need-returns
+returns c = same-alike (c .before .before .if1 .taken) (c .before .alike .ensures (c .if2 .taken))
 
-loop-holds : tie.Need-loop-holds Inv-loop μ-loop
-loop-holds c = record { matches = refl }
+-- src/content.rt:162:5
+same-freed-requires : tie.Need-same-freed-requires
+same-freed-requires c κs = search needs
 
-next-octet-requires : tie.Need-next-octet-requires Inv-loop μ-loop
-next-octet-requires c κs = search needs
-
-next-octet-requires-2 : tie.Need-next-octet-requires-2 Inv-loop μ-loop
-next-octet-requires-2 c κs = search needs
-
-enum-known-f : tie.Need-enum-known-f Inv-loop μ-loop
-enum-known-f c = search needs
-
-enum-known-g : tie.Need-enum-known-g Inv-loop μ-loop
-enum-known-g c = search needs
-
-returns : tie.Need-returns Inv-loop μ-loop
-returns c = search (matching-other, needs)
-
-loop-less : tie.Need-loop-less Inv-loop μ-loop
-loop-less c = search (matching-less, needs)
-
-loop-again : tie.Need-loop-again Inv-loop μ-loop
-loop-again c = search (matching-on, needs)
-
-enum-told : tie.Need-enum-told Inv-loop μ-loop
-enum-told c = search needs
-
-returns-2 : tie.Need-returns-2 Inv-loop μ-loop
-returns-2 c = search (matching-short, needs)
-
-enum-told-2 : tie.Need-enum-told-2 Inv-loop μ-loop
-enum-told-2 c = search needs
-
-enum-told-3 : tie.Need-enum-told-3 Inv-loop μ-loop
-enum-told-3 c = search needs
-
-returns-3 : tie.Need-returns-3 Inv-loop μ-loop
-returns-3 c = search (matching-long, needs)
-
-enum-told-4 : tie.Need-enum-told-4 Inv-loop μ-loop
-enum-told-4 c = search needs
-
-returns-4 : tie.Need-returns-4 Inv-loop μ-loop
-returns-4 c = search (matching-end, needs)
+-- src/content.rt:154:1
+returns-2 : tie.Need-returns-2
+returns-2 c = search needs
 
 pub same-content-spec : {M : Type 1} → statement M
-same-content-spec =
-    tie.close
-    (tie.spec
-    Inv-loop
-    μ-loop
-    loop-holds
-    next-octet-requires
-    next-octet-requires-2
-    enum-known-f
-    enum-known-g
-    returns
-    loop-less
-    loop-again
-    enum-told
-    returns-2
-    enum-told-2
-    enum-told-3
-    returns-3
-    enum-told-4
-    returns-4)
+same-content-spec = tie.close (tie.spec alike-requires returns same-freed-requires returns-2)
