@@ -12,7 +12,7 @@ use Rattle.syntax.specs.declared.Syntax.{Syntax}
 use Rattle.grammar.specs.Lists.{Snoc}
 use Rattle.grammar.specs.Interchange.{Leaf, Open, Message, message, Reading, done}
 use Rattle.grammar.specs.Named.{placed, placedAt}
-use Rattle.grammar.specs.Verdict.{read, refused}
+use Rattle.grammar.specs.Verdict.{read, refused, Totals as Totalled, totalled, refusedTotals}
 use Rattle.walk.specs.RunLaws.{answerFrom}
 use Rattle.walk.specs.Sections.{Laid}
 use Rattle.walk.specs.declared.sections.Layout.{Layout}
@@ -66,6 +66,11 @@ abbrev pub totalledBy : Found → Totals
 totalledBy (Here c) = Of (record { loads = c .loads; grams = c .grams })
 totalledBy Missing = Refused (record { number = 13; place = 0 })
 totalledBy (NotRead f) = Refused f
+
+-- the totals as the call answers them
+abbrev pub totalsAs : Totalled → Totals
+totalsAs (totalled loads grams) = Of (record { loads = loads; grams = grams })
+totalsAs (refusedTotals number place) = Refused (record { number = number; place = place })
 
 -- the paper's number and place, then loads and grams; 0 where there is none
 abbrev pub toldTotals : Totals → List ℕ

@@ -23,17 +23,18 @@ use Rattle.grammar.specs.Interchange.{Leaf, Open, Message, message, Reading, st
 use Rattle.grammar.specs.Rules.{refO, refM}
 use Rattle.grammar.specs.Places.{wide}
 use Rattle.grammar.specs.Named.{Placed, placed, placedIn, placedAt, totalsAt}
-use Rattle.grammar.specs.Verdict.{Answer, read, refused, Verdict, accepted, refusedWith, concluded, verdictOf, verdictBy, unaAt, loadsM, Totals, totalled, totalsIn, totalsBy, totalsOf, totalNumbers}
+use Rattle.grammar.specs.Verdict.{Answer, read, refused, Verdict, accepted, refusedWith, concluded, verdictOf, verdictBy, unaAt, loadsM, Totals, totalled, refusedTotals, totalsIn, totalsBy, totalsOf, totalNumbers}
 use Rattle.message.specs.Summary.{startS, idleS, busyS, doneS, stateOf}
 use Rattle.turns.specs.Held.{stateIn}
 use Rattle.walk.specs.RunLaws.{answerFrom, Walking, unreadAs}
 use Rattle.walk.specs.Sections.{Laid, Stays, begins, ends, breaks, SectionBy, Passing}
 use Rattle.walk.specs.SectionLaws.{Looping}
-use Rattle.judge.specs.Finding.{namedBy, earlyAs, SeeksBy, WholeBy, FoundIs, noLayout, totalledBy, toldTotals}
+use Rattle.judge.specs.Finding.{namedBy, earlyAs, SeeksBy, WholeBy, FoundIs, noLayout, totalledBy, totalsAs, toldTotals}
 use Rattle.walk.specs.declared.sections.Layout.{Layout}
 use Rattle.walk.specs.declared.sections.Section.{Section}
 use Rattle.judge.specs.declared.find.Found.{Found}
 use Rattle.judge.specs.declared.find.Found.the-variants.{Message as Here, Missing, Refused as NotRead}
+use Rattle.judge.specs.declared.totals.Totals.{Totals as Totalled}
 use Rattle.judge.specs.declared.totals.Totals.the-variants.{Of, Refused}
 use Rattle.turns.specs.declared.state.State.{State}
 
@@ -127,20 +128,28 @@ pub verdict-by : (s : List ℕ) {b : Opening} {r : Begun} {a : Answer} → r ≡
 verdict-by s {b} e d q = ap (verdictBy s) (sym e ∙ d) ∙ ap (concluded (unaAt s)) q
 
 module _ (s r : List ℕ) where
-  pub totals-refused : {f : Refusal} {g : Begun} → g ≡ begunOf s → g ≡ Refuses f → f .number ∷ f .place ∷ 0 ∷ 0 ∷ [] ≡ totalNumbers (totalsOf s r)
-  totals-refused {f} e d = ap (λ (b : Begun). totalNumbers (totalsBy (verdictBy s b) r)) (sym d ∙ e)
+  pub totals-refused : {f : Refusal} {g : Begun} → g ≡ begunOf s → g ≡ Refuses f → Refused f ≡ totalsAs (totalsOf s r)
+  totals-refused {f} e d = ap (λ (b : Begun). totalsAs (totalsBy (verdictBy s b) r)) (sym d ∙ e)
 
   pub totals-found : {b : Opening} {g : Begun} (f : Found) (rows : List ℕ) → g ≡ begunOf s → g ≡ Begins b → FoundIs (b .syntax) s (b .at) r f rows
-      → toldTotals (totalledBy f) ≡ totalNumbers (totalsOf s r)
-  totals-found {b} (NotRead g) rows e d q = sym (ap (λ (v : Verdict). totalNumbers (totalsBy v r)) (verdict-by s e d q))
+      → totalledBy f ≡ totalsAs (totalsOf s r)
+  totals-found {b} (NotRead g) rows e d q = sym (ap (λ (v : Verdict). totalsAs (totalsBy v r)) (verdict-by s e d q))
   totals-found {b} Missing rows e d q =
-      sym (ap (λ (v : Verdict). totalNumbers (totalsBy v r)) (verdict-by s e d (q .3 .0))
-      ∙ ap totalNumbers (totals-placed (b .syntax .service) (b .at) (q .0) (q .1) r) ∙ ap (λ (o : Option Placed). totalNumbers (totalsAt o)) (q .3 .1))
+      sym (ap (λ (v : Verdict). totalsAs (totalsBy v r)) (verdict-by s e d (q .3 .0))
+      ∙ ap totalsAs (totals-placed (b .syntax .service) (b .at) (q .0) (q .1) r) ∙ ap (λ (o : Option Placed). totalsAs (totalsAt o)) (q .3 .1))
   totals-found {b} (Here c) rows e d q =
       let k = q .3 .1 in
-      sym (ap (λ (v : Verdict). totalNumbers (totalsBy v r)) (verdict-by s e d (q .3 .0))
-      ∙ ap totalNumbers (totals-placed (b .syntax .service) (b .at) (q .0) (q .1) r) ∙ ap (λ (o : Option Placed). totalNumbers (totalsAt o)) (k .3 .0)
+      sym (ap (λ (v : Verdict). totalsAs (totalsBy v r)) (verdict-by s e d (q .3 .0))
+      ∙ ap totalsAs (totals-placed (b .syntax .service) (b .at) (q .0) (q .1) r) ∙ ap (λ (o : Option Placed). totalsAs (totalsAt o)) (k .3 .0)
       ∙ rw (k .3 .1 .loads, k .3 .1 .grams))
+
+-- what the call promises: the answer, and with it the numbers
+pub totals-promised : {a : Totalled} (t : Totals) → a ≡ totalsAs t → (a ≡ totalsAs t) × (toldTotals a ≡ totalNumbers t)
+totals-promised t e = (e, ap toldTotals e ∙ by t)
+  where
+    by : (t : Totals) → toldTotals (totalsAs t) ≡ totalNumbers t
+    by (totalled loads grams) = refl
+    by (refusedTotals number place) = refl
 
 -- ---- the rows of the message found
 

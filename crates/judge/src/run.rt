@@ -1,7 +1,6 @@
 // The judge: the walk from UNB to the end of the octets.
 ghost use mathlib.Core.Path.{_≡_};
 ghost use mathlib.Core.Bool.{true, false};
-ghost use mathlib.Core.List.{[], _∷_};
 ghost use Prim.Native.Nat.{_≤_};
 ghost use lib.Dec.{T};
 ghost use lib.ListN.{length, drop};
@@ -10,8 +9,7 @@ ghost use Rattle.syntax.specs.Repertoire.{Table};
 ghost use Rattle.syntax.specs.Reader.{chain};
 ghost use Rattle.grammar.specs.Interchange.{start};
 ghost use Rattle.grammar.specs.Verdict.{verdictOf, numbers, walk};
-ghost use Rattle.turns.specs.Held.{walked};
-ghost use Rattle.judge.specs.Told.{told};
+ghost use Rattle.judge.specs.Told.{refusedAs, verdictAs, walkedAs, told};
 ghost use Rattle.walk.specs.RunLaws.{unreadAs, isDone, Fresh};
 use message::kept::fresh_message;
 use syntax::Refusal;
@@ -57,7 +55,7 @@ pub fn is_done(p: Phase) -> bool
 }
 
 fn refused(number: u8, place: usize) -> Verdict
-    ensures { λ r. ⌜ told r ≡ number ∷ place ∷ [] ⌝ }
+    ensures { λ r. ⌜ r ≡ refusedAs number place ⌝ }
 {
     Verdict::Refused(Refusal {
         number: number,
@@ -76,7 +74,7 @@ fn run(
 ) -> Verdict
     requires { ⌜ Table y (now t) ⌝ }
     requires { ⌜ Fresh y (now s) (now names) (now slots) ⌝ }
-    ensures { λ r. ⌜ told r ≡ walked (walk y start (chain (y .service) false (drop from (now (s .entry)))) from) ⌝ }
+    ensures { λ r. ⌜ r ≡ walkedAs (walk y start (chain (y .service) false (drop from (now (s .entry)))) from) ⌝ }
 {
     let mut marks = [0usize; 40];
     let mut heads = [0usize; 36];
@@ -122,7 +120,7 @@ fn run_tiny(s: &[u8], from: usize, t: &[u8; 256], y: Syntax) -> Verdict
     requires { ⌜ Table y (now t) ⌝ }
     requires { ⌜ T (fit (y .service)) ⌝ }
     requires { ⌜ length (now s) ≤ 256 ⌝ }
-    ensures { λ r. ⌜ told r ≡ walked (walk y start (chain (y .service) false (drop from (now (s .entry)))) from) ⌝ }
+    ensures { λ r. ⌜ r ≡ walkedAs (walk y start (chain (y .service) false (drop from (now (s .entry)))) from) ⌝ }
 {
     let mut names = [0u64; 64];
     let mut slots = [0u16; 95];
@@ -133,7 +131,7 @@ fn run_small(s: &[u8], from: usize, t: &[u8; 256], y: Syntax) -> Verdict
     requires { ⌜ Table y (now t) ⌝ }
     requires { ⌜ T (fit (y .service)) ⌝ }
     requires { ⌜ length (now s) ≤ 2048 ⌝ }
-    ensures { λ r. ⌜ told r ≡ walked (walk y start (chain (y .service) false (drop from (now (s .entry)))) from) ⌝ }
+    ensures { λ r. ⌜ r ≡ walkedAs (walk y start (chain (y .service) false (drop from (now (s .entry)))) from) ⌝ }
 {
     let mut names = [0u64; 512];
     let mut slots = [0u16; 763];
@@ -144,7 +142,7 @@ fn run_large(s: &[u8], from: usize, t: &[u8; 256], y: Syntax) -> Verdict
     requires { ⌜ Table y (now t) ⌝ }
     requires { ⌜ T (fit (y .service)) ⌝ }
     requires { ⌜ length (now s) ≤ 65535 ⌝ }
-    ensures { λ r. ⌜ told r ≡ walked (walk y start (chain (y .service) false (drop from (now (s .entry)))) from) ⌝ }
+    ensures { λ r. ⌜ r ≡ walkedAs (walk y start (chain (y .service) false (drop from (now (s .entry)))) from) ⌝ }
 {
     let mut names = [0u64; 16384];
     let mut slots = [0u16; 20405];
@@ -153,6 +151,7 @@ fn run_large(s: &[u8], from: usize, t: &[u8; 256], y: Syntax) -> Verdict
 
 // The verdict on one interchange in lent octets: any octets of any length.
 pub fn judge(s: &[u8]) -> Verdict
+    ensures { λ r. ⌜ r ≡ verdictAs (verdictOf (now (s .entry))) ⌝ }
     ensures { λ r. ⌜ told r ≡ numbers (verdictOf (now (s .entry))) ⌝ }
 {
     match begin(s) {

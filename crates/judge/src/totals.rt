@@ -1,7 +1,7 @@
 // The loads of a message, and their grams.
 ghost use mathlib.Core.Path.{_≡_};
 ghost use Rattle.grammar.specs.Verdict.{totalsOf, totalNumbers};
-ghost use Rattle.judge.specs.Finding.{toldTotals, totalledBy};
+ghost use Rattle.judge.specs.Finding.{totalsAs, toldTotals, totalledBy};
 use crate::find::Found;
 use crate::find::find;
 use syntax::Refusal;
@@ -37,6 +37,7 @@ fn totalled(f: Found) -> Totals
 
 // How many loads the message with the 0062 `reference` has, and their grams: for any octets, and any reference.
 pub fn message_totals(s: &[u8], reference: &[u8]) -> Totals
+    ensures { λ r. ⌜ r ≡ totalsAs (totalsOf (now (s .entry)) (now (reference .entry))) ⌝ }
     ensures { λ r. ⌜ toldTotals r ≡ totalNumbers (totalsOf (now (s .entry)) (now (reference .entry))) ⌝ }
 {
     match begin(s) {

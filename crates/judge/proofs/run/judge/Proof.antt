@@ -1,5 +1,5 @@
-use mathlib.Core.Path.{sym, _∙_}
-use Rattle.walk.specs.RunLaws.{begun-refused, begun-ready, begun-fits}
+use Rattle.walk.specs.RunLaws.{begun-fits}
+use Rattle.judge.specs.ToldLaws.{judged-unbegun, judged-walked}
 use borrow.Author.Needs.{needs}
 use Rattle.judge.proofs.run.judge.Statement.{statement}
 use Rattle.judge.proofs.run.judge.Tie as tie
@@ -33,7 +33,7 @@ run-tiny-requires c κs = let w = begun-fits (c .before .before .before .before 
 
 -- src/run.rt:166:17
 returns : tie.Need-returns
-returns c = c .run-tiny .ensures ∙ sym (begun-ready (c .before .before .before .before .before .before .before .before .before .before .before .args .s .now) (c .before .before .before .before .before .before .before .before .before .begin .ensures) (c .before .before .before .before .before .before .before .b .given .1))
+returns c = judged-walked (c .before .before .before .before .before .before .before .before .before .before .before .args .s .now) (c .before .before .before .before .before .before .before .before .before .begin .ensures) (c .before .before .before .before .before .before .before .b .given .1) (c .run-tiny .ensures)
 
 -- src/run.rt:169:17
 run-small-requires : tie.Need-run-small-requires
@@ -41,7 +41,7 @@ run-small-requires c κs = let w = begun-fits (c .before .before .before .before
 
 -- src/run.rt:169:17
 returns-2 : tie.Need-returns-2
-returns-2 c = c .run-small .ensures ∙ sym (begun-ready (c .before .before .before .before .before .before .before .before .before .before .before .before .args .s .now) (c .before .before .before .before .before .before .before .before .before .before .begin .ensures) (c .before .before .before .before .before .before .before .before .b .given .1))
+returns-2 c = judged-walked (c .before .before .before .before .before .before .before .before .before .before .before .before .args .s .now) (c .before .before .before .before .before .before .before .before .before .before .begin .ensures) (c .before .before .before .before .before .before .before .before .b .given .1) (c .run-small .ensures)
 
 -- src/run.rt:171:13
 run-large-requires : tie.Need-run-large-requires
@@ -49,11 +49,11 @@ run-large-requires c κs = let w = begun-fits (c .before .before .before .before
 
 -- src/run.rt:155:1
 returns-3 : tie.Need-returns-3
-returns-3 c = sym (begun-refused (c .before .before .before .before .before .args .s .now) (c .before .before .before .begin .ensures) (c .before .f .given .1))
+returns-3 c = judged-unbegun (c .before .before .before .before .before .args .s .now) (c .before .before .before .begin .ensures) (c .before .f .given .1)
 
 -- src/run.rt:155:1
 returns-4 : tie.Need-returns-4
-returns-4 c = c .run-large .ensures ∙ sym (begun-ready (c .before .before .before .before .before .before .before .before .before .before .before .before .args .s .now) (c .before .before .before .before .before .before .before .before .before .before .begin .ensures) (c .before .before .before .before .before .before .before .before .b .given .1))
+returns-4 c = judged-walked (c .before .before .before .before .before .before .before .before .before .before .before .before .args .s .now) (c .before .before .before .before .before .before .before .before .before .before .begin .ensures) (c .before .before .before .before .before .before .before .before .b .given .1) (c .run-large .ensures)
 
 pub judge-spec : {M : Type 1} → statement M
 judge-spec =

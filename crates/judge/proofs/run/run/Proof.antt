@@ -4,9 +4,10 @@ use mathlib.Core.Path.{refl, sym, ap, _∙_}
 use mathlib.Core.Bool.{false≢true}
 use borrow.Author.Needs.{needs}
 use lib.ListN.{length}
-use Rattle.turns.specs.Held.{walked}
-use Rattle.walk.specs.RunLaws.{walking-start, walking-more, walking-done, walking-early, unread-idle}
+use Rattle.walk.specs.RunLaws.{walking-start, walking-over, walking-read, walking-short, unread-idle}
 use Rattle.walk.specs.SectionLaws.{Looping, starting, passed, stopped}
+use Rattle.judge.specs.Told.{walkedAs}
+use Rattle.judge.specs.ToldLaws.{walked-whole}
 use Rattle.judge.proofs.run.run.Statement.{statement}
 use Rattle.judge.proofs.run.run.Tie as tie
 use Rattle.judge.proofs.run.run.Reads as reads
@@ -48,7 +49,7 @@ same-length-2 c = search needs
 
 -- src/run.rt:83:13
 returns : tie.Need-returns Inv-loop μ-loop
-returns c = c .refused .ensures ∙ sym (walking-more (c .before .before .before .before .loop .inv .walks) (c .before .before .before .before .before .before .before .before .before .pre .1 .fits) (c .before .before .before .loop-test .taken) (sym (c .before .before .is-done .ensures) ∙ c .before .if1 .taken))
+returns c = c .refused .ensures ∙ sym (ap walkedAs (walking-over (c .before .before .before .before .loop .inv .walks) (c .before .before .before .before .before .before .before .before .before .pre .1 .fits) (c .before .before .before .loop-test .taken) (sym (c .before .before .is-done .ensures) ∙ c .before .if1 .taken)))
 
 -- src/run.rt:91:13
 slice-aggregate-next-section : tie.Need-slice-aggregate-next-section Inv-loop μ-loop
@@ -72,7 +73,7 @@ same-length-4 c = search needs
 
 -- src/run.rt:98:17
 returns-2 : tie.Need-returns-2 Inv-loop μ-loop
-returns-2 c = sym (ap walked (stopped (c .before .before .before .before .before .before .before .before .before .before .before .before .before .before .before .before .before .loop .inv .walks) (c .before .before .before .before .before .before .before .before .next-section .last .1 .1 .1 .1 .1 .1 .0) (c .before .before .before .before .before .before .before .before .next-section .last .1 .1 .1 .1 .1 .1 .1 .0) (c .before .before .before .before .before .before .before .before .next-section .last .1 .1 .1 .1 .1 .1 .1 .1 .0) (c .before .before .before .before .before .before .before .before .next-section .last .1 .1 .1 .1 .1 .1 .1 .1 .1 .0) _ (c .before .f .given .1) (c .before .before .before .before .before .before .before .before .next-section .ensures .0 _ (c .before .before .before .before .before .before .before .before .before .before .before .before .before .before .before .before .before .loop .inv .walks))))
+returns-2 c = sym (ap walkedAs (stopped (c .before .before .before .before .before .before .before .before .before .before .before .before .before .before .before .before .before .loop .inv .walks) (c .before .before .before .before .before .before .before .before .next-section .last .1 .1 .1 .1 .1 .1 .0) (c .before .before .before .before .before .before .before .before .next-section .last .1 .1 .1 .1 .1 .1 .1 .0) (c .before .before .before .before .before .before .before .before .next-section .last .1 .1 .1 .1 .1 .1 .1 .1 .0) (c .before .before .before .before .before .before .before .before .next-section .last .1 .1 .1 .1 .1 .1 .1 .1 .1 .0) _ (c .before .f .given .1) (c .before .before .before .before .before .before .before .before .next-section .ensures .0 _ (c .before .before .before .before .before .before .before .before .before .before .before .before .before .before .before .before .before .loop .inv .walks))))
 
 -- src/run.rt:100:25
 enum-known-a : tie.Need-enum-known-a Inv-loop μ-loop
@@ -100,7 +101,7 @@ same-length-6 c = search needs
 
 -- src/run.rt:109:9
 returns-3 : tie.Need-returns-3 Inv-loop μ-loop
-returns-3 c = sym (walking-done (c .before .before .before .loop .inv .walks) (c .before .before .loop-test .left) (sym (c .before .is-done2 .ensures) ∙ c .if2 .taken))
+returns-3 c = sym (walked-whole (walking-read (c .before .before .before .loop .inv .walks) (c .before .before .loop-test .left) (sym (c .before .is-done2 .ensures) ∙ c .if2 .taken)))
 
 -- src/run.rt:111:5
 refused-requires-2 : tie.Need-refused-requires-2 Inv-loop μ-loop
@@ -116,7 +117,7 @@ same-length-8 c = search needs
 
 -- src/run.rt:63:1
 returns-4 : tie.Need-returns-4 Inv-loop μ-loop
-returns-4 c = c .refused2 .ensures ∙ sym (walking-early (c .before .before .before .before .loop .inv .walks) (c .before .before .before .loop-test .left) (sym (c .before .before .is-done2 .ensures) ∙ c .before .if2 .left))
+returns-4 c = c .refused2 .ensures ∙ sym (ap walkedAs (walking-short (c .before .before .before .before .loop .inv .walks) (c .before .before .before .loop-test .left) (sym (c .before .before .is-done2 .ensures) ∙ c .before .if2 .left)))
 
 pub run-spec : {M : Type 1} → statement M
 run-spec =

@@ -1,7 +1,7 @@
-use mathlib.Core.Path.{refl, ap, _∙_}
+use mathlib.Core.Path.{refl, _∙_}
 use Rattle.walk.specs.RunLaws.{begun-fits}
-use Rattle.judge.specs.Finding.{toldTotals}
-use Rattle.judge.specs.FindingLaws.{totals-refused, totals-found}
+use Rattle.grammar.specs.Verdict.{totalsOf}
+use Rattle.judge.specs.FindingLaws.{totals-refused, totals-found, totals-promised}
 use borrow.Author.Needs.{needs}
 use Rattle.judge.proofs.totals.message_totals.Statement.{statement}
 use Rattle.judge.proofs.totals.message_totals.Tie as tie
@@ -38,11 +38,11 @@ totalled-requires c κs = search needs
 
 -- src/totals.rt:39:1
 returns : tie.Need-returns
-returns c = totals-refused (c .before .before .before .before .before .before .args .s .now) (c .before .before .before .before .before .before .args .reference .now) (c .before .before .before .begin .ensures) (c .before .f .given .1)
+returns c = totals-promised (totalsOf (c .before .before .before .before .before .before .args .s .now) (c .before .before .before .before .before .before .args .reference .now)) (totals-refused (c .before .before .before .before .before .before .args .s .now) (c .before .before .before .before .before .before .args .reference .now) (c .before .before .before .begin .ensures) (c .before .f .given .1))
 
 -- src/totals.rt:39:1
 returns-2 : tie.Need-returns-2
-returns-2 c = ap toldTotals (c .totalled .ensures) ∙ totals-found (c .before .before .before .before .before .before .before .before .before .before .before .before .args .s .now) (c .before .before .before .before .before .before .before .before .before .before .before .before .args .reference .now) (c .before .find .result) (c .before .find .last .1 .1 .1 .1 .1 .0) (c .before .before .before .before .before .before .before .before .before .begin .ensures) (c .before .before .before .before .before .before .before .b .given .1) (c .before .find .ensures)
+returns-2 c = totals-promised (totalsOf (c .before .before .before .before .before .before .before .before .before .before .before .before .args .s .now) (c .before .before .before .before .before .before .before .before .before .before .before .before .args .reference .now)) (c .totalled .ensures ∙ totals-found (c .before .before .before .before .before .before .before .before .before .before .before .before .args .s .now) (c .before .before .before .before .before .before .before .before .before .before .before .before .args .reference .now) (c .before .find .result) (c .before .find .last .1 .1 .1 .1 .1 .0) (c .before .before .before .before .before .before .before .before .before .begin .ensures) (c .before .before .before .before .before .before .before .b .given .1) (c .before .find .ensures))
 
 pub message-totals-spec : {M : Type 1} → statement M
 message-totals-spec =
