@@ -54,7 +54,7 @@ use Rattle.ranges.specs.Ranges.{Run, run, headerIn}
 use Rattle.ranges.specs.F01.{usxReference, referenceAt, referenceIn, runOf, runIn, f01By, f01Of}
 use Rattle.ranges.specs.Referring.{referredIn, Refers, isReferred}
 use Rattle.ranges.specs.RangesLaws.{header-scoped}
-use Rattle.ranges.specs.Told.{missingAs, runNumbers, toldRun, RunInside, headerFound}
+use Rattle.ranges.specs.Told.{missingAs, runAs, headerFound}
 use Rattle.ranges.specs.declared.f01.Referred.{Referred}
 use Rattle.ranges.specs.declared.f01.Reference.{Reference}
 use Rattle.ranges.specs.declared.f01.Reference.the-variants.{At, Missing, Refused}
@@ -142,13 +142,13 @@ module _ (s : List ℕ) (o : Option (List ℕ)) where
   abbrev asks : Interchange → Option Run
   asks i = then o (runIn i)
 
-  pub run-unbegun : {f : Refusal} {g : Begun} → g ≡ begunOf s → g ≡ Refuses f → f .number ∷ f .place ∷ 0 ∷ 0 ∷ [] ≡ runNumbers (answeredBy (verdictOf s) asks)
-  run-unbegun {f} e d = sym (ap (λ (b : Begun). runNumbers (answeredBy (verdictBy s b) asks)) (sym e ∙ d))
+  pub run-unbegun : {f : Refusal} {g : Begun} → g ≡ begunOf s → g ≡ Refuses f → RunRefused f ≡ runAs (answeredBy (verdictOf s) asks)
+  run-unbegun {f} e d = sym (ap (λ (b : Begun). runAs (answeredBy (verdictBy s b) asks)) (sym e ∙ d))
 
   module _ {x : Start} {g : Begun} (e : g ≡ begunOf s) (d : g ≡ Begins x) where
-    pub run-refused : {f : Refusal} {k : SpanAnswer} → k ≡ NotSpanned f → SpanIs (x .syntax) s (x .at) k → f .number ∷ f .place ∷ 0 ∷ 0 ∷ [] ≡ runNumbers (answeredBy (verdictOf s) asks)
+    pub run-refused : {f : Refusal} {k : SpanAnswer} → k ≡ NotSpanned f → SpanIs (x .syntax) s (x .at) k → RunRefused f ≡ runAs (answeredBy (verdictOf s) asks)
     run-refused {f} j q =
-        sym (ap (λ (v : Verdict). runNumbers (answeredBy v asks)) (verdict-by s e d (subst (SpanIs (x .syntax) s (x .at)) j q)))
+        sym (ap (λ (v : Verdict). runAs (answeredBy v asks)) (verdict-by s e d (subst (SpanIs (x .syntax) s (x .at)) j q)))
 
     -- what is read, and its run
     record Whole (z : Option Span) : Type 0 where
@@ -183,9 +183,9 @@ module _ (s : List ℕ) (o : Option (List ℕ)) where
         by none = refl
         by (some r) = ap orMissing (w .runs r)
 
-    pub run-none : {f : Refusal} {k : SpanAnswer} → k ≡ NoSpan → SpanIs (x .syntax) s (x .at) k → f ≡ missingAs → f .number ∷ f .place ∷ 0 ∷ 0 ∷ [] ≡ runNumbers (answeredBy (verdictOf s) asks)
+    pub run-none : {f : Refusal} {k : SpanAnswer} → k ≡ NoSpan → SpanIs (x .syntax) s (x .at) k → f ≡ missingAs → RunRefused f ≡ runAs (answeredBy (verdictOf s) asks)
     run-none {f} j q n =
-        ap (λ (f : Refusal). f .number ∷ f .place ∷ 0 ∷ 0 ∷ []) n ∙ sym (ap runNumbers (asked-run (whole none (subst (SpanIs (x .syntax) s (x .at)) j q)) ∙ by o))
+        ap RunRefused n ∙ sym (ap runAs (asked-run (whole none (subst (SpanIs (x .syntax) s (x .at)) j q)) ∙ by o))
       where
         by : (o : Option (List ℕ)) → orMissing {A = Run} (then o (λ r. cond (same (nameAt (x .syntax .service) s (x .at) 5) r) none none)) ≡ refusedAs 13 0
         by none = refl
@@ -207,12 +207,12 @@ module _ (s : List ℕ) (o : Option (List ℕ)) where
       answers : answeredBy (verdictOf s) asks ≡ orMissing (cond b (some (run (z .start) (z .end))) none)
       answers = asked-run (whole (some (span (z .start) (z .end))) (spanned .0)) ∙ by-test o ∙ ap (λ (c : Bool). orMissing (cond c (some (run (z .start) (z .end))) none)) (sym t)
 
-      pub run-there : b ≡ true → 0 ∷ 0 ∷ z .start ∷ z .end ∷ [] ≡ runNumbers (answeredBy (verdictOf s) asks)
-      run-there h = sym (ap runNumbers (answers ∙ ap (λ (c : Bool). orMissing (cond c (some (run (z .start) (z .end))) none)) h))
+      pub run-there : b ≡ true → RunOf (record { start = z .start; end = z .end }) ≡ runAs (answeredBy (verdictOf s) asks)
+      run-there h = sym (ap runAs (answers ∙ ap (λ (c : Bool). orMissing (cond c (some (run (z .start) (z .end))) none)) h))
 
-      pub run-other : {f : Refusal} → b ≡ false → f ≡ missingAs → f .number ∷ f .place ∷ 0 ∷ 0 ∷ [] ≡ runNumbers (answeredBy (verdictOf s) asks)
+      pub run-other : {f : Refusal} → b ≡ false → f ≡ missingAs → RunRefused f ≡ runAs (answeredBy (verdictOf s) asks)
       run-other h n =
-          ap (λ (f : Refusal). f .number ∷ f .place ∷ 0 ∷ 0 ∷ []) n ∙ sym (ap runNumbers (answers ∙ ap (λ (c : Bool). orMissing (cond c (some (run (z .start) (z .end))) none)) h))
+          ap RunRefused n ∙ sym (ap runAs (answers ∙ ap (λ (c : Bool). orMissing (cond c (some (run (z .start) (z .end))) none)) h))
 
       pub run-within : (z .start ≤ z .end) × (z .end ≤ length s)
       run-within = (spanned .1, spanned .2)
@@ -220,15 +220,15 @@ module _ (s : List ℕ) (o : Option (List ℕ)) where
 -- ---- the call
 
 module _ (a s m r : List ℕ) {w : Reference} (k : Refers a m r w) where
-  pub f01-refused : {f : Refusal} → w ≡ Refused f → f .number ∷ f .place ∷ 0 ∷ 0 ∷ [] ≡ runNumbers (f01Of a s m r)
-  f01-refused {f} e = sym (ap (λ (v : Verdict). runNumbers (f01By v s m r)) (subst (Refers a m r) e k))
+  pub f01-refused : {f : Refusal} → w ≡ Refused f → RunRefused f ≡ runAs (f01Of a s m r)
+  f01-refused {f} e = sym (ap (λ (v : Verdict). runAs (f01By v s m r)) (subst (Refers a m r) e k))
 
-  pub f01-at : {x : Referred} {n : List ℕ} → w ≡ At x → n ≡ runNumbers (answeredBy (verdictOf s) (λ i. then (referredIn a (At x)) (runIn i))) → n ≡ runNumbers (f01Of a s m r)
+  pub f01-at : {x : Referred} {n : Ran} → w ≡ At x → n ≡ runAs (answeredBy (verdictOf s) (λ i. then (referredIn a (At x)) (runIn i))) → n ≡ runAs (f01Of a s m r)
   f01-at {x} e d =
       let q : (i : Interchange) × ((verdictOf a ≡ accepted i) × (referenceIn i m r ≡ referredIn a (At x))) = subst (Refers a m r) e k in
-      d ∙ sym (ap (λ (v : Verdict). runNumbers (f01By v s m r)) (q .1 .0) ∙ ap (λ (o : Option (List ℕ)). runNumbers (answeredBy (verdictOf s) (λ i. then o (runIn i)))) (q .1 .1))
+      d ∙ sym (ap (λ (v : Verdict). runAs (f01By v s m r)) (q .1 .0) ∙ ap (λ (o : Option (List ℕ)). runAs (answeredBy (verdictOf s) (λ i. then o (runIn i)))) (q .1 .1))
 
-  pub f01-missing : {n : List ℕ} → w ≡ Missing → n ≡ runNumbers (answeredBy (verdictOf s) (λ i. then (referredIn a Missing) (runIn i))) → n ≡ runNumbers (f01Of a s m r)
+  pub f01-missing : {n : Ran} → w ≡ Missing → n ≡ runAs (answeredBy (verdictOf s) (λ i. then (referredIn a Missing) (runIn i))) → n ≡ runAs (f01Of a s m r)
   f01-missing e d =
       let q : (i : Interchange) × ((verdictOf a ≡ accepted i) × (referenceIn i m r ≡ none)) = subst (Refers a m r) e k in
-      d ∙ sym (ap (λ (v : Verdict). runNumbers (f01By v s m r)) (q .1 .0) ∙ ap (λ (o : Option (List ℕ)). runNumbers (answeredBy (verdictOf s) (λ i. then o (runIn i)))) (q .1 .1))
+      d ∙ sym (ap (λ (v : Verdict). runAs (f01By v s m r)) (q .1 .0) ∙ ap (λ (o : Option (List ℕ)). runAs (answeredBy (verdictOf s) (λ i. then o (runIn i)))) (q .1 .1))

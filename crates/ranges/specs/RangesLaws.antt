@@ -43,7 +43,7 @@ use Rattle.ranges.specs.declared.scopes.Scope1.{Scope1}
 use Rattle.ranges.specs.declared.scopes.Scope1.the-variants.{Of as ScopeOf, Refused as ScopeRefused}
 use Rattle.ranges.specs.declared.scopes.Run.{Run as Ran}
 use Rattle.ranges.specs.declared.scopes.Run.the-variants.{Of as RunOf, Refused as RunRefused}
-use Rattle.ranges.specs.Told.{missingAs, partNumbers, toldParts, runNumbers, toldRun, PartsInside, RunInside, headerPart, bodyPart, runPart, startOf, endOf, scopedBy, headerFound, trailerFound, partsBy, runBy}
+use Rattle.ranges.specs.Told.{missingAs, partsAs, partNumbers, toldParts, runAs, runNumbers, toldRun, PartsInside, RunInside, headerPart, bodyPart, runPart, startOf, endOf, scopedBy, headerFound, trailerFound, partsBy, runBy}
 use Rattle.groups.specs.CallsLaws.{none-some}
 
 -- ---- scope 1 and scope 2
@@ -67,28 +67,28 @@ module _ {s m : List ℕ} {y : Syntax} {c : Layout} {rows : List ℕ} (h : Holds
           each true = refl
           each false = refl
 
-  pub scope1-here : {x : Sought} {a : Scope1} → x ≡ headerFound (y .service) s c rows (octets "1") r → a ≡ partsBy c x → toldParts a ≡ partNumbers (scope1Of s m r)
+  pub scope1-here : {x : Sought} {a : Scope1} → x ≡ headerFound (y .service) s c rows (octets "1") r → a ≡ partsBy c x → a ≡ partsAs (scope1Of s m r)
   scope1-here {x} e d =
-      ap toldParts (d ∙ ap (partsBy c) (e ∙ header-scoped (octets "1"))) ∙ by (headerIn (octets "1") (h .o) r)
-      ∙ sym (ap (λ (v : Service). partNumbers (orMissing (scope1At v (placed (message (h .o) (h .t)) (h .q)) r))) (h .service))
-      ∙ sym (ap partNumbers (call-holds s m (λ i p. scope1At (serviceIn i) p r) h))
+      d ∙ ap (partsBy c) (e ∙ header-scoped (octets "1")) ∙ by (headerIn (octets "1") (h .o) r)
+      ∙ sym (ap (λ (v : Service). partsAs (orMissing (scope1At v (placed (message (h .o) (h .t)) (h .q)) r))) (h .service))
+      ∙ sym (ap partsAs (call-holds s m (λ i p. scope1At (serviceIn i) p r) h))
     where
-      by : (k : Option (Chosen Header)) → toldParts (partsBy c (rangeOf showHeader (y .service) (headsAt (y .service) (h .q) (h .o)) k))
-          ≡ partNumbers (orMissing (then k (λ x. some (parts (headerAt (y .service) (h .q) (h .o) x) (headerEnd (y .service) (h .q) (h .o) x) (bodyAt (y .service) (h .q) (h .o)) (tailAt (y .service) (h .q) (h .o))))))
+      by : (k : Option (Chosen Header)) → partsBy c (rangeOf showHeader (y .service) (headsAt (y .service) (h .q) (h .o)) k)
+          ≡ partsAs (orMissing (then k (λ x. some (parts (headerAt (y .service) (h .q) (h .o) x) (headerEnd (y .service) (h .q) (h .o) x) (bodyAt (y .service) (h .q) (h .o)) (tailAt (y .service) (h .q) (h .o))))))
       by none = refl
       by (some (chosen hs x)) = rw (h .laid .body, h .laid .tail)
 
   pub scope2-here : {x z : Sought} {a : Ran} → x ≡ headerFound (y .service) s c rows (octets "2") r → z ≡ trailerFound (y .service) s c rows r → a ≡ runBy x z
-      → toldRun a ≡ runNumbers (scope2Of s m r)
+      → a ≡ runAs (scope2Of s m r)
   scope2-here {x} {z} e f d =
-      ap toldRun (d ∙ ap (λ (k : Sought). runBy k z) (e ∙ header-scoped (octets "2")) ∙ ap (runBy (rangeOf showHeader (y .service) (headsAt (y .service) (h .q) (h .o)) (headerIn (octets "2") (h .o) r))) (f ∙ trailer-found h r))
+      d ∙ ap (λ (k : Sought). runBy k z) (e ∙ header-scoped (octets "2")) ∙ ap (runBy (rangeOf showHeader (y .service) (headsAt (y .service) (h .q) (h .o)) (headerIn (octets "2") (h .o) r))) (f ∙ trailer-found h r)
       ∙ by (headerIn (octets "2") (h .o) r) (trailerNamed (h .o) r)
-      ∙ sym (ap (λ (v : Service). runNumbers (orMissing (scope2At v (placed (message (h .o) (h .t)) (h .q)) r))) (h .service))
-      ∙ sym (ap runNumbers (call-holds s m (λ i p. scope2At (serviceIn i) p r) h))
+      ∙ sym (ap (λ (v : Service). runAs (orMissing (scope2At v (placed (message (h .o) (h .t)) (h .q)) r))) (h .service))
+      ∙ sym (ap runAs (call-holds s m (λ i p. scope2At (serviceIn i) p r) h))
     where
       by : (k : Option (Chosen Header)) (j : Option (Chosen Trailer))
-          → toldRun (runBy (rangeOf showHeader (y .service) (headsAt (y .service) (h .q) (h .o)) k) (rangeOf showTrailer (y .service) (tailAt (y .service) (h .q) (h .o)) j))
-          ≡ runNumbers (orMissing (then k (λ x. then j (λ t. some (run (headerAt (y .service) (h .q) (h .o) x) (trailerAt (y .service) (h .q) (h .o) t))))))
+          → runBy (rangeOf showHeader (y .service) (headsAt (y .service) (h .q) (h .o)) k) (rangeOf showTrailer (y .service) (tailAt (y .service) (h .q) (h .o)) j)
+          ≡ runAs (orMissing (then k (λ x. then j (λ t. some (run (headerAt (y .service) (h .q) (h .o) x) (trailerAt (y .service) (h .q) (h .o) t))))))
       by none none = refl
       by none (some (chosen ts t)) = refl
       by (some (chosen hs x)) none = refl
@@ -211,19 +211,34 @@ run-part (given (run a′ b′)) e = cc
 run-part (refusedAs n′ p′) e = cc
 
 module _ (s m r : List ℕ) {f : Refusal} where
-  pub scope1-refused : verdictOf s ≡ refusedWith (f .number) (f .place) → f .number ∷ f .place ∷ 0 ∷ 0 ∷ 0 ∷ 0 ∷ [] ≡ partNumbers (scope1Of s m r)
-  scope1-refused e = sym (ap partNumbers (call-refused s m (λ i p. scope1At (serviceIn i) p r) e))
+  pub scope1-refused : verdictOf s ≡ refusedWith (f .number) (f .place) → ScopeRefused f ≡ partsAs (scope1Of s m r)
+  scope1-refused e = sym (ap partsAs (call-refused s m (λ i p. scope1At (serviceIn i) p r) e))
 
-  pub scope2-refused : verdictOf s ≡ refusedWith (f .number) (f .place) → f .number ∷ f .place ∷ 0 ∷ 0 ∷ [] ≡ runNumbers (scope2Of s m r)
-  scope2-refused e = sym (ap runNumbers (call-refused s m (λ i p. scope2At (serviceIn i) p r) e))
+  pub scope2-refused : verdictOf s ≡ refusedWith (f .number) (f .place) → RunRefused f ≡ runAs (scope2Of s m r)
+  scope2-refused e = sym (ap runAs (call-refused s m (λ i p. scope2At (serviceIn i) p r) e))
 
   module _ (d : f ≡ missingAs) (k : (i : Interchange) × ((verdictOf s ≡ accepted i) × (messageIn i m ≡ none))) where
-    pub scope1-missing : f .number ∷ f .place ∷ 0 ∷ 0 ∷ 0 ∷ 0 ∷ [] ≡ partNumbers (scope1Of s m r)
-    scope1-missing =
-        ap (λ (g : Refusal). g .number ∷ g .place ∷ 0 ∷ 0 ∷ 0 ∷ 0 ∷ []) d ∙ sym (ap partNumbers (call-missing s m (λ i p. scope1At (serviceIn i) p r) k))
+    pub scope1-missing : ScopeRefused f ≡ partsAs (scope1Of s m r)
+    scope1-missing = ap ScopeRefused d ∙ sym (ap partsAs (call-missing s m (λ i p. scope1At (serviceIn i) p r) k))
 
-    pub scope2-missing : f .number ∷ f .place ∷ 0 ∷ 0 ∷ [] ≡ runNumbers (scope2Of s m r)
-    scope2-missing = ap (λ (g : Refusal). g .number ∷ g .place ∷ 0 ∷ 0 ∷ []) d ∙ sym (ap runNumbers (call-missing s m (λ i p. scope2At (serviceIn i) p r) k))
+    pub scope2-missing : RunRefused f ≡ runAs (scope2Of s m r)
+    scope2-missing = ap RunRefused d ∙ sym (ap runAs (call-missing s m (λ i p. scope2At (serviceIn i) p r) k))
+
+-- what the companion calls promise: the answer, with it the numbers, and where the places lie
+
+pub parts-promised : {a : Scope1} {Lie : Type 0} (x : Answered Parts) → a ≡ partsAs x → Lie → (a ≡ partsAs x) × ((toldParts a ≡ partNumbers x) × Lie)
+parts-promised x e q = (e, (ap toldParts e ∙ by x, q))
+  where
+    by : (x : Answered Parts) → toldParts (partsAs x) ≡ partNumbers x
+    by (given (parts a b c d)) = refl
+    by (refusedAs number place) = refl
+
+pub run-promised : {a : Ran} {Lie : Type 0} (x : Answered Run) → a ≡ runAs x → Lie → (a ≡ runAs x) × ((toldRun a ≡ runNumbers x) × Lie)
+run-promised x e q = (e, (ap toldRun e ∙ by x, q))
+  where
+    by : (x : Answered Run) → toldRun (runAs x) ≡ runNumbers x
+    by (given (run a b)) = refl
+    by (refusedAs number place) = refl
 
 -- ---- the code, call by call
 

@@ -1,4 +1,5 @@
--- The paper's numbers for each case of the answers: number, place, then the call's own; "on refusal .. every other number given back is 0".
+-- What is sealed as the calls answer it, and the paper's numbers for each case of the answers: number, place, then the call's own; "on refusal .. every
+-- other number given back is 0".
 use Prim.Native.Nat.{ℕ, _≤_}
 use mathlib.Core.List.{List, [], _∷_}
 use mathlib.Core.Bool.{cond}
@@ -15,6 +16,14 @@ use Rattle.ranges.specs.declared.scopes.Scope1.{Scope1}
 use Rattle.ranges.specs.declared.scopes.Scope1.the-variants.{Of as Parted, Refused as PartsRefused}
 use Rattle.ranges.specs.declared.scopes.Run.{Run as Ran}
 use Rattle.ranges.specs.declared.scopes.Run.the-variants.{Of as RunOf, Refused as RunRefused}
+
+abbrev pub partsAs : Answered Parts → Scope1
+partsAs (given (parts a b c d)) = Parted (record { header = record { start = a; end = b }; body = record { start = c; end = d } })
+partsAs (refusedAs number place) = PartsRefused (record { number = number; place = place })
+
+abbrev pub runAs : Answered Run → Ran
+runAs (given (run a b)) = RunOf (record { start = a; end = b })
+runAs (refusedAs number place) = RunRefused (record { number = number; place = place })
 
 abbrev pub partNumbers : Answered Parts → List ℕ
 partNumbers (given (parts a b c d)) = 0 ∷ 0 ∷ a ∷ b ∷ c ∷ d ∷ []

@@ -14,7 +14,7 @@ ghost use Rattle.groups.specs.Groups.{nameAt};
 ghost use Rattle.groups.specs.Calls.{Holds, answeredBy, then};
 ghost use Rattle.ranges.specs.F01.{runIn, f01Of};
 ghost use Rattle.ranges.specs.Referring.{referredIn, Refers, isReferred};
-ghost use Rattle.ranges.specs.Told.{runNumbers, toldRun, RunInside, runPart, startOf, endOf};
+ghost use Rattle.ranges.specs.Told.{runAs, runNumbers, toldRun, RunInside, runPart, startOf, endOf};
 use crate::scopes::Run;
 use crate::scopes::header_of;
 use crate::scopes::own_part;
@@ -125,7 +125,7 @@ fn is_referred(s: &[u8], from: usize, t: &[u8; 256], y: Syntax, autack: &[u8], r
 
 // The run of the interchange `s`, if its 0020 is the one that is referred to.
 fn run_of(s: &[u8], autack: &[u8], r: Reference) -> Run
-    ensures { λ x. ⌜ toldRun x ≡ runNumbers (answeredBy (verdictOf (now (s .entry))) (λ i. then (referredIn (now (autack .entry)) r) (runIn i))) ⌝ }
+    ensures { λ x. ⌜ x ≡ runAs (answeredBy (verdictOf (now (s .entry))) (λ i. then (referredIn (now (autack .entry)) r) (runIn i))) ⌝ }
     ensures { λ x. ⌜ RunInside x (length (now (s .entry))) ⌝ }
 {
     match begin(s) {
@@ -153,6 +153,7 @@ fn run_of(s: &[u8], autack: &[u8], r: Reference) -> Run
 
 // Start and end, in `referenced`, of the run that the header `header` of the AUTACK `message` in `autack` seals.
 pub fn f01_places(autack: &[u8], referenced: &[u8], message: &[u8], header: &[u8]) -> Run
+    ensures { λ r. ⌜ r ≡ runAs (f01Of (now (autack .entry)) (now (referenced .entry)) (now (message .entry)) (now (header .entry))) ⌝ }
     ensures { λ r. ⌜ toldRun r ≡ runNumbers (f01Of (now (autack .entry)) (now (referenced .entry)) (now (message .entry)) (now (header .entry))) ⌝ }
     ensures { λ r. ⌜ RunInside r (length (now (referenced .entry))) ⌝ }
 {

@@ -7,7 +7,7 @@ ghost use denote.Ref.{ptr};
 ghost use Rattle.syntax.specs.Octets.{octets};
 ghost use Rattle.syntax.specs.Repertoire.{Table};
 ghost use Rattle.ranges.specs.Ranges.{scope1Of, scope2Of};
-ghost use Rattle.ranges.specs.Told.{partNumbers, toldParts, runNumbers, toldRun, PartsInside, RunInside, headerPart, bodyPart, runPart, startOf, endOf, headerFound, trailerFound, partsBy, runBy};
+ghost use Rattle.ranges.specs.Told.{partsAs, partNumbers, toldParts, runAs, runNumbers, toldRun, PartsInside, RunInside, headerPart, bodyPart, runPart, startOf, endOf, headerFound, trailerFound, partsBy, runBy};
 use groups::calls::Named;
 use groups::calls::message_named;
 use groups::calls::missing;
@@ -98,6 +98,7 @@ fn run_by(h: Sought, t: Sought) -> Run
 
 // Start and end of the header part, and of the body part, that are sealed by scope 1.
 pub fn scope1_places(s: &[u8], message: &[u8], header: &[u8]) -> Scope1
+    ensures { λ r. ⌜ r ≡ partsAs (scope1Of (now (s .entry)) (now (message .entry)) (now (header .entry))) ⌝ }
     ensures { λ r. ⌜ toldParts r ≡ partNumbers (scope1Of (now (s .entry)) (now (message .entry)) (now (header .entry))) ⌝ }
     ensures { λ r. ⌜ PartsInside r (length (now (s .entry))) ⌝ }
 {
@@ -115,6 +116,7 @@ pub fn scope1_places(s: &[u8], message: &[u8], header: &[u8]) -> Scope1
 
 // Start and end of the run that is sealed by scope 2.
 pub fn scope2_places(s: &[u8], message: &[u8], header: &[u8]) -> Run
+    ensures { λ r. ⌜ r ≡ runAs (scope2Of (now (s .entry)) (now (message .entry)) (now (header .entry))) ⌝ }
     ensures { λ r. ⌜ toldRun r ≡ runNumbers (scope2Of (now (s .entry)) (now (message .entry)) (now (header .entry))) ⌝ }
     ensures { λ r. ⌜ RunInside r (length (now (s .entry))) ⌝ }
 {

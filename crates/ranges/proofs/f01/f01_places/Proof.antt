@@ -2,6 +2,8 @@ use native.Mathlib.Omega.{arith}
 use mathlib.Core.Path.{refl, sym, ap, _∙_}
 use borrow.Author.Needs.{needs}
 use lib.ListN.{length}
+use Rattle.ranges.specs.F01.{f01Of}
+use Rattle.ranges.specs.RangesLaws.{run-promised}
 use Rattle.ranges.specs.F01Laws.{f01-refused, f01-at, f01-missing}
 use Rattle.ranges.proofs.f01.f01_places.Statement.{statement}
 use Rattle.ranges.proofs.f01.f01_places.Tie as tie
@@ -36,15 +38,15 @@ enum-known-f c = search needs
 
 -- src/f01.rt:155:1
 returns : tie.Need-returns
-returns c = (f01-at (c .before .before .before .before .before .before .before .before .before .args .autack .now) (c .before .before .before .before .before .before .before .before .before .args .referenced .now) (c .before .before .before .before .before .before .before .before .before .args .message .now) (c .before .before .before .before .before .before .before .before .before .args .header .now) (c .before .before .before .before .reference-named .ensures) (c .before .before .x .given .1) (c .run-of .ensures .0), c .run-of .ensures .1)
+returns c = run-promised (f01Of (c .before .before .before .before .before .before .before .before .before .args .autack .now) (c .before .before .before .before .before .before .before .before .before .args .referenced .now) (c .before .before .before .before .before .before .before .before .before .args .message .now) (c .before .before .before .before .before .before .before .before .before .args .header .now)) (f01-at (c .before .before .before .before .before .before .before .before .before .args .autack .now) (c .before .before .before .before .before .before .before .before .before .args .referenced .now) (c .before .before .before .before .before .before .before .before .before .args .message .now) (c .before .before .before .before .before .before .before .before .before .args .header .now) (c .before .before .before .before .reference-named .ensures) (c .before .before .x .given .1) (c .run-of .ensures .0)) (c .run-of .ensures .1)
 
 -- src/f01.rt:155:1
 returns-2 : tie.Need-returns-2
-returns-2 c = (f01-missing (c .before .before .before .before .before .before .before .before .args .autack .now) (c .before .before .before .before .before .before .before .before .args .referenced .now) (c .before .before .before .before .before .before .before .before .args .message .now) (c .before .before .before .before .before .before .before .before .args .header .now) (c .before .before .before .reference-named .ensures) (c .before .enum-told .given .1) (c .run-of2 .ensures .0), c .run-of2 .ensures .1)
+returns-2 c = run-promised (f01Of (c .before .before .before .before .before .before .before .before .args .autack .now) (c .before .before .before .before .before .before .before .before .args .referenced .now) (c .before .before .before .before .before .before .before .before .args .message .now) (c .before .before .before .before .before .before .before .before .args .header .now)) (f01-missing (c .before .before .before .before .before .before .before .before .args .autack .now) (c .before .before .before .before .before .before .before .before .args .referenced .now) (c .before .before .before .before .before .before .before .before .args .message .now) (c .before .before .before .before .before .before .before .before .args .header .now) (c .before .before .before .reference-named .ensures) (c .before .enum-told .given .1) (c .run-of2 .ensures .0)) (c .run-of2 .ensures .1)
 
 -- src/f01.rt:155:1
 returns-3 : tie.Need-returns-3
-returns-3 c = (f01-refused (c .before .before .before .before .before .before .before .before .args .autack .now) (c .before .before .before .before .before .before .before .before .args .referenced .now) (c .before .before .before .before .before .before .before .before .args .message .now) (c .before .before .before .before .before .before .before .before .args .header .now) (c .before .before .before .reference-named .ensures) (c .before .f .given .1), tt)
+returns-3 c = run-promised (f01Of (c .before .before .before .before .before .before .before .before .args .autack .now) (c .before .before .before .before .before .before .before .before .args .referenced .now) (c .before .before .before .before .before .before .before .before .args .message .now) (c .before .before .before .before .before .before .before .before .args .header .now)) (f01-refused (c .before .before .before .before .before .before .before .before .args .autack .now) (c .before .before .before .before .before .before .before .before .args .referenced .now) (c .before .before .before .before .before .before .before .before .args .message .now) (c .before .before .before .before .before .before .before .before .args .header .now) (c .before .before .before .reference-named .ensures) (c .before .f .given .1)) tt
 
 pub f01-places-spec : {M : Type 1} → statement M
 f01-places-spec =

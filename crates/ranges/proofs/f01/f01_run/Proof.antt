@@ -23,7 +23,7 @@ enum-known-r c = search needs
 
 -- src/f01.rt:177:23
 own-part-requires : tie.Need-own-part-requires
-own-part-requires c κs = run-inside (length (c .before .before .before .before .before .before .before .before .args .referenced .now)) (c .before .r .given .1) (c .before .before .before .f01-places .ensures .1)
+own-part-requires c κs = run-inside (length (c .before .before .before .before .before .before .before .before .args .referenced .now)) (c .before .r .given .1) (c .before .before .before .f01-places .ensures .1 .1)
 
 -- src/f01.rt:178:28
 enum-told : tie.Need-enum-told
@@ -35,11 +35,11 @@ own-part-requires-2 c κs = search needs
 
 -- src/f01.rt:167:1
 returns : tie.Need-returns
-returns c = (part-octets (c .before .before .before .before .before .before .before .before .before .args .referenced .now) (runPart (f01Of (c .before .before .before .before .before .before .before .before .before .args .autack .now) (c .before .before .before .before .before .before .before .before .before .args .referenced .now) (c .before .before .before .before .before .before .before .before .before .args .message .now) (c .before .before .before .before .before .before .before .before .before .args .header .now))) (run-part (f01Of (c .before .before .before .before .before .before .before .before .before .args .autack .now) (c .before .before .before .before .before .before .before .before .before .args .referenced .now) (c .before .before .before .before .before .before .before .before .before .args .message .now) (c .before .before .before .before .before .before .before .before .before .args .header .now)) (ap toldRun (sym (c .before .before .r .given .1)) ∙ c .before .before .before .before .f01-places .ensures .0)) (c .own-part .ensures .0), part-placed (c .before .before .before .before .before .before .before .before .before .args .referenced .now) (runPart (f01Of (c .before .before .before .before .before .before .before .before .before .args .autack .now) (c .before .before .before .before .before .before .before .before .before .args .referenced .now) (c .before .before .before .before .before .before .before .before .before .args .message .now) (c .before .before .before .before .before .before .before .before .before .args .header .now))) (run-part (f01Of (c .before .before .before .before .before .before .before .before .before .args .autack .now) (c .before .before .before .before .before .before .before .before .before .args .referenced .now) (c .before .before .before .before .before .before .before .before .before .args .message .now) (c .before .before .before .before .before .before .before .before .before .args .header .now)) (ap toldRun (sym (c .before .before .r .given .1)) ∙ c .before .before .before .before .f01-places .ensures .0)) (ptr (c .before .before .before .before .before .before .before .before .before .args .referenced) .1) (c .own-part .ensures .1))
+returns c = (part-octets (c .before .before .before .before .before .before .before .before .before .args .referenced .now) (runPart (f01Of (c .before .before .before .before .before .before .before .before .before .args .autack .now) (c .before .before .before .before .before .before .before .before .before .args .referenced .now) (c .before .before .before .before .before .before .before .before .before .args .message .now) (c .before .before .before .before .before .before .before .before .before .args .header .now))) (run-part (f01Of (c .before .before .before .before .before .before .before .before .before .args .autack .now) (c .before .before .before .before .before .before .before .before .before .args .referenced .now) (c .before .before .before .before .before .before .before .before .before .args .message .now) (c .before .before .before .before .before .before .before .before .before .args .header .now)) (ap toldRun (sym (c .before .before .r .given .1)) ∙ c .before .before .before .before .f01-places .ensures .1 .0)) (c .own-part .ensures .0), part-placed (c .before .before .before .before .before .before .before .before .before .args .referenced .now) (runPart (f01Of (c .before .before .before .before .before .before .before .before .before .args .autack .now) (c .before .before .before .before .before .before .before .before .before .args .referenced .now) (c .before .before .before .before .before .before .before .before .before .args .message .now) (c .before .before .before .before .before .before .before .before .before .args .header .now))) (run-part (f01Of (c .before .before .before .before .before .before .before .before .before .args .autack .now) (c .before .before .before .before .before .before .before .before .before .args .referenced .now) (c .before .before .before .before .before .before .before .before .before .args .message .now) (c .before .before .before .before .before .before .before .before .before .args .header .now)) (ap toldRun (sym (c .before .before .r .given .1)) ∙ c .before .before .before .before .f01-places .ensures .1 .0)) (ptr (c .before .before .before .before .before .before .before .before .before .args .referenced) .1) (c .own-part .ensures .1))
 
 -- src/f01.rt:167:1
 returns-2 : tie.Need-returns-2
-returns-2 c = (part-octets (c .before .before .before .before .before .before .before .before .args .referenced .now) (runPart (f01Of (c .before .before .before .before .before .before .before .before .args .autack .now) (c .before .before .before .before .before .before .before .before .args .referenced .now) (c .before .before .before .before .before .before .before .before .args .message .now) (c .before .before .before .before .before .before .before .before .args .header .now))) (run-part (f01Of (c .before .before .before .before .before .before .before .before .args .autack .now) (c .before .before .before .before .before .before .before .before .args .referenced .now) (c .before .before .before .before .before .before .before .before .args .message .now) (c .before .before .before .before .before .before .before .before .args .header .now)) (ap toldRun (sym (c .before .enum-told .given .1)) ∙ c .before .before .before .f01-places .ensures .0)) (c .own-part2 .ensures .0), part-placed (c .before .before .before .before .before .before .before .before .args .referenced .now) (runPart (f01Of (c .before .before .before .before .before .before .before .before .args .autack .now) (c .before .before .before .before .before .before .before .before .args .referenced .now) (c .before .before .before .before .before .before .before .before .args .message .now) (c .before .before .before .before .before .before .before .before .args .header .now))) (run-part (f01Of (c .before .before .before .before .before .before .before .before .args .autack .now) (c .before .before .before .before .before .before .before .before .args .referenced .now) (c .before .before .before .before .before .before .before .before .args .message .now) (c .before .before .before .before .before .before .before .before .args .header .now)) (ap toldRun (sym (c .before .enum-told .given .1)) ∙ c .before .before .before .f01-places .ensures .0)) (ptr (c .before .before .before .before .before .before .before .before .args .referenced) .1) (c .own-part2 .ensures .1))
+returns-2 c = (part-octets (c .before .before .before .before .before .before .before .before .args .referenced .now) (runPart (f01Of (c .before .before .before .before .before .before .before .before .args .autack .now) (c .before .before .before .before .before .before .before .before .args .referenced .now) (c .before .before .before .before .before .before .before .before .args .message .now) (c .before .before .before .before .before .before .before .before .args .header .now))) (run-part (f01Of (c .before .before .before .before .before .before .before .before .args .autack .now) (c .before .before .before .before .before .before .before .before .args .referenced .now) (c .before .before .before .before .before .before .before .before .args .message .now) (c .before .before .before .before .before .before .before .before .args .header .now)) (ap toldRun (sym (c .before .enum-told .given .1)) ∙ c .before .before .before .f01-places .ensures .1 .0)) (c .own-part2 .ensures .0), part-placed (c .before .before .before .before .before .before .before .before .args .referenced .now) (runPart (f01Of (c .before .before .before .before .before .before .before .before .args .autack .now) (c .before .before .before .before .before .before .before .before .args .referenced .now) (c .before .before .before .before .before .before .before .before .args .message .now) (c .before .before .before .before .before .before .before .before .args .header .now))) (run-part (f01Of (c .before .before .before .before .before .before .before .before .args .autack .now) (c .before .before .before .before .before .before .before .before .args .referenced .now) (c .before .before .before .before .before .before .before .before .args .message .now) (c .before .before .before .before .before .before .before .before .args .header .now)) (ap toldRun (sym (c .before .enum-told .given .1)) ∙ c .before .before .before .f01-places .ensures .1 .0)) (ptr (c .before .before .before .before .before .before .before .before .args .referenced) .1) (c .own-part2 .ensures .1))
 
 pub f01-run-spec : {M : Type 1} → statement M
 f01-run-spec =

@@ -25,7 +25,7 @@ enum-known-p c = search needs
 
 -- src/scopes.rt:164:13
 own-part-requires : tie.Need-own-part-requires
-own-part-requires c κs = let w = parts-inside (length (c .before .before .before .before .before .before .before .before .args .s .now)) (c .before .before .p .given .1) (c .before .before .before .before .scope1-places .ensures .1) in (w .2, w .3)
+own-part-requires c κs = let w = parts-inside (length (c .before .before .before .before .before .before .before .before .args .s .now)) (c .before .before .p .given .1) (c .before .before .before .before .scope1-places .ensures .1 .1) in (w .2, w .3)
 
 -- src/scopes.rt:166:31
 enum-told : tie.Need-enum-told
@@ -37,11 +37,11 @@ own-part-requires-2 c κs = search needs
 
 -- src/scopes.rt:157:1
 returns : tie.Need-returns
-returns c = (part-octets (c .before .before .before .before .before .before .before .before .before .args .s .now) (bodyPart (scope1Of (c .before .before .before .before .before .before .before .before .before .args .s .now) (c .before .before .before .before .before .before .before .before .before .args .message .now) (c .before .before .before .before .before .before .before .before .before .args .header .now))) (body-part (scope1Of (c .before .before .before .before .before .before .before .before .before .args .s .now) (c .before .before .before .before .before .before .before .before .before .args .message .now) (c .before .before .before .before .before .before .before .before .before .args .header .now)) (ap toldParts (sym (c .before .before .before .p .given .1)) ∙ c .before .before .before .before .before .scope1-places .ensures .0)) (c .own-part .ensures .0), part-placed (c .before .before .before .before .before .before .before .before .before .args .s .now) (bodyPart (scope1Of (c .before .before .before .before .before .before .before .before .before .args .s .now) (c .before .before .before .before .before .before .before .before .before .args .message .now) (c .before .before .before .before .before .before .before .before .before .args .header .now))) (body-part (scope1Of (c .before .before .before .before .before .before .before .before .before .args .s .now) (c .before .before .before .before .before .before .before .before .before .args .message .now) (c .before .before .before .before .before .before .before .before .before .args .header .now)) (ap toldParts (sym (c .before .before .before .p .given .1)) ∙ c .before .before .before .before .before .scope1-places .ensures .0)) (ptr (c .before .before .before .before .before .before .before .before .before .args .s) .1) (c .own-part .ensures .1))
+returns c = (part-octets (c .before .before .before .before .before .before .before .before .before .args .s .now) (bodyPart (scope1Of (c .before .before .before .before .before .before .before .before .before .args .s .now) (c .before .before .before .before .before .before .before .before .before .args .message .now) (c .before .before .before .before .before .before .before .before .before .args .header .now))) (body-part (scope1Of (c .before .before .before .before .before .before .before .before .before .args .s .now) (c .before .before .before .before .before .before .before .before .before .args .message .now) (c .before .before .before .before .before .before .before .before .before .args .header .now)) (ap toldParts (sym (c .before .before .before .p .given .1)) ∙ c .before .before .before .before .before .scope1-places .ensures .1 .0)) (c .own-part .ensures .0), part-placed (c .before .before .before .before .before .before .before .before .before .args .s .now) (bodyPart (scope1Of (c .before .before .before .before .before .before .before .before .before .args .s .now) (c .before .before .before .before .before .before .before .before .before .args .message .now) (c .before .before .before .before .before .before .before .before .before .args .header .now))) (body-part (scope1Of (c .before .before .before .before .before .before .before .before .before .args .s .now) (c .before .before .before .before .before .before .before .before .before .args .message .now) (c .before .before .before .before .before .before .before .before .before .args .header .now)) (ap toldParts (sym (c .before .before .before .p .given .1)) ∙ c .before .before .before .before .before .scope1-places .ensures .1 .0)) (ptr (c .before .before .before .before .before .before .before .before .before .args .s) .1) (c .own-part .ensures .1))
 
 -- src/scopes.rt:157:1
 returns-2 : tie.Need-returns-2
-returns-2 c = (part-octets (c .before .before .before .before .before .before .before .args .s .now) (bodyPart (scope1Of (c .before .before .before .before .before .before .before .args .s .now) (c .before .before .before .before .before .before .before .args .message .now) (c .before .before .before .before .before .before .before .args .header .now))) (body-part (scope1Of (c .before .before .before .before .before .before .before .args .s .now) (c .before .before .before .before .before .before .before .args .message .now) (c .before .before .before .before .before .before .before .args .header .now)) (ap toldParts (sym (c .before .enum-told .given .1)) ∙ c .before .before .before .scope1-places .ensures .0)) (c .own-part2 .ensures .0), part-placed (c .before .before .before .before .before .before .before .args .s .now) (bodyPart (scope1Of (c .before .before .before .before .before .before .before .args .s .now) (c .before .before .before .before .before .before .before .args .message .now) (c .before .before .before .before .before .before .before .args .header .now))) (body-part (scope1Of (c .before .before .before .before .before .before .before .args .s .now) (c .before .before .before .before .before .before .before .args .message .now) (c .before .before .before .before .before .before .before .args .header .now)) (ap toldParts (sym (c .before .enum-told .given .1)) ∙ c .before .before .before .scope1-places .ensures .0)) (ptr (c .before .before .before .before .before .before .before .args .s) .1) (c .own-part2 .ensures .1))
+returns-2 c = (part-octets (c .before .before .before .before .before .before .before .args .s .now) (bodyPart (scope1Of (c .before .before .before .before .before .before .before .args .s .now) (c .before .before .before .before .before .before .before .args .message .now) (c .before .before .before .before .before .before .before .args .header .now))) (body-part (scope1Of (c .before .before .before .before .before .before .before .args .s .now) (c .before .before .before .before .before .before .before .args .message .now) (c .before .before .before .before .before .before .before .args .header .now)) (ap toldParts (sym (c .before .enum-told .given .1)) ∙ c .before .before .before .scope1-places .ensures .1 .0)) (c .own-part2 .ensures .0), part-placed (c .before .before .before .before .before .before .before .args .s .now) (bodyPart (scope1Of (c .before .before .before .before .before .before .before .args .s .now) (c .before .before .before .before .before .before .before .args .message .now) (c .before .before .before .before .before .before .before .args .header .now))) (body-part (scope1Of (c .before .before .before .before .before .before .before .args .s .now) (c .before .before .before .before .before .before .before .args .message .now) (c .before .before .before .before .before .before .before .args .header .now)) (ap toldParts (sym (c .before .enum-told .given .1)) ∙ c .before .before .before .scope1-places .ensures .1 .0)) (ptr (c .before .before .before .before .before .before .before .args .s) .1) (c .own-part2 .ensures .1))
 
 pub scope1-body-spec : {M : Type 1} → statement M
 scope1-body-spec =

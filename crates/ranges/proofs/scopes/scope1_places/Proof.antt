@@ -3,7 +3,8 @@ use mathlib.Core.Path.{refl, sym, ap, _∙_}
 use borrow.Author.Needs.{needs}
 use lib.ListN.{length}
 use Rattle.groups.specs.CallsLaws.{as-here, as-missing, as-refused}
-use Rattle.ranges.specs.RangesLaws.{scope1-here, scope1-inside, scope1-refused, scope1-missing}
+use Rattle.ranges.specs.Ranges.{scope1Of}
+use Rattle.ranges.specs.RangesLaws.{parts-promised, scope1-here, scope1-inside, scope1-refused, scope1-missing}
 use Rattle.ranges.proofs.scopes.scope1_places.Statement.{statement}
 use Rattle.ranges.proofs.scopes.scope1_places.Tie as tie
 use Rattle.ranges.proofs.scopes.scope1_places.Reads as reads
@@ -47,15 +48,15 @@ enum-known-f c = search needs
 
 -- src/scopes.rt:100:1
 returns : tie.Need-returns
-returns c = let w = as-here (c .before .before .before .before .before .before .before .before .before .before .before .before .before .before .before .args .s .now) (c .before .before .before .before .before .before .before .before .before .before .before .before .before .before .before .args .message .now) (c .before .before .before .before .before .before .before .before .before .message-named .last .1 .1 .0) (c .before .before .before .before .before .before .before .before .before .message-named .last .1 .1 .1 .0) (c .before .before .before .before .before .before .before .before .before .message-named .ensures) (c .before .before .before .before .before .before .before .x .given .1) in (scope1-here (w .1) (c .before .before .before .before .before .before .before .before .before .before .before .before .before .before .before .args .header .now) (c .before .header-of .ensures) (c .parts-by .ensures), scope1-inside (w .1) (c .before .before .before .before .before .before .before .before .before .before .before .before .before .before .before .args .header .now) (c .before .header-of .ensures) (c .parts-by .ensures))
+returns c = let w = as-here (c .before .before .before .before .before .before .before .before .before .before .before .before .before .before .before .args .s .now) (c .before .before .before .before .before .before .before .before .before .before .before .before .before .before .before .args .message .now) (c .before .before .before .before .before .before .before .before .before .message-named .last .1 .1 .0) (c .before .before .before .before .before .before .before .before .before .message-named .last .1 .1 .1 .0) (c .before .before .before .before .before .before .before .before .before .message-named .ensures) (c .before .before .before .before .before .before .before .x .given .1) in parts-promised (scope1Of (c .before .before .before .before .before .before .before .before .before .before .before .before .before .before .before .args .s .now) (c .before .before .before .before .before .before .before .before .before .before .before .before .before .before .before .args .message .now) (c .before .before .before .before .before .before .before .before .before .before .before .before .before .before .before .args .header .now)) (scope1-here (w .1) (c .before .before .before .before .before .before .before .before .before .before .before .before .before .before .before .args .header .now) (c .before .header-of .ensures) (c .parts-by .ensures)) (scope1-inside (w .1) (c .before .before .before .before .before .before .before .before .before .before .before .before .before .before .before .args .header .now) (c .before .header-of .ensures) (c .parts-by .ensures))
 
 -- src/scopes.rt:100:1
 returns-2 : tie.Need-returns-2
-returns-2 c = (scope1-missing (c .before .before .before .before .before .before .before .before .before .args .s .now) (c .before .before .before .before .before .before .before .before .before .args .message .now) (c .before .before .before .before .before .before .before .before .before .args .header .now) (c .missing .ensures) (as-missing (c .before .before .before .before .before .before .before .before .before .args .s .now) (c .before .before .before .before .before .before .before .before .before .args .message .now) (c .before .before .before .message-named .last .1 .1 .0) (c .before .before .before .message-named .last .1 .1 .1 .0) (c .before .before .before .message-named .ensures) (c .before .enum-told .given .1)), tt)
+returns-2 c = parts-promised (scope1Of (c .before .before .before .before .before .before .before .before .before .args .s .now) (c .before .before .before .before .before .before .before .before .before .args .message .now) (c .before .before .before .before .before .before .before .before .before .args .header .now)) (scope1-missing (c .before .before .before .before .before .before .before .before .before .args .s .now) (c .before .before .before .before .before .before .before .before .before .args .message .now) (c .before .before .before .before .before .before .before .before .before .args .header .now) (c .missing .ensures) (as-missing (c .before .before .before .before .before .before .before .before .before .args .s .now) (c .before .before .before .before .before .before .before .before .before .args .message .now) (c .before .before .before .message-named .last .1 .1 .0) (c .before .before .before .message-named .last .1 .1 .1 .0) (c .before .before .before .message-named .ensures) (c .before .enum-told .given .1))) tt
 
 -- src/scopes.rt:100:1
 returns-3 : tie.Need-returns-3
-returns-3 c = (scope1-refused (c .before .before .before .before .before .before .before .before .before .args .s .now) (c .before .before .before .before .before .before .before .before .before .args .message .now) (c .before .before .before .before .before .before .before .before .before .args .header .now) (as-refused (c .before .before .before .before .before .before .before .before .before .args .s .now) (c .before .before .before .before .before .before .before .before .before .args .message .now) (c .before .before .before .message-named .last .1 .1 .0) (c .before .before .before .message-named .last .1 .1 .1 .0) (c .before .before .before .message-named .ensures) (c .before .f .given .1)), tt)
+returns-3 c = parts-promised (scope1Of (c .before .before .before .before .before .before .before .before .before .args .s .now) (c .before .before .before .before .before .before .before .before .before .args .message .now) (c .before .before .before .before .before .before .before .before .before .args .header .now)) (scope1-refused (c .before .before .before .before .before .before .before .before .before .args .s .now) (c .before .before .before .before .before .before .before .before .before .args .message .now) (c .before .before .before .before .before .before .before .before .before .args .header .now) (as-refused (c .before .before .before .before .before .before .before .before .before .args .s .now) (c .before .before .before .before .before .before .before .before .before .args .message .now) (c .before .before .before .message-named .last .1 .1 .0) (c .before .before .before .message-named .last .1 .1 .1 .0) (c .before .before .before .message-named .ensures) (c .before .f .given .1))) tt
 
 pub scope1-places-spec : {M : Type 1} → statement M
 scope1-places-spec =

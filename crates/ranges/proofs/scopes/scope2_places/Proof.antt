@@ -4,7 +4,8 @@ use mathlib.Core.Path.{refl, sym, ap, _∙_}
 use borrow.Author.Needs.{needs}
 use lib.ListN.{length}
 use Rattle.groups.specs.CallsLaws.{as-here, as-missing, as-refused}
-use Rattle.ranges.specs.RangesLaws.{scope2-here, scope2-inside, scope2-refused, scope2-missing}
+use Rattle.ranges.specs.Ranges.{scope2Of}
+use Rattle.ranges.specs.RangesLaws.{run-promised, scope2-here, scope2-inside, scope2-refused, scope2-missing}
 use Rattle.ranges.proofs.scopes.scope2_places.Statement.{statement}
 use Rattle.ranges.proofs.scopes.scope2_places.Tie as tie
 use Rattle.ranges.proofs.scopes.scope2_places.Reads as reads
@@ -58,15 +59,15 @@ enum-known-f c = search needs
 
 -- src/scopes.rt:117:1
 returns : tie.Need-returns
-returns c = let w = as-here (c .before .before .before .before .before .before .before .before .before .before .before .before .before .before .before .before .before .before .before .before .args .s .now) (c .before .before .before .before .before .before .before .before .before .before .before .before .before .before .before .before .before .before .before .before .args .message .now) (c .before .before .before .before .before .before .before .before .before .before .before .before .before .before .message-named .last .1 .1 .0) (c .before .before .before .before .before .before .before .before .before .before .before .before .before .before .message-named .last .1 .1 .1 .0) (c .before .before .before .before .before .before .before .before .before .before .before .before .before .before .message-named .ensures) (c .before .before .before .before .before .before .before .before .before .before .before .before .x .given .1) in (scope2-here (w .1) (c .before .before .before .before .before .before .before .before .before .before .before .before .before .before .before .before .before .before .before .before .args .header .now) (c .before .before .before .before .before .header-of .ensures) (groups-sought (c .before .before .before .before .before .before .before .before .before .before .before .before .x .given .0 .0 .syntax .service) (c .before .before .before .before .before .before .before .before .before .before .before .before .before .before .before .before .before .before .before .before .args .s .now) (c .before .before .before .before .before .before .before .before .before .before .before .before .before .before .message-named .last .1 .1 .1 .0) (c .before .before .before .before .before .before .before .before .before .before .before .before .before .before .before .before .before .before .before .before .args .header .now) (c .before .group-named .ensures) (c .before .before .trailers-of .ensures)) (c .run-by .ensures), scope2-inside (w .1) (c .before .before .before .before .before .before .before .before .before .before .before .before .before .before .before .before .before .before .before .before .args .header .now) (c .before .before .before .before .before .header-of .ensures) (groups-sought (c .before .before .before .before .before .before .before .before .before .before .before .before .x .given .0 .0 .syntax .service) (c .before .before .before .before .before .before .before .before .before .before .before .before .before .before .before .before .before .before .before .before .args .s .now) (c .before .before .before .before .before .before .before .before .before .before .before .before .before .before .message-named .last .1 .1 .1 .0) (c .before .before .before .before .before .before .before .before .before .before .before .before .before .before .before .before .before .before .before .before .args .header .now) (c .before .group-named .ensures) (c .before .before .trailers-of .ensures)) (c .run-by .ensures))
+returns c = let w = as-here (c .before .before .before .before .before .before .before .before .before .before .before .before .before .before .before .before .before .before .before .before .args .s .now) (c .before .before .before .before .before .before .before .before .before .before .before .before .before .before .before .before .before .before .before .before .args .message .now) (c .before .before .before .before .before .before .before .before .before .before .before .before .before .before .message-named .last .1 .1 .0) (c .before .before .before .before .before .before .before .before .before .before .before .before .before .before .message-named .last .1 .1 .1 .0) (c .before .before .before .before .before .before .before .before .before .before .before .before .before .before .message-named .ensures) (c .before .before .before .before .before .before .before .before .before .before .before .before .x .given .1) in run-promised (scope2Of (c .before .before .before .before .before .before .before .before .before .before .before .before .before .before .before .before .before .before .before .before .args .s .now) (c .before .before .before .before .before .before .before .before .before .before .before .before .before .before .before .before .before .before .before .before .args .message .now) (c .before .before .before .before .before .before .before .before .before .before .before .before .before .before .before .before .before .before .before .before .args .header .now)) (scope2-here (w .1) (c .before .before .before .before .before .before .before .before .before .before .before .before .before .before .before .before .before .before .before .before .args .header .now) (c .before .before .before .before .before .header-of .ensures) (groups-sought (c .before .before .before .before .before .before .before .before .before .before .before .before .x .given .0 .0 .syntax .service) (c .before .before .before .before .before .before .before .before .before .before .before .before .before .before .before .before .before .before .before .before .args .s .now) (c .before .before .before .before .before .before .before .before .before .before .before .before .before .before .message-named .last .1 .1 .1 .0) (c .before .before .before .before .before .before .before .before .before .before .before .before .before .before .before .before .before .before .before .before .args .header .now) (c .before .group-named .ensures) (c .before .before .trailers-of .ensures)) (c .run-by .ensures)) (scope2-inside (w .1) (c .before .before .before .before .before .before .before .before .before .before .before .before .before .before .before .before .before .before .before .before .args .header .now) (c .before .before .before .before .before .header-of .ensures) (groups-sought (c .before .before .before .before .before .before .before .before .before .before .before .before .x .given .0 .0 .syntax .service) (c .before .before .before .before .before .before .before .before .before .before .before .before .before .before .before .before .before .before .before .before .args .s .now) (c .before .before .before .before .before .before .before .before .before .before .before .before .before .before .message-named .last .1 .1 .1 .0) (c .before .before .before .before .before .before .before .before .before .before .before .before .before .before .before .before .before .before .before .before .args .header .now) (c .before .group-named .ensures) (c .before .before .trailers-of .ensures)) (c .run-by .ensures))
 
 -- src/scopes.rt:117:1
 returns-2 : tie.Need-returns-2
-returns-2 c = (scope2-missing (c .before .before .before .before .before .before .before .before .before .args .s .now) (c .before .before .before .before .before .before .before .before .before .args .message .now) (c .before .before .before .before .before .before .before .before .before .args .header .now) (c .missing .ensures) (as-missing (c .before .before .before .before .before .before .before .before .before .args .s .now) (c .before .before .before .before .before .before .before .before .before .args .message .now) (c .before .before .before .message-named .last .1 .1 .0) (c .before .before .before .message-named .last .1 .1 .1 .0) (c .before .before .before .message-named .ensures) (c .before .enum-told .given .1)), tt)
+returns-2 c = run-promised (scope2Of (c .before .before .before .before .before .before .before .before .before .args .s .now) (c .before .before .before .before .before .before .before .before .before .args .message .now) (c .before .before .before .before .before .before .before .before .before .args .header .now)) (scope2-missing (c .before .before .before .before .before .before .before .before .before .args .s .now) (c .before .before .before .before .before .before .before .before .before .args .message .now) (c .before .before .before .before .before .before .before .before .before .args .header .now) (c .missing .ensures) (as-missing (c .before .before .before .before .before .before .before .before .before .args .s .now) (c .before .before .before .before .before .before .before .before .before .args .message .now) (c .before .before .before .message-named .last .1 .1 .0) (c .before .before .before .message-named .last .1 .1 .1 .0) (c .before .before .before .message-named .ensures) (c .before .enum-told .given .1))) tt
 
 -- src/scopes.rt:117:1
 returns-3 : tie.Need-returns-3
-returns-3 c = (scope2-refused (c .before .before .before .before .before .before .before .before .before .args .s .now) (c .before .before .before .before .before .before .before .before .before .args .message .now) (c .before .before .before .before .before .before .before .before .before .args .header .now) (as-refused (c .before .before .before .before .before .before .before .before .before .args .s .now) (c .before .before .before .before .before .before .before .before .before .args .message .now) (c .before .before .before .message-named .last .1 .1 .0) (c .before .before .before .message-named .last .1 .1 .1 .0) (c .before .before .before .message-named .ensures) (c .before .f .given .1)), tt)
+returns-3 c = run-promised (scope2Of (c .before .before .before .before .before .before .before .before .before .args .s .now) (c .before .before .before .before .before .before .before .before .before .args .message .now) (c .before .before .before .before .before .before .before .before .before .args .header .now)) (scope2-refused (c .before .before .before .before .before .before .before .before .before .args .s .now) (c .before .before .before .before .before .before .before .before .before .args .message .now) (c .before .before .before .before .before .before .before .before .before .args .header .now) (as-refused (c .before .before .before .before .before .before .before .before .before .args .s .now) (c .before .before .before .before .before .before .before .before .before .args .message .now) (c .before .before .before .message-named .last .1 .1 .0) (c .before .before .before .message-named .last .1 .1 .1 .0) (c .before .before .before .message-named .ensures) (c .before .f .given .1))) tt
 
 pub scope2-places-spec : {M : Type 1} → statement M
 scope2-places-spec =

@@ -25,7 +25,7 @@ enum-known-r c = search needs
 
 -- src/scopes.rt:176:23
 own-part-requires : tie.Need-own-part-requires
-own-part-requires c κs = run-inside (length (c .before .before .before .before .before .before .before .args .s .now)) (c .before .r .given .1) (c .before .before .before .scope2-places .ensures .1)
+own-part-requires c κs = run-inside (length (c .before .before .before .before .before .before .before .args .s .now)) (c .before .r .given .1) (c .before .before .before .scope2-places .ensures .1 .1)
 
 -- src/scopes.rt:177:28
 enum-told : tie.Need-enum-told
@@ -37,11 +37,11 @@ own-part-requires-2 c κs = search needs
 
 -- src/scopes.rt:171:1
 returns : tie.Need-returns
-returns c = (part-octets (c .before .before .before .before .before .before .before .before .args .s .now) (runPart (scope2Of (c .before .before .before .before .before .before .before .before .args .s .now) (c .before .before .before .before .before .before .before .before .args .message .now) (c .before .before .before .before .before .before .before .before .args .header .now))) (run-part (scope2Of (c .before .before .before .before .before .before .before .before .args .s .now) (c .before .before .before .before .before .before .before .before .args .message .now) (c .before .before .before .before .before .before .before .before .args .header .now)) (ap toldRun (sym (c .before .before .r .given .1)) ∙ c .before .before .before .before .scope2-places .ensures .0)) (c .own-part .ensures .0), part-placed (c .before .before .before .before .before .before .before .before .args .s .now) (runPart (scope2Of (c .before .before .before .before .before .before .before .before .args .s .now) (c .before .before .before .before .before .before .before .before .args .message .now) (c .before .before .before .before .before .before .before .before .args .header .now))) (run-part (scope2Of (c .before .before .before .before .before .before .before .before .args .s .now) (c .before .before .before .before .before .before .before .before .args .message .now) (c .before .before .before .before .before .before .before .before .args .header .now)) (ap toldRun (sym (c .before .before .r .given .1)) ∙ c .before .before .before .before .scope2-places .ensures .0)) (ptr (c .before .before .before .before .before .before .before .before .args .s) .1) (c .own-part .ensures .1))
+returns c = (part-octets (c .before .before .before .before .before .before .before .before .args .s .now) (runPart (scope2Of (c .before .before .before .before .before .before .before .before .args .s .now) (c .before .before .before .before .before .before .before .before .args .message .now) (c .before .before .before .before .before .before .before .before .args .header .now))) (run-part (scope2Of (c .before .before .before .before .before .before .before .before .args .s .now) (c .before .before .before .before .before .before .before .before .args .message .now) (c .before .before .before .before .before .before .before .before .args .header .now)) (ap toldRun (sym (c .before .before .r .given .1)) ∙ c .before .before .before .before .scope2-places .ensures .1 .0)) (c .own-part .ensures .0), part-placed (c .before .before .before .before .before .before .before .before .args .s .now) (runPart (scope2Of (c .before .before .before .before .before .before .before .before .args .s .now) (c .before .before .before .before .before .before .before .before .args .message .now) (c .before .before .before .before .before .before .before .before .args .header .now))) (run-part (scope2Of (c .before .before .before .before .before .before .before .before .args .s .now) (c .before .before .before .before .before .before .before .before .args .message .now) (c .before .before .before .before .before .before .before .before .args .header .now)) (ap toldRun (sym (c .before .before .r .given .1)) ∙ c .before .before .before .before .scope2-places .ensures .1 .0)) (ptr (c .before .before .before .before .before .before .before .before .args .s) .1) (c .own-part .ensures .1))
 
 -- src/scopes.rt:171:1
 returns-2 : tie.Need-returns-2
-returns-2 c = (part-octets (c .before .before .before .before .before .before .before .args .s .now) (runPart (scope2Of (c .before .before .before .before .before .before .before .args .s .now) (c .before .before .before .before .before .before .before .args .message .now) (c .before .before .before .before .before .before .before .args .header .now))) (run-part (scope2Of (c .before .before .before .before .before .before .before .args .s .now) (c .before .before .before .before .before .before .before .args .message .now) (c .before .before .before .before .before .before .before .args .header .now)) (ap toldRun (sym (c .before .enum-told .given .1)) ∙ c .before .before .before .scope2-places .ensures .0)) (c .own-part2 .ensures .0), part-placed (c .before .before .before .before .before .before .before .args .s .now) (runPart (scope2Of (c .before .before .before .before .before .before .before .args .s .now) (c .before .before .before .before .before .before .before .args .message .now) (c .before .before .before .before .before .before .before .args .header .now))) (run-part (scope2Of (c .before .before .before .before .before .before .before .args .s .now) (c .before .before .before .before .before .before .before .args .message .now) (c .before .before .before .before .before .before .before .args .header .now)) (ap toldRun (sym (c .before .enum-told .given .1)) ∙ c .before .before .before .scope2-places .ensures .0)) (ptr (c .before .before .before .before .before .before .before .args .s) .1) (c .own-part2 .ensures .1))
+returns-2 c = (part-octets (c .before .before .before .before .before .before .before .args .s .now) (runPart (scope2Of (c .before .before .before .before .before .before .before .args .s .now) (c .before .before .before .before .before .before .before .args .message .now) (c .before .before .before .before .before .before .before .args .header .now))) (run-part (scope2Of (c .before .before .before .before .before .before .before .args .s .now) (c .before .before .before .before .before .before .before .args .message .now) (c .before .before .before .before .before .before .before .args .header .now)) (ap toldRun (sym (c .before .enum-told .given .1)) ∙ c .before .before .before .scope2-places .ensures .1 .0)) (c .own-part2 .ensures .0), part-placed (c .before .before .before .before .before .before .before .args .s .now) (runPart (scope2Of (c .before .before .before .before .before .before .before .args .s .now) (c .before .before .before .before .before .before .before .args .message .now) (c .before .before .before .before .before .before .before .args .header .now))) (run-part (scope2Of (c .before .before .before .before .before .before .before .args .s .now) (c .before .before .before .before .before .before .before .args .message .now) (c .before .before .before .before .before .before .before .args .header .now)) (ap toldRun (sym (c .before .enum-told .given .1)) ∙ c .before .before .before .scope2-places .ensures .1 .0)) (ptr (c .before .before .before .before .before .before .before .args .s) .1) (c .own-part2 .ensures .1))
 
 pub scope2-run-spec : {M : Type 1} → statement M
 scope2-run-spec =
