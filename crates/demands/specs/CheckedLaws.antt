@@ -13,7 +13,7 @@ use Rattle.grammar.specs.PlacingLaws.{same-eq}
 use Rattle.grammar.specs.Verdict.{Verdict, accepted, refusedWith, verdictOf}
 use Rattle.writing.specs.Written.{Text, text, noText, refusedAs, Writes}
 use Rattle.writing.specs.declared.Written.the-variants.{Length}
-use Rattle.register.specs.Register.{registerIn, registerBy, registerOf, checkNumbers, told}
+use Rattle.register.specs.Register.{registerIn, registerBy, registerOf, checkRefused, told, checkNumbers}
 use Rattle.register.specs.declared.register.Checked.the-variants.{Same}
 use Rattle.demands.specs.NumbersLaws.{refused-number}
 
@@ -31,7 +31,7 @@ same-self (b ∷ t) = rw (eq-eqb b b refl) (same-self t)
 text-accepted : (t g : List ℕ) → told Same ≡ checkNumbers (text t) g → Accepted (text t) g
 text-accepted t g e = by (ltb 65535 (length t)) (ltb-false 65535 (length t)) (same t g) (λ d. same-eq t g (subst T (sym d) tt)) e
   where
-    by : (l : Bool) → (l ≡ false → length t ≤ 65535) → (b : Bool) → (b ≡ true → t ≡ g) → told Same ≡ cond {A = List ℕ} l (13 ∷ 0 ∷ []) (cond {A = List ℕ} b (0 ∷ 0 ∷ []) (13 ∷ 0 ∷ []))
+    by : (l : Bool) → (l ≡ false → length t ≤ 65535) → (b : Bool) → (b ≡ true → t ≡ g) → told Same ≡ told (cond l (checkRefused 13 0) (cond b Same (checkRefused 13 0)))
         → Accepted (text t) g
     by true k b f e = let z : _≡_ {A = ℕ} 0 13 = cc in absurd (omega arith)
     by false k false f e = let z : _≡_ {A = ℕ} 0 13 = cc in absurd (omega arith)

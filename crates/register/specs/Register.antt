@@ -78,10 +78,17 @@ LaysAll y s p out (Refused f) out′ = answerFrom y s p ≡ refused (f .number) 
 
 -- ---- "another checks one against the interchange": equal octets, or 13. One that is too long to be written is none
 
-abbrev pub checkNumbers : Text → List ℕ → List ℕ
-checkNumbers (noText n p) r = n ∷ p ∷ []
-checkNumbers (text t) r = cond (ltb 65535 (length t)) (13 ∷ 0 ∷ []) (cond (same t r) (0 ∷ 0 ∷ []) (13 ∷ 0 ∷ []))
+abbrev pub checkRefused : ℕ → ℕ → Checked
+checkRefused number place = Differs (record { number = number; place = place })
 
+abbrev pub checkedAs : Text → List ℕ → Checked
+checkedAs (noText number place) r = checkRefused number place
+checkedAs (text t) r = cond (ltb 65535 (length t)) (checkRefused 13 0) (cond (same t r) Same (checkRefused 13 0))
+
+-- the paper's number and place for each case
 abbrev pub told : Checked → List ℕ
 told Same = 0 ∷ 0 ∷ []
 told (Differs f) = f .number ∷ f .place ∷ []
+
+abbrev pub checkNumbers : Text → List ℕ → List ℕ
+checkNumbers x r = told (checkedAs x r)

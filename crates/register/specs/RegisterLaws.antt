@@ -4,14 +4,12 @@ use native.Mathlib.Omega.{arith}
 use mathlib.Core.Bool.{Bool, true, false, cond}
 use mathlib.Core.List.{List, [], _∷_, _++_, append-nil, append-assoc}
 use mathlib.Core.Path.{_≡_, refl, ap, sym, _∙_, subst}
-use lib.Dec.{T}
 use lib.ListN.{length, length-append}
 use lib.Seq.{slice}
 use Rattle.syntax.specs.CuttingLaws.{slice-take}
 use borrow.Author.Tests.{lt-ltb, le-ltb}
 use Rattle.syntax.specs.Octets.{same}
 use Rattle.syntax.specs.Content.{content}
-use Rattle.grammar.specs.PlacingLaws.{same-eq}
 use Rattle.walk.specs.SectionLaws.{plain-content}
 use Rattle.syntax.specs.Service.{fit}
 use Rattle.syntax.specs.Opening.{begunOf}
@@ -45,7 +43,8 @@ use Rattle.writing.specs.Written.{Text, text, noText, refusedAs, Writes}
 use Rattle.writing.specs.WrittenLaws.{writes-none, writes-long, writes-full, writes-done}
 use Rattle.writing.specs.declared.Written.{Written}
 use Rattle.writing.specs.declared.Written.the-variants.{Length, Refused}
-use Rattle.register.specs.Register.{highest, entryOf, entriesOf, registerIn, registerBy, registerOf, entryAt, sectionAt, entriesRead, LaysAll, checkNumbers}
+use Rattle.register.specs.Register.{highest, entryOf, entriesOf, registerIn, registerBy, registerOf, entryAt, sectionAt, entriesRead, LaysAll, checkRefused, checkedAs}
+use Rattle.register.specs.declared.register.Checked.the-variants.{Same, Refused as Differs}
 
 -- ---- lengths
 
@@ -284,29 +283,29 @@ module _ (s : List ℕ) (x : Start) (e : begunOf s ≡ Begins x) where
         subst (λ (t : Text). Writes t out r out′) (sym (register-so w)) (subst (λ (r : Written). Writes (text (registerAt (x .syntax .service) (x .at) (w .u) (w .ms))) out r out′) (sym (q .0)) (writes-done long l h (q .1)))
 
     -- the check: it is compared with what would be written
-    pub check-long : (r : List ℕ) → 65535 < m → 13 ∷ 0 ∷ [] ≡ checkNumbers (registerOf s) r
-    check-long r h = sym (ap (λ (t : Text). checkNumbers t r) (register-so w) ∙ rw (← long, lt-ltb _ _ h))
+    pub check-long : (r : List ℕ) → 65535 < m → checkRefused 13 0 ≡ checkedAs (registerOf s) r
+    check-long r h = sym (ap (λ (t : Text). checkedAs t r) (register-so w) ∙ rw (← long, lt-ltb _ _ h))
 
     pub check-laid : (r : List ℕ) {out : List ℕ} {a : Written} {out′ z : List ℕ} {b : Bool} → m ≤ 65535 → m ≤ length out → (a ≡ Length m) × Laid out 0 (registerAt (x .syntax .service) (x .at) (w .u) (w .ms)) m out′
-        → z ≡ slice 0 m out′ → b ≡ same (content 32 z) r → cond {A = List ℕ} b (0 ∷ 0 ∷ []) (13 ∷ 0 ∷ []) ≡ checkNumbers (registerOf s) r
+        → z ≡ slice 0 m out′ → b ≡ same (content 32 z) r → cond b Same (checkRefused 13 0) ≡ checkedAs (registerOf s) r
     check-laid r {out = out} {out′ = out′} {z = z} {b = b} l h q d f =
         let k : length (registerAt (x .syntax .service) (x .at) (w .u) (w .ms)) ≤ length out = omega (arith, long, h) in
         let v : slice 0 m out′ ≡ registerAt (x .syntax .service) (x .at) (w .u) (w .ms) =
         slice-take 0 m out′ ∙ laid-part (q .1) k in
         let g : b ≡ same (registerAt (x .syntax .service) (x .at) (w .u) (w .ms)) r = f ∙ ap (λ (y : List ℕ). same y r) (plain-content z ∙ d ∙ v) in
-        ap (λ (c : Bool). cond {A = List ℕ} c (0 ∷ 0 ∷ []) (13 ∷ 0 ∷ [])) g ∙ sym (ap (λ (t : Text). checkNumbers t r) (register-so w) ∙ rw (← long, le-ltb _ _ l))
+        ap (λ (c : Bool). cond c Same (checkRefused 13 0)) g ∙ sym (ap (λ (t : Text). checkedAs t r) (register-so w) ∙ rw (← long, le-ltb _ _ l))
 
     module _ (r : List ℕ) {out : List ℕ} {a : Written} {out′ z : List ℕ} {b : Bool} (l : m ≤ 65535) (h : m ≤ length out)
         (q : (a ≡ Length m) × Laid out 0 (registerAt (x .syntax .service) (x .at) (w .u) (w .ms)) m out′) (d : z ≡ slice 0 m out′) (f : b ≡ same (content 32 z) r) where
-      pub check-same : b ≡ true → 0 ∷ 0 ∷ [] ≡ checkNumbers (registerOf s) r
-      check-same k = sym (ap (λ (c : Bool). cond {A = List ℕ} c (0 ∷ 0 ∷ []) (13 ∷ 0 ∷ [])) k) ∙ check-laid r l h q d f
+      pub check-same : b ≡ true → Same ≡ checkedAs (registerOf s) r
+      check-same k = sym (ap (λ (c : Bool). cond c Same (checkRefused 13 0)) k) ∙ check-laid r l h q d f
 
-      pub check-other : b ≡ false → 13 ∷ 0 ∷ [] ≡ checkNumbers (registerOf s) r
-      check-other k = sym (ap (λ (c : Bool). cond {A = List ℕ} c (0 ∷ 0 ∷ []) (13 ∷ 0 ∷ [])) k) ∙ check-laid r l h q d f
+      pub check-other : b ≡ false → checkRefused 13 0 ≡ checkedAs (registerOf s) r
+      check-other k = sym (ap (λ (c : Bool). cond c Same (checkRefused 13 0)) k) ∙ check-laid r l h q d f
 
-  pub check-refused : (r none none′ : List ℕ) {a : Written} {f : Refusal} → a ≡ Refused f → LaysAll (x .syntax) s (x .at) none a none′ → f .number ∷ f .place ∷ [] ≡ checkNumbers (registerOf s) r
+  pub check-refused : (r none none′ : List ℕ) {a : Written} {f : Refusal} → a ≡ Refused f → LaysAll (x .syntax) s (x .at) none a none′ → Differs f ≡ checkedAs (registerOf s) r
   check-refused r none none′ {a} {f} d q =
-      sym (ap (λ (v : Verdict). checkNumbers (registerBy v) r) (verdict-by s refl e (subst (λ (r : Written). LaysAll (x .syntax) s (x .at) none r none′) d q)))
+      sym (ap (λ (v : Verdict). checkedAs (registerBy v) r) (verdict-by s refl e (subst (λ (r : Written). LaysAll (x .syntax) s (x .at) none r none′) d q)))
 
 module _ (s : List ℕ) {g : Begun} {f : Refusal} (e : g ≡ begunOf s) (d : g ≡ Refuses f) where
   unbegun : registerOf s ≡ noText (f .number) (f .place)
@@ -315,13 +314,5 @@ module _ (s : List ℕ) {g : Begun} {f : Refusal} (e : g ≡ begunOf s) (d : g �
   pub write-unbegun : (out : List ℕ) → Writes (registerOf s) out (Refused f) out
   write-unbegun out = subst (λ (t : Text). Writes t out (Refused f) out) (sym unbegun) (writes-none refl)
 
-  pub check-unbegun : (r : List ℕ) → f .number ∷ f .place ∷ [] ≡ checkNumbers (registerOf s) r
-  check-unbegun r = sym (ap (λ (t : Text). checkNumbers t r) unbegun)
-
--- D2e: the check accepts exactly what the write writes
-pub accepts-written : (t r : List ℕ) → length t ≤ 65535 → checkNumbers (text t) r ≡ 0 ∷ 0 ∷ [] → t ≡ r
-accepts-written t r l e = by (same t r) (λ d. same-eq t r (subst T (sym d) tt)) (rw (le-ltb 65535 (length t) l) at e)
-  where
-    by : (b : Bool) → (b ≡ true → t ≡ r) → cond {A = List ℕ} b (0 ∷ 0 ∷ []) (13 ∷ 0 ∷ []) ≡ 0 ∷ 0 ∷ [] → t ≡ r
-    by true f q = f refl
-    by false f q = let z : _≡_ {A = ℕ} 13 0 = cc in absurd (omega arith)
+  pub check-unbegun : (r : List ℕ) → Differs f ≡ checkedAs (registerOf s) r
+  check-unbegun r = sym (ap (λ (t : Text). checkedAs t r) unbegun)

@@ -1,6 +1,5 @@
 // Writing the register of an interchange, and checking one against it.
 ghost use mathlib.Core.Path.{_≡_};
-ghost use mathlib.Core.List.{[], _∷_};
 ghost use Prim.Native.Nat.{_≤_};
 ghost use lib.Dec.{T};
 ghost use lib.ListN.{length};
@@ -12,7 +11,7 @@ ghost use Rattle.walk.specs.RunLaws.{Fresh};
 ghost use Rattle.writing.specs.Written.{Writes, refusedAs};
 ghost use Rattle.writing.specs.Laid.{Laid};
 ghost use Rattle.writing.specs.declared.Written.the-variants.{Length};
-ghost use Rattle.register.specs.Register.{registerOf, checkNumbers, LaysAll, told};
+ghost use Rattle.register.specs.Register.{registerOf, LaysAll, checkRefused, checkedAs, told, checkNumbers};
 ghost use Rattle.register.specs.RegisterLaws.{Whole, registerAt};
 use crate::entries::put_four;
 use crate::entries::put_section;
@@ -202,7 +201,7 @@ pub fn register_write(s: &[u8], out: &mut [u8]) -> Written
 }
 
 fn differs() -> Checked
-    ensures { λ r. ⌜ told r ≡ 13 ∷ 0 ∷ [] ⌝ }
+    ensures { λ r. ⌜ r ≡ checkRefused 13 0 ⌝ }
 {
     Checked::Refused(Refusal {
         number: 13,
@@ -215,7 +214,7 @@ fn check_from(s: &[u8], from: usize, t: &[u8; 256], y: Syntax, register: &[u8]) 
     requires { ⌜ Table y (now t) ⌝ }
     requires { ⌜ T (fit (y .service)) ⌝ }
     requires { ⌜ (length (now s) ≤ 65535) × (begunOf (now s) ≡ Begins (record { syntax = y; at = from })) ⌝ }
-    ensures { λ r. ⌜ told r ≡ checkNumbers (registerOf (now (s .entry))) (now (register .entry)) ⌝ }
+    ensures { λ r. ⌜ r ≡ checkedAs (registerOf (now (s .entry))) (now (register .entry)) ⌝ }
 {
     let mut none = [0u8; 1];
     match lay(s, from, t, y, &mut none) {
@@ -236,6 +235,7 @@ fn check_from(s: &[u8], from: usize, t: &[u8; 256], y: Syntax, register: &[u8]) 
 
 // Whether `register` is the register of the interchange: equal octets, or 13.
 pub fn register_check(s: &[u8], register: &[u8]) -> Checked
+    ensures { λ r. ⌜ r ≡ checkedAs (registerOf (now (s .entry))) (now (register .entry)) ⌝ }
     ensures { λ r. ⌜ told r ≡ checkNumbers (registerOf (now (s .entry))) (now (register .entry)) ⌝ }
 {
     match begin(s) {

@@ -17,7 +17,7 @@ run-answer-requires c κs = search needs
 
 -- src/lib.rt:209:1
 returns : tie.Need-returns
-returns c = c .run-answer .ensures ∙ c .before .f01-places .ensures .0
+returns c = c .run-answer .ensures ∙ c .before .f01-places .ensures .1 .0
 
 pub gurandepi-f01-spec : {M : Type 1} → statement M
 gurandepi-f01-spec = tie.close (tie.spec f01-places-requires run-answer-requires returns)

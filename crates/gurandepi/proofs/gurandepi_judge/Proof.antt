@@ -17,7 +17,7 @@ verdict-answer-requires c κs = search needs
 
 -- src/lib.rt:177:1
 returns : tie.Need-returns
-returns c = c .verdict-answer .ensures ∙ c .before .judge .ensures
+returns c = c .verdict-answer .ensures ∙ c .before .judge .ensures .1
 
 pub gurandepi-judge-spec : {M : Type 1} → statement M
 gurandepi-judge-spec = tie.close (tie.spec judge-requires verdict-answer-requires returns)

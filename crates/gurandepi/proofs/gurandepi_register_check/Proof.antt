@@ -17,7 +17,7 @@ checked-answer-requires c κs = search needs
 
 -- src/lib.rt:243:1
 returns : tie.Need-returns
-returns c = c .checked-answer .ensures ∙ c .before .register-check .ensures
+returns c = c .checked-answer .ensures ∙ c .before .register-check .ensures .1
 
 pub gurandepi-register-check-spec : {M : Type 1} → statement M
 gurandepi-register-check-spec =

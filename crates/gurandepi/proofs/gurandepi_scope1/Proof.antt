@@ -17,7 +17,7 @@ parts-answer-requires c κs = search needs
 
 -- src/lib.rt:193:1
 returns : tie.Need-returns
-returns c = c .parts-answer .ensures ∙ c .before .scope1-places .ensures .0
+returns c = c .parts-answer .ensures ∙ c .before .scope1-places .ensures .1 .0
 
 pub gurandepi-scope1-spec : {M : Type 1} → statement M
 gurandepi-scope1-spec = tie.close (tie.spec scope1-places-requires parts-answer-requires returns)

@@ -17,7 +17,7 @@ run-answer-requires c κs = search needs
 
 -- src/lib.rt:201:1
 returns : tie.Need-returns
-returns c = c .run-answer .ensures ∙ c .before .scope2-places .ensures .0
+returns c = c .run-answer .ensures ∙ c .before .scope2-places .ensures .1 .0
 
 pub gurandepi-scope2-spec : {M : Type 1} → statement M
 gurandepi-scope2-spec = tie.close (tie.spec scope2-places-requires run-answer-requires returns)

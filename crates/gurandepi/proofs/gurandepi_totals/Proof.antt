@@ -17,7 +17,7 @@ totals-answer-requires c κs = search needs
 
 -- src/lib.rt:185:1
 returns : tie.Need-returns
-returns c = c .totals-answer .ensures ∙ c .before .message-totals .ensures
+returns c = c .totals-answer .ensures ∙ c .before .message-totals .ensures .1
 
 pub gurandepi-totals-spec : {M : Type 1} → statement M
 gurandepi-totals-spec = tie.close (tie.spec message-totals-requires totals-answer-requires returns)

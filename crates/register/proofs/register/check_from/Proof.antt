@@ -5,7 +5,6 @@ use borrow.Author.Needs.{needs}
 use lib.ListN.{length}
 use mathlib.Core.Bool.{true, false}
 use mathlib.Core.List.{[], _∷_}
-use Rattle.register.specs.Register.{told}
 use Rattle.register.specs.RegisterLaws.{measured, check-refused, check-long, check-same, check-other, long-enough}
 use Rattle.register.proofs.register.check_from.Statement.{statement}
 use Rattle.register.proofs.register.check_from.Tie as tie

@@ -6,6 +6,7 @@ use lib.ListN.{length}
 use mathlib.Core.Bool.{true, false}
 use mathlib.Core.List.{[], _∷_}
 use Rattle.walk.specs.RunLaws.{begun-fits}
+use Rattle.register.specs.Register.{told}
 use Rattle.register.specs.RegisterLaws.{check-unbegun}
 use Rattle.register.proofs.register.register_check.Statement.{statement}
 use Rattle.register.proofs.register.register_check.Tie as tie
@@ -37,11 +38,11 @@ check-from-requires c κs = let w = begun-fits (c .before .before .before .befor
 
 -- src/register.rt:216:1
 returns : tie.Need-returns
-returns c = check-unbegun (c .before .before .before .before .before .before .args .s .now) (c .before .before .before .begin .ensures) (c .before .f .given .1) (c .before .before .before .before .before .before .args .register .now)
+returns c = let e = check-unbegun (c .before .before .before .before .before .before .args .s .now) (c .before .before .before .begin .ensures) (c .before .f .given .1) (c .before .before .before .before .before .before .args .register .now) in (e, ap told e)
 
 -- src/register.rt:216:1
 returns-2 : tie.Need-returns-2
-returns-2 c = search needs
+returns-2 c = (c .check-from .ensures, ap told (c .check-from .ensures))
 
 pub register-check-spec : {M : Type 1} → statement M
 register-check-spec =
