@@ -67,7 +67,7 @@ totalledBy (Here c) = Of (record { loads = c .loads; grams = c .grams })
 totalledBy Missing = Refused (record { number = 13; place = 0 })
 totalledBy (NotRead f) = Refused f
 
--- the totals as the call answers them
+-- the totals as the call answers them: loads and grams, or the refusal's number and place
 abbrev pub totalsAs : Totalled → Totals
 totalsAs (totalled loads grams) = Of (record { loads = loads; grams = grams })
 totalsAs (refusedTotals number place) = Refused (record { number = number; place = place })

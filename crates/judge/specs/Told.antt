@@ -9,7 +9,7 @@ use Rattle.judge.specs.declared.run.Verdict.the-variants.{Accepted, Refu
 abbrev pub refusedAs : ℕ → ℕ → Verdict
 refusedAs number place = Refused (record { number = number; place = place })
 
--- of an accepted interchange the reading is not handed out
+-- "a verdict enum carries a refusal struct": its number and place; of an accepted interchange the reading is not handed out
 abbrev pub verdictAs : Judged → Verdict
 verdictAs (accepted t) = Accepted
 verdictAs (refusedWith number place) = refusedAs number place
@@ -18,6 +18,7 @@ verdictAs (refusedWith number place) = refusedAs number place
 abbrev pub walkedAs : Answer → Verdict
 walkedAs a = verdictAs (concluded none a)
 
+-- the paper's number and place, 0 where there is none
 abbrev pub told : Verdict → List ℕ
 told Accepted = 0 ∷ 0 ∷ []
 told (Refused f) = f .number ∷ f .place ∷ []

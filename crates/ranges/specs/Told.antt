@@ -17,13 +17,17 @@ use Rattle.ranges.specs.declared.scopes.Scope1.the-variants.{Of as Parte
 use Rattle.ranges.specs.declared.scopes.Run.{Run as Ran}
 use Rattle.ranges.specs.declared.scopes.Run.the-variants.{Of as RunOf, Refused as RunRefused}
 
+-- "A companion call gives start and end", of the header part and of the body part; or the refusal's number and place
 abbrev pub partsAs : Answered Parts → Scope1
 partsAs (given (parts a b c d)) = Parted (record { header = record { start = a; end = b }; body = record { start = c; end = d } })
 partsAs (refusedAs number place) = PartsRefused (record { number = number; place = place })
 
+-- the same of one run
 abbrev pub runAs : Answered Run → Ran
 runAs (given (run a b)) = RunOf (record { start = a; end = b })
 runAs (refusedAs number place) = RunRefused (record { number = number; place = place })
+
+-- ---- the numbers
 
 abbrev pub partNumbers : Answered Parts → List ℕ
 partNumbers (given (parts a b c d)) = 0 ∷ 0 ∷ a ∷ b ∷ c ∷ d ∷ []

@@ -85,7 +85,7 @@ abbrev pub checkedAs : Text → List ℕ → Checked
 checkedAs (noText number place) r = checkRefused number place
 checkedAs (text t) r = cond (ltb 65535 (length t)) (checkRefused 13 0) (cond (same t r) Same (checkRefused 13 0))
 
--- the paper's number and place for each case
+-- the paper's number and place for each case, 0 where there is none
 abbrev pub told : Checked → List ℕ
 told Same = 0 ∷ 0 ∷ []
 told (Differs f) = f .number ∷ f .place ∷ []
