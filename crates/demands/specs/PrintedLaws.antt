@@ -38,7 +38,7 @@ use Rattle.groups.specs.GroupsLaws.{chosen-stands}
 use Rattle.groups.specs.Calls.{Answered, given, refusedAs, orMissing, answeredBy, then, serviceIn, messageIn}
 use Rattle.groups.specs.CallsLaws.{begins, placed-stands, none-some}
 use Rattle.ranges.specs.Ranges.{ofScope, headerIn, Parts, parts, scope1At, scope1In, scope1Of, Run, run, scope2At, scope2In, scope2Of}
-use Rattle.ranges.specs.F01.{referenceIn, runOf, runIn, f01By, f01Of}
+use Rattle.f01.specs.F01.{referenceIn, runOf, runIn, f01By, f01Of}
 use Rattle.demands.specs.Printed.{Message′, Scope1, Scope2, F01}
 use Rattle.grammar.specs.ListsLaws.{joined-join}
 

@@ -35,7 +35,7 @@ use Rattle.groups.specs.Parts.{scopeH, bodyIn}
 use Rattle.groups.specs.Calls.{given, serviceIn, messageIn}
 use Rattle.groups.specs.CallsLaws.{placed-every}
 use Rattle.ranges.specs.Ranges.{parts, scope1Of, run, scope2Of}
-use Rattle.ranges.specs.F01.{f01Of}
+use Rattle.f01.specs.F01.{f01Of}
 use Rattle.demands.specs.Printed.{Scope1, Scope2, F01}
 use Rattle.demands.specs.PrintedLaws.{read-stands, message-stands, scope1-printed, scope2-printed, f01-printed}
 use Rattle.demands.specs.Range.{Grammar, Reads, Same, totalIn, Range1, range1, scope1, Range2, range2, scope2, f01}

@@ -20,7 +20,7 @@ ghost use Rattle.grammar.specs.Verdict.{verdictOf, accepted, refusedWith, total
 ghost use Rattle.grammar.specs.Counted.{countedIn, messagesIn};
 ghost use Rattle.groups.specs.Calls.{given};
 ghost use Rattle.ranges.specs.Ranges.{parts, run, scope1Of, scope2Of};
-ghost use Rattle.ranges.specs.F01.{f01Of};
+ghost use Rattle.f01.specs.F01.{f01Of};
 ghost use Rattle.filters.specs.Octets.{Octets};
 ghost use Rattle.writing.specs.Written.{Text, text, Writes};
 ghost use Rattle.writing.specs.declared.Written.the-variants.{Length};

@@ -16,6 +16,7 @@
 // Each but the last may answer `refused NUMBER PLACE`. The answer to every other line is `bad`.
 ghost use Prim.Native.Nat.{_≤_, _<_};
 ghost use lib.ListN.{length};
+use f01::f01_places;
 use groups::named::Range;
 use judge::run::Verdict;
 use judge::run::judge;
@@ -28,7 +29,6 @@ use printing::number;
 use printing::print_refusal;
 use printing::put;
 use printing::text;
-use ranges::f01::f01_places;
 use ranges::scopes::Run;
 use ranges::scopes::Scope1;
 use ranges::scopes::scope1_places;

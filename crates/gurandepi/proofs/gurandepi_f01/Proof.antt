@@ -5,7 +5,7 @@ use Rattle.gurandepi.proofs.gurandepi_f01.Tie as tie
 use Rattle.gurandepi.proofs.gurandepi_f01.Reads as reads
 use Rattle.gurandepi.proofs.gurandepi_f01.Lts as lts
 use Rattle.gurandepi.proofs.run_answer.Reads as run-answer-reads
-use Rattle.ranges.proofs.f01.f01_places.Reads as f01-places-reads
+use Rattle.f01.proofs.f01_places.Reads as f01-places-reads
 
 -- src/lib.rt:218:16
 f01-places-requires : tie.Need-f01-places-requires

@@ -50,16 +50,16 @@ use Rattle.groups.specs.declared.links.Linked.the-variants.{At as LinkedAt, Now
 use Rattle.groups.specs.declared.named.Range.{Range}
 use Rattle.groups.specs.declared.named.Sought.{Sought}
 use Rattle.groups.specs.declared.named.Sought.the-variants.{At as HeaderAt, Nowhere}
 use Rattle.ranges.specs.Ranges.{Run, run, headerIn}
-use Rattle.ranges.specs.F01.{usxReference, referenceAt, referenceIn, runOf, runIn, f01By, f01Of}
-use Rattle.ranges.specs.Referring.{referredIn, Refers, isReferred}
+use Rattle.f01.specs.F01.{usxReference, referenceAt, referenceIn, runOf, runIn, f01By, f01Of}
+use Rattle.f01.specs.Referring.{referredIn, Refers, isReferred}
 use Rattle.ranges.specs.RangesLaws.{header-scoped}
 use Rattle.ranges.specs.Told.{missingAs, runAs, headerFound}
-use Rattle.ranges.specs.declared.f01.Referred.{Referred}
-use Rattle.ranges.specs.declared.f01.Reference.{Reference}
-use Rattle.ranges.specs.declared.f01.Reference.the-variants.{At, Missing, Refused}
+use Rattle.f01.specs.declared.Referred.{Referred}
+use Rattle.f01.specs.declared.Reference.{Reference}
+use Rattle.f01.specs.declared.Reference.the-variants.{At, Missing, Refused}
 use Rattle.ranges.specs.declared.scopes.Run.{Run as Ran}
 use Rattle.ranges.specs.declared.scopes.Run.the-variants.{Of as RunOf, Refused as RunRefused}
 
 -- ---- the USX's 0020
 

@@ -3,41 +3,41 @@ use mathlib.Core.Path.{refl, sym, ap, _∙_}
 use borrow.Author.Needs.{needs}
 use lib.ListN.{length}
 use denote.Ref.{ptr}
-use Rattle.ranges.specs.F01.{f01Of}
+use Rattle.f01.specs.F01.{f01Of}
 use Rattle.ranges.specs.Told.{toldRun, runPart}
 use Rattle.ranges.specs.RangesLaws.{run-inside, run-part, part-octets, part-placed}
-use Rattle.ranges.proofs.f01.f01_run.Statement.{statement}
-use Rattle.ranges.proofs.f01.f01_run.Tie as tie
-use Rattle.ranges.proofs.f01.f01_run.Reads as reads
-use Rattle.ranges.proofs.f01.f01_run.Lts as lts
-use Rattle.ranges.proofs.f01.f01_places.Reads as f01-places-reads
+use Rattle.f01.proofs.f01_run.Statement.{statement}
+use Rattle.f01.proofs.f01_run.Tie as tie
+use Rattle.f01.proofs.f01_run.Reads as reads
+use Rattle.f01.proofs.f01_run.Lts as lts
+use Rattle.f01.proofs.f01_places.Reads as f01-places-reads
 use Rattle.ranges.proofs.scopes.own_part.Reads as own-part-reads
 
--- src/f01.rt:176:11
+-- src/lib.rt:176:11
 f01-places-requires : tie.Need-f01-places-requires
 f01-places-requires c κs = search needs
 
--- src/f01.rt:177:17
+-- src/lib.rt:177:17
 enum-known-r : tie.Need-enum-known-r
 enum-known-r c = search needs
 
--- src/f01.rt:177:23
+-- src/lib.rt:177:23
 own-part-requires : tie.Need-own-part-requires
 own-part-requires c κs = run-inside (length (c .before .before .before .before .before .before .before .before .args .referenced .now)) (c .before .r .given .1) (c .before .before .before .f01-places .ensures .1 .1)
 
--- src/f01.rt:178:28
+-- src/lib.rt:178:28
 enum-told : tie.Need-enum-told
 enum-told c = search needs
 
--- src/f01.rt:178:28
+-- src/lib.rt:178:28
 own-part-requires-2 : tie.Need-own-part-requires-2
 own-part-requires-2 c κs = search needs
 
--- src/f01.rt:167:1
+-- src/lib.rt:167:1
 returns : tie.Need-returns
 returns c = (part-octets (c .before .before .before .before .before .before .before .before .before .args .referenced .now) (runPart (f01Of (c .before .before .before .before .before .before .before .before .before .args .autack .now) (c .before .before .before .before .before .before .before .before .before .args .referenced .now) (c .before .before .before .before .before .before .before .before .before .args .message .now) (c .before .before .before .before .before .before .before .before .before .args .header .now))) (run-part (f01Of (c .before .before .before .before .before .before .before .before .before .args .autack .now) (c .before .before .before .before .before .before .before .before .before .args .referenced .now) (c .before .before .before .before .before .before .before .before .before .args .message .now) (c .before .before .before .before .before .before .before .before .before .args .header .now)) (ap toldRun (sym (c .before .before .r .given .1)) ∙ c .before .before .before .before .f01-places .ensures .1 .0)) (c .own-part .ensures .0), part-placed (c .before .before .before .before .before .before .before .before .before .args .referenced .now) (runPart (f01Of (c .before .before .before .before .before .before .before .before .before .args .autack .now) (c .before .before .before .before .before .before .before .before .before .args .referenced .now) (c .before .before .before .before .before .before .before .before .before .args .message .now) (c .before .before .before .before .before .before .before .before .before .args .header .now))) (run-part (f01Of (c .before .before .before .before .before .before .before .before .before .args .autack .now) (c .before .before .before .before .before .before .before .before .before .args .referenced .now) (c .before .before .before .before .before .before .before .before .before .args .message .now) (c .before .before .before .before .before .before .before .before .before .args .header .now)) (ap toldRun (sym (c .before .before .r .given .1)) ∙ c .before .before .before .before .f01-places .ensures .1 .0)) (ptr (c .before .before .before .before .before .before .before .before .before .args .referenced) .1) (c .own-part .ensures .1))
 
--- src/f01.rt:167:1
+-- src/lib.rt:167:1
 returns-2 : tie.Need-returns-2
 returns-2 c = (part-octets (c .before .before .before .before .before .before .before .before .args .referenced .now) (runPart (f01Of (c .before .before .before .before .before .before .before .before .args .autack .now) (c .before .before .before .before .before .before .before .before .args .referenced .now) (c .before .before .before .before .before .before .before .before .args .message .now) (c .before .before .before .before .before .before .before .before .args .header .now))) (run-part (f01Of (c .before .before .before .before .before .before .before .before .args .autack .now) (c .before .before .before .before .before .before .before .before .args .referenced .now) (c .before .before .before .before .before .before .before .before .args .message .now) (c .before .before .before .before .before .before .before .before .args .header .now)) (ap toldRun (sym (c .before .enum-told .given .1)) ∙ c .before .before .before .f01-places .ensures .1 .0)) (c .own-part2 .ensures .0), part-placed (c .before .before .before .before .before .before .before .before .args .referenced .now) (runPart (f01Of (c .before .before .before .before .before .before .before .before .args .autack .now) (c .before .before .before .before .before .before .before .before .args .referenced .now) (c .before .before .before .before .before .before .before .before .args .message .now) (c .before .before .before .before .before .before .before .before .args .header .now))) (run-part (f01Of (c .before .before .before .before .before .before .before .before .args .autack .now) (c .before .before .before .before .before .before .before .before .args .referenced .now) (c .before .before .before .before .before .before .before .before .args .message .now) (c .before .before .before .before .before .before .before .before .args .header .now)) (ap toldRun (sym (c .before .enum-told .given .1)) ∙ c .before .before .before .f01-places .ensures .1 .0)) (ptr (c .before .before .before .before .before .before .before .before .args .referenced) .1) (c .own-part2 .ensures .1))
 

@@ -9,9 +9,9 @@ use Rattle.syntax.specs.Octets.{same}
 use Rattle.syntax.specs.Content.{content}
 use Rattle.grammar.specs.Valid.{Interchange}
 use Rattle.grammar.specs.Verdict.{accepted, refusedWith, verdictOf}
-use Rattle.ranges.specs.F01.{referenceIn}
-use Rattle.ranges.specs.declared.f01.Reference.{Reference}
-use Rattle.ranges.specs.declared.f01.Reference.the-variants.{At, Missing, Refused}
+use Rattle.f01.specs.F01.{referenceIn}
+use Rattle.f01.specs.declared.Reference.{Reference}
+use Rattle.f01.specs.declared.Reference.the-variants.{At, Missing, Refused}
 
 -- the 0020 that is referred to, read off the octets a of the AUTACK's interchange
 abbrev pub referredIn : List ℕ → Reference → Option (List ℕ)

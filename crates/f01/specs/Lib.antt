@@ -1,0 +1,3 @@
+pub mod F01
+pub mod Referring
+pub mod F01Laws
