@@ -10,19 +10,20 @@ pub mod Placing
 pub mod Places
 pub mod Verdict
 pub mod Counted
+pub mod Named
 pub mod Example
 pub mod ExampleTree
 -- a run over segments, as the proofs see it
 pub mod Running
 -- what is proved
+pub mod TestLaws
 pub mod SnocLaws
 pub mod RuleLaws
 pub mod PlacingLaws
+pub mod ListsLaws
 pub mod PlacesLaws
 pub mod RunningLaws
 pub mod WalkLaws
 pub mod StartLaws
 pub mod VerdictLaws
 pub mod PairLaws
-pub mod Named
-pub mod ListsLaws

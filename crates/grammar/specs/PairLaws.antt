@@ -4,13 +4,15 @@ use native.Mathlib.Omega.{arith}
 use mathlib.Core.Bool.{Bool, true, false, cond, not, _||_, false≢true}
 use mathlib.Core.List.{List}
 use mathlib.Core.Path.{_≡_, refl, ap, sym, _∙_, subst}
-use lib.Dec.{T}
+use lib.Dec.{T, leb→le}
 use Rattle.syntax.specs.Octets.{same}
 use Rattle.grammar.specs.Lists.{Snoc, nil, _▷_, each, size, among, holds, every, distinct}
-use Rattle.grammar.specs.Interchange.{Open, msg}
-use Rattle.grammar.specs.Rules.{refH, refT, one, refsOpen}
+use Rattle.grammar.specs.Interchange.{Leaf, Open, msg, message}
+use Rattle.grammar.specs.Rules.{refH, refT, one, okMessage, refsOpen, refsMessage}
 use Rattle.grammar.specs.Places.{headersIn, trailersIn}
 use Rattle.grammar.specs.PlacingLaws.{same-eq}
+use Rattle.grammar.specs.TestLaws.{is-true}
+use Rattle.grammar.specs.ListsLaws.{each-size}
 
 -- how many of rs are among ts
 abbrev countIn : Snoc (List ℕ) → Snoc (List ℕ) → ℕ
@@ -38,11 +40,7 @@ count-up ts (rs ▷ r) t = more (same t r) (among ts r) (countIn ts rs) (countIn
 same-refl : (x y : List ℕ) → T (same x y) → same y x ≡ true
 same-refl x y h =
     let e = same-eq x y h in
-    by (same y x) (subst (λ (z : List ℕ). T (same z x)) e (subst (λ (z : List ℕ). T (same x z)) (sym e) h))
-  where
-    by : (b : Bool) → T b → b ≡ true
-    by true t = refl
-    by false t = absurd t
+    is-true (same y x) (subst (λ (z : List ℕ). T (same z x)) e (subst (λ (z : List ℕ). T (same x z)) (sym e) h))
 
 count-new : (ts rs : Snoc (List ℕ)) (t : List ℕ) → T (not (among ts t)) → T (among rs t) → suc (countIn ts rs) ≤ countIn (ts ▷ t) rs
 count-new ts nil t n a = absurd a
@@ -71,10 +69,6 @@ pigeons : (ts rs : Snoc (List ℕ)) → holds (distinct ts) → holds (every (on
 pigeons nil rs d e = omega arith
 pigeons (ts ▷ t) rs d e = let l = pigeons ts rs (d .0) (e .0) in let k = count-new ts rs t (d .1) (e .1) in omega (arith, l, k)
 
-each-size : {A B : Type 0} (f : A → B) (s : Snoc A) → size (each f s) ≡ size s
-each-size f nil = refl
-each-size f (s ▷ a) = ap suc (each-size f s)
-
 pub few-trailers : (o : Open) → holds (refsOpen o) → size (trailersIn o) ≤ size (headersIn o)
 few-trailers (msg h hs b ts) q =
     let l = pigeons (each refT ts) (each refH hs) (q .1 .1 .0) (q .1 .1 .1) in
@@ -82,3 +76,11 @@ few-trailers (msg h hs b ts) q =
     let a = each-size refT ts in
     let c = each-size refH hs in
     omega (arith, l, m, a, c)
+
+-- "0 to 9 header groups"
+pub few-headers : (o : Open) (t : Leaf) → holds (okMessage (message o t)) → size (headersIn o) ≤ 9
+few-headers (msg h hs b ts) t q = leb→le (size hs) 9 (q .0 .0)
+
+-- "one trailer group for each header"
+pub few-tails : (o : Open) (t : Leaf) → holds (refsMessage (message o t)) → size (trailersIn o) ≤ size (headersIn o)
+few-tails (msg h hs b ts) t q = few-trailers (msg h hs b ts) (q .0)

@@ -9,6 +9,7 @@ use lib.Dec.{T, eqb, leb, leb→le, le→leb, eqb→eq}
 use Rattle.syntax.specs.Octets as octets
 use Rattle.syntax.specs.Octets.{same}
 use Rattle.syntax.specs.Tree.{Segment, segment}
+use Rattle.syntax.specs.TreeLaws.{and-left, and-right}
 use Rattle.grammar.specs.Lists.{Snoc, nil, _▷_, map, _+++_, joined, size, Rule, holds, every}
 use Rattle.grammar.specs.Segments.{Name, Unb, Unh, Unt, Unz, Ush, Usa, Usc, Usr, Ust, Usb, Usx, Usy, Kind, Named, Reserved, Free, Entry, entry, tags, kindIn, elementsOf, kindOf, textOf, withTag, seg}
 use Rattle.grammar.specs.Interchange.{Leaf, Certificate, certificate, Header, header, Trailer, trailer, Link, link, Body, plain, ack, Open, msg, Message, message, Reading, start, idle, busy, done, showCertificate, showHeader, showTrailer, showLink, showBody, showOpen, showMessage, shown}
@@ -42,15 +43,10 @@ named-entry u t n (Named m) h e q = let d : m ≡ n = cc in e ∙ same-eq u (tex
 named-entry u t n Reserved h e q = cc
 named-entry u t n Free h e q = cc
 
-and-parts : (a b : Bool) → T (a && b) → T a × T b
-and-parts true b h = (tt, h)
-and-parts false b h = absurd h
-
 kind-in : (l : List Entry) (t : List ℕ) (n : Name) → T (octets.every tagRight l) → kindIn l t ≡ Named n → t ≡ textOf n
 kind-in [] t n h e = cc
 kind-in (entry u k ∷ r) t n h e =
-    let p = and-parts (tagRight (entry u k)) (octets.every tagRight r) h in
-    by (same t u) (same-eq t u) (p .0) (kind-in r t n (p .1)) e
+    by (same t u) (same-eq t u) (and-left (tagRight (entry u k)) (octets.every tagRight r) h) (kind-in r t n (and-right (tagRight (entry u k)) (octets.every tagRight r) h)) e
   where
     by : (b : Bool) → (T b → t ≡ u) → T (tagRight (entry u k)) → (kindIn r t ≡ Named n → t ≡ textOf n) → cond b k (kindIn r t) ≡ Named n → t ≡ textOf n
     by true f h ih e = named-entry u t n k h (f tt) e

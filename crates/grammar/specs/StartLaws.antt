@@ -44,6 +44,7 @@ use Rattle.grammar.specs.Elements.{formed}
 use Rattle.grammar.specs.Rules.{formedS}
 use Rattle.grammar.specs.Valid.{Una, una, Interchange, interchange, segments, openingIn, begunIn, readied, syntaxIn, printUna, unaOf, inForce, print, unaRight, Valid}
 use Rattle.grammar.specs.Verdict.{unaAt}
+use Rattle.grammar.specs.TestLaws.{is-true, passes}
 
 -- ---- an octet with no repetition in force, and with it: the same, or data for a repeat
 
@@ -149,14 +150,6 @@ names-same σ f s a u r w d e c =
     ∙ b .component-content 1 c
 
 -- ---- tests
-
-on : (a : Bool) → T a → a ≡ true
-on true h = refl
-on false h = absurd h
-
-told : (a : Bool) → a ≡ true → T a
-told true e = tt
-told false e = absurd (false≢true e)
 
 unset : {A : Type 0} → true ≡ false → A
 unset e = absurd (false≢true (sym e))
@@ -323,7 +316,7 @@ rest-printed (interchange none u ms z) v = printed none u ms z v
 rest-printed (interchange (some (una σ m)) u ms z) v = ap (drop 9) (printed (some (una σ m)) u ms z v)
 
 readies : (σ : Service) (m : ℕ) (r : List ℕ) → T (fit σ) → readUna (printUna (some (una σ m)) ++ r) ≡ Known (openingIn (some (una σ m)))
-readies σ m r h = rw (le-ltb (length (printUna (some (una σ m)) ++ r)) 9 (omega arith), on (fit σ) h)
+readies σ m r h = rw (le-ltb (length (printUna (some (una σ m)) ++ r)) 9 (omega arith), is-true (fit σ) h)
 
 -- what is known before UNB is what the tree says
 pub opening-printed : (t : Interchange) (v : Valid t) → openingOf (print t) ≡ Known (openingIn (unaOf t))
@@ -401,7 +394,7 @@ opening-read s o e = by (eqb (length s) 0) (ltb 65535 (length s)) (startsUna s) 
         let a : length s ≡ 0 → ⊥ = eqb-false (length s) 0 h in
         let b : length s ≤ 65535 = ltb-false 65535 (length s) k in
         let c : 1 ≤ length s = some-there (length s) a in
-        and-both (leb 1 (length s)) (leb (length s) 65535) (told (leb 1 (length s)) (le-leb 1 (length s) c)) (told (leb (length s) 65535) (le-leb (length s) 65535 b))
+        and-both (leb 1 (length s)) (leb (length s) 65535) (passes (leb 1 (length s)) (le-leb 1 (length s) c)) (passes (leb (length s) 65535) (le-leb (length s) 65535 b))
       where
         some-there : (n : ℕ) → (n ≡ 0 → ⊥) → 1 ≤ n
         some-there zero a = absurd (a refl)
@@ -414,7 +407,7 @@ opening-read s o e = by (eqb (length s) 0) (ltb 65535 (length s)) (startsUna s) 
     by-una false false x y l z e = closed e
     by-una false true x y l z e =
         let p : record { service = unaService s; una = true; at = 9 } ≡ o = cc in
-        rw (← p) (record { lengths = l; una-right = told (fit (unaService s)) y; whole = whole-una s z x; same = refl })
+        rw (← p) (record { lengths = l; una-right = passes (fit (unaService s)) y; whole = whole-una s z x; same = refl })
 
     by : (a b c : Bool) → eqb (length s) 0 ≡ a → ltb 65535 (length s) ≡ b → startsUna s ≡ c →
         cond a (Closed (record { number = 1; place = 0 })) (cond b (Closed (record { number = 1; place = 0 }))

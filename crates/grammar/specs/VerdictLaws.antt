@@ -131,7 +131,7 @@ accepted-exactly s = (
   λ (h : (t : Interchange) × Valid t × (print t ≡ s)). (h .0, verdict-exact s (h .0) .1 (h .1, h .2)),
 )
 
-accepted-one : {t v : Interchange} → accepted t ≡ accepted v → t ≡ v
+pub accepted-one : {t v : Interchange} → accepted t ≡ accepted v → t ≡ v
 accepted-one e = cc
 
 -- D2b: valid interchanges that print the same octets are equal

@@ -1,38 +1,36 @@
 -- The message that is found is the one that is named, and stands where the layout says.
 use Prim.Native.Nat.{ℕ, _+_, _≤_}
 use native.Mathlib.Omega.{arith}
-use mathlib.Core.Path.{_≡_, refl, ap, _∙_, sym, subst}
-use mathlib.Core.List.{List, [], _∷_, _++_, append-nil}
-use mathlib.Core.Option.{Option, none, some}
+use mathlib.Core.Path.{_≡_, ap, _∙_, sym, subst}
+use mathlib.Core.List.{List, [], _++_, append-nil}
+use mathlib.Core.Option.{none, some}
 use mathlib.Core.Bool.{Bool, true, false, cond}
-use lib.Dec.{T, leb}
-use lib.ListN.{length, drop}
-use borrow.Author.Tests.{leb-true}
+use lib.Dec.{T}
+use lib.ListN.{drop}
 use Rattle.syntax.specs.Octets.{same}
 use Rattle.syntax.specs.Service.{fit}
 use Rattle.syntax.specs.Opening.{begunOf}
 use Rattle.syntax.specs.Repertoire.{Table}
-use Rattle.syntax.specs.Tree.{Segment, print, well}
+use Rattle.syntax.specs.Tree.{print, well}
 use Rattle.syntax.specs.declared.Service.{Service}
 use Rattle.syntax.specs.declared.Syntax.{Syntax}
 use Rattle.syntax.specs.declared.Refusal.{Refusal}
 use Rattle.syntax.specs.declared.opening.Start.{Start}
 use Rattle.syntax.specs.declared.opening.Begun.{Begun}
 use Rattle.syntax.specs.declared.opening.Begun.the-variants.{Ready as Begins, Refused as Refuses}
-use Rattle.grammar.specs.Lists.{Snoc, nil, _▷_, _+++_, joined, list, size, Rule, holds, every}
+use Rattle.grammar.specs.Lists.{Snoc, nil, _▷_, _+++_, joined, size, Rule, holds, every}
 use Rattle.grammar.specs.Segments.{Unb, Unz, seg}
-use Rattle.grammar.specs.Interchange.{Leaf, Open, msg, Message, message, Reading, idle, done, shown, showMessage}
+use Rattle.grammar.specs.Interchange.{Leaf, Message, idle, done, shown, showMessage}
 use Rattle.grammar.specs.Rules.{refM, okMessage, refsMessage}
 use Rattle.grammar.specs.Valid.{Interchange, interchange, Valid, syntaxIn, inForce, openingIn, unaOf, reading, segments}
-use Rattle.grammar.specs.Verdict.{Verdict, accepted, refusedWith, verdictOf, verdictBy, unaAt, read, refused}
+use Rattle.grammar.specs.Verdict.{accepted, refusedWith, verdictOf, verdictBy, unaAt, read}
 use Rattle.grammar.specs.VerdictLaws.{verdict-exact}
 use Rattle.grammar.specs.StartLaws.{start-printed, rest-printed, fit-in-force}
 use Rattle.grammar.specs.PlacingLaws.{regroup}
-use Rattle.grammar.specs.PairLaws.{few-trailers}
+use Rattle.grammar.specs.PairLaws.{few-headers, few-tails}
 use Rattle.grammar.specs.Places.{wide, headersIn, trailersIn}
-use Rattle.grammar.specs.Named.{Placed, placed, placedIn, placedAt}
+use Rattle.grammar.specs.Named.{placed, placedIn}
 use Rattle.walk.specs.RunLaws.{answerFrom}
-use Rattle.walk.specs.Sections.{Laid}
 use Rattle.walk.specs.declared.sections.Layout.{Layout}
 use Rattle.judge.specs.Finding.{noLayout, FoundIs, WholeBy, SeeksBy}
 use Rattle.judge.specs.FindingLaws.{verdict-by}
@@ -116,16 +114,6 @@ begins s i x e d =
     ready-one e = cc
 
 -- ---- the message that is named
-
-few-headers : (o : Open) (t : Leaf) → holds (okMessage (message o t)) → size (headersIn o) ≤ 9
-few-headers (msg h hs b ts) t q = leb-true (size hs) 9 (to-true (leb (size hs) 9) (q .0 .0))
-  where
-    to-true : (b : Bool) → T b → b ≡ true
-    to-true true w = refl
-    to-true false w = absurd w
-
-few-tails : (o : Open) (t : Leaf) → holds (refsMessage (message o t)) → size (trailersIn o) ≤ size (headersIn o)
-few-tails (msg h hs b ts) t q = few-trailers (msg h hs b ts) (q .0)
 
 module _ (s m : List ℕ) {g : Begun} where
   pub named-refused : {f : Refusal} (t rows : List ℕ) → g ≡ begunOf s → g ≡ Refuses f → NamedIs s m (NotHere f) t rows

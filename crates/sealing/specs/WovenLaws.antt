@@ -35,6 +35,7 @@ use Rattle.grammar.specs.Valid.{Una, una, Interchange, interchange, inForce, sy
 use Rattle.grammar.specs.Verdict.{accepted, verdictOf}
 use Rattle.grammar.specs.VerdictLaws.{verdict-exact}
 use Rattle.grammar.specs.PlacingLaws.{regroup}
+use Rattle.grammar.specs.TestLaws.{is-true}
 use Rattle.grammar.specs.Places.{wide}
 use Rattle.grammar.specs.PlacesLaws.{wide-list, wide-join}
 use Rattle.grammar.specs.Named.{Placed, placed, placedIn}
@@ -106,11 +107,7 @@ module _ (σ : Service) (s : List ℕ) (p : ℕ) (f : T (fit σ)) where
 -- ---- rules on single segments hold for UNT
 
 unt-formed : (y : Version) (k : Leaf) → T (formed y (asked (seg Unt k))) → inRange (digits 1 6) (text k 1 0) ≡ true
-unt-formed y k h = let w : T (inRange (digits 1 6) (text k 1 0)) = search (and-left, and-right) in so (inRange (digits 1 6) (text k 1 0)) w
-  where
-    so : (b : Bool) → T b → b ≡ true
-    so true w = refl
-    so false w = absurd w
+unt-formed y k h = let w : T (inRange (digits 1 6) (text k 1 0)) = search (and-left, and-right) in is-true (inRange (digits 1 6) (text k 1 0)) w
 
 -- ---- the message that is found, among the others
 
