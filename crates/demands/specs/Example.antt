@@ -2,11 +2,12 @@
 use Prim.Native.Nat.{ℕ, _-_}
 use mathlib.Core.List.{List, [], _∷_, _++_, map}
 use mathlib.Core.Path.{_≡_, refl}
-use lib.ListN.{length, take}
+use lib.ListN.{length}
 use lib.Seq.{slice}
 use Rattle.syntax.specs.Octets.{octets}
 use Rattle.syntax.specs.Example.{P}
 use Rattle.syntax.specs.Repertoire.{inside}
+use Rattle.grammar.specs.Example.{P3, P4, P5, P6, P7, P8, P9}
 use Rattle.grammar.specs.Verdict.{verdictOf, totalsOf, numbers, totalNumbers}
 use Rattle.groups.specs.Calls.{Answered, given, refusedAs}
 use Rattle.ranges.specs.Ranges.{Parts, parts, scope1Of}
@@ -14,40 +15,6 @@ use Rattle.ranges.specs.Told.{partNumbers}
 use Rattle.writing.specs.Written.{Text, text, noText}
 use Rattle.values.specs.Values.{valueOf}
 use Rattle.sealing.specs.Sealing.{sealOf, sealOctetsOf}
-
--- `UNT+6`
-abbrev pub P3 : List ℕ
-P3 = octets "UNB+UNOC:4+PITA+ROYALT+20240105:0700+R1'UNH+M1+DESADV:D:01B:UN'QTY+12:30000:KGM'QTY+12:27.34:TNE'CNT+1:57.34:TNE'UNT+6+M1'UNZ+1+R1'"
-
--- "cut to 122 octets"
-abbrev pub P4 : List ℕ
-P4 = take 122 P
-
--- `27.3.4`
-abbrev pub P5 : List ℕ
-P5 = octets "UNB+UNOC:4+PITA+ROYALT+20240105:0700+R1'UNH+M1+DESADV:D:01B:UN'QTY+12:30000:KGM'QTY+12:27.3.4:TNE'CNT+1:57.34:TNE'UNT+5+M1'UNZ+1+R1'"
-
--- `30,000`
-abbrev pub P6 : List ℕ
-P6 = octets "UNB+UNOC:4+PITA+ROYALT+20240105:0700+R1'UNH+M1+DESADV:D:01B:UN'QTY+12:30,000:KGM'QTY+12:27.34:TNE'CNT+1:57.34:TNE'UNT+5+M1'UNZ+1+R1'"
-
--- "sealed with A1, F 2, value 0F A0"
-abbrev pub P7 : List ℕ
-P7 =
-    octets
-    "UNB+UNOC:4+PITA+ROYALT+20240105:0700+R1'UNH+M1+DESADV:D:01B:UN'USH+1+A1+1+1+2+2+1'USA+1:::16:1'QTY+12:30000:KGM'QTY+12:27.34:TNE'CNT+1:57.34:TNE'UST+A1+4'USR+1:0FA0'UNT+9+M1'UNZ+1+R1'"
-
--- "in P7 `UST+A1+3`"
-abbrev pub P8 : List ℕ
-P8 =
-    octets
-    "UNB+UNOC:4+PITA+ROYALT+20240105:0700+R1'UNH+M1+DESADV:D:01B:UN'USH+1+A1+1+1+2+2+1'USA+1:::16:1'QTY+12:30000:KGM'QTY+12:27.34:TNE'CNT+1:57.34:TNE'UST+A1+3'USR+1:0FA0'UNT+9+M1'UNZ+1+R1'"
-
--- "in P7 `UST+A2`"
-abbrev pub P9 : List ℕ
-P9 =
-    octets
-    "UNB+UNOC:4+PITA+ROYALT+20240105:0700+R1'UNH+M1+DESADV:D:01B:UN'USH+1+A1+1+1+2+2+1'USA+1:::16:1'QTY+12:30000:KGM'QTY+12:27.34:TNE'CNT+1:57.34:TNE'UST+A2+4'USR+1:0FA0'UNT+9+M1'UNZ+1+R1'"
 
 -- ---- as numbers
 

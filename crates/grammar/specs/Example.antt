@@ -1,4 +1,4 @@
--- P1 to P6 of document 01, and one example of each kind of rule, computed: two tables, each under one proof.
+-- Document 01's examples as octets; and one example of each kind of rule, computed: one table under one proof.
 use Prim.Native.Nat.{ℕ}
 use Prim.Native.String.{String}
 use mathlib.Core.List.{List, [], _∷_, _++_}
@@ -10,35 +10,47 @@ use Rattle.syntax.specs.Example.{P}
 use Rattle.syntax.specs.Repertoire.{inside}
 use Rattle.grammar.specs.Verdict.{verdictOf, totalsOf, numbers, totalNumbers}
 
-abbrev P3 : List ℕ
+-- ---- document 01's examples as octets. What they come to is one table of the crate `demands`.
+
+-- `UNT+6`
+abbrev pub P3 : List ℕ
 P3 = octets "UNB+UNOC:4+PITA+ROYALT+20240105:0700+R1'UNH+M1+DESADV:D:01B:UN'QTY+12:30000:KGM'QTY+12:27.34:TNE'CNT+1:57.34:TNE'UNT+6+M1'UNZ+1+R1'"
 
-abbrev P5 : List ℕ
+-- "cut to 122 octets"
+abbrev pub P4 : List ℕ
+P4 = take 122 P
+
+-- `27.3.4`
+abbrev pub P5 : List ℕ
 P5 = octets "UNB+UNOC:4+PITA+ROYALT+20240105:0700+R1'UNH+M1+DESADV:D:01B:UN'QTY+12:30000:KGM'QTY+12:27.3.4:TNE'CNT+1:57.34:TNE'UNT+5+M1'UNZ+1+R1'"
 
-abbrev P6 : List ℕ
+-- `30,000`
+abbrev pub P6 : List ℕ
 P6 = octets "UNB+UNOC:4+PITA+ROYALT+20240105:0700+R1'UNH+M1+DESADV:D:01B:UN'QTY+12:30,000:KGM'QTY+12:27.34:TNE'CNT+1:57.34:TNE'UNT+5+M1'UNZ+1+R1'"
+
+-- "sealed with A1, F 2, value 0F A0"
+abbrev pub P7 : List ℕ
+P7 =
+    octets
+    "UNB+UNOC:4+PITA+ROYALT+20240105:0700+R1'UNH+M1+DESADV:D:01B:UN'USH+1+A1+1+1+2+2+1'USA+1:::16:1'QTY+12:30000:KGM'QTY+12:27.34:TNE'CNT+1:57.34:TNE'UST+A1+4'USR+1:0FA0'UNT+9+M1'UNZ+1+R1'"
+
+-- "in P7 `UST+A1+3`"
+abbrev pub P8 : List ℕ
+P8 =
+    octets
+    "UNB+UNOC:4+PITA+ROYALT+20240105:0700+R1'UNH+M1+DESADV:D:01B:UN'USH+1+A1+1+1+2+2+1'USA+1:::16:1'QTY+12:30000:KGM'QTY+12:27.34:TNE'CNT+1:57.34:TNE'UST+A1+3'USR+1:0FA0'UNT+9+M1'UNZ+1+R1'"
+
+-- "in P7 `UST+A2`"
+abbrev pub P9 : List ℕ
+P9 =
+    octets
+    "UNB+UNOC:4+PITA+ROYALT+20240105:0700+R1'UNH+M1+DESADV:D:01B:UN'USH+1+A1+1+1+2+2+1'USA+1:::16:1'QTY+12:30000:KGM'QTY+12:27.34:TNE'CNT+1:57.34:TNE'UST+A2+4'USR+1:0FA0'UNT+9+M1'UNZ+1+R1'"
+
+-- ---- one example of each kind of rule
 
 -- a verdict's number and place
 abbrev says : List ℕ → ℕ → ℕ → Bool
 says s n p = same (numbers (verdictOf s)) (n ∷ p ∷ [])
-
-pub p-table : T (
-    -- P1 accepted, 57,340,000 g
-    says P 0 0 && same (totalNumbers (totalsOf P (octets "M1"))) (0 ∷ 0 ∷ 2 ∷ 57340000 ∷ [])
-    -- P2 empty: 1 at 0
-    && says [] 1 0
-    -- P3 `UNT+6`: 10 at 113
-    && says P3 10 113
-    -- P4 cut to 122 octets: 7 at 122
-    && says (take 122 P) 7 122
-    -- P5 `27.3.4`: 12 at 80
-    && says P5 12 80
-    -- P6 `30,000` is 30 kg: 10 at 114
-    && says P6 10 114
-    )
-unfolding inside
-p-table = tt
 
 -- an interchange of version 4, UNOA, from its UNH on
 abbrev Q : String → List ℕ
@@ -60,6 +72,8 @@ pub rule-table : T (
     -- three decimals of a kilogram and six of a tonne are the same grams
     && says (Q "UNH+M+X'QTY+12:1,234:KGM'CNT+1:0.001234:TNE'UNT+4+M'UNZ+1+R'") 0 0
     && same (totalNumbers (totalsOf (Q "UNH+M+X'QTY+12:1,234:KGM'UNT+3+M'UNZ+1+R'") (octets "M"))) (0 ∷ 0 ∷ 1 ∷ 1234 ∷ [])
+    -- a CNT that is not the message's load total
+    && says (Q "UNH+M+X'QTY+12:1:KGM'CNT+1:2:KGM'UNT+4+M'UNZ+1+R'") 10 64
     -- AUTACK: good; another scope; a USY that names no header; totals of no such message
     && says (Q "UNH+M+AUTACK'USH+1+A+F01'USB+1'USX+R'USY+A+1:0F'UST+A+2'UNT+7+M'UNZ+1+R'") 0 0
     && says (Q "UNH+M+AUTACK'USH+1+A+1'USB+1'USX+R'USY+A+1:0F'UST+A+2'UNT+7+M'UNZ+1+R'") 11 44
