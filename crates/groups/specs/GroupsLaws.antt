@@ -2,16 +2,20 @@
 use Prim.Native.Nat.{ℕ, zero, suc, _+_, _-_, _≤_, _<_}
 use native.Mathlib.Omega.{arith}
 use mathlib.Core.Path.{_≡_, refl, ap, _∙_, sym, subst}
-use mathlib.Core.List.{List, [], _∷_}
-use mathlib.Core.Option.{Option, none, some}
+use mathlib.Core.List.{List}
+use mathlib.Core.Option.{some}
 use mathlib.Core.Bool.{Bool, true, false, cond}
 use lib.Dec.{T}
-use lib.ListN.{length, getD}
+use lib.ListN.{getD}
 use Rattle.syntax.specs.Octets.{same}
+use Rattle.syntax.specs.Content.{content}
 use Rattle.syntax.specs.Service.{fit}
 use Rattle.syntax.specs.Tree.{Segment}
 use Rattle.syntax.specs.declared.Service.{Service}
-use Rattle.grammar.specs.Lists.{Snoc, nil, _▷_, _+++_, each, joined, size}
+use Rattle.grammar.specs.Lists.{Snoc, nil, _▷_, _+++_, each, joined, size, among}
+use Rattle.grammar.specs.ListsLaws.{last-of, first-of, joined-join}
+use Rattle.grammar.specs.TestLaws.{passes}
+use Rattle.grammar.specs.PlacingLaws.{same-eq}
 use Rattle.grammar.specs.Segments.{Ush, Usa, Usr, Ust, seg, text, Asked}
 use Rattle.grammar.specs.Interchange.{Header, header, Trailer, trailer, showOption, showCertificate, showHeader, showTrailer}
 use Rattle.grammar.specs.Rules.{refH, refT}
@@ -20,8 +24,9 @@ use Rattle.grammar.specs.PlacesLaws.{wide-join}
 use Rattle.message.specs.Heads.{upto}
 use Rattle.groups.specs.Stand.{Stand}
 use Rattle.groups.specs.StandLaws.{stand-front, stand-back, stand-asked}
-use Rattle.groups.specs.Groups.{Chosen, chosen, chosenBy, nameAt, soughtIn, rangeOf, headersAs, trailersAs}
+use Rattle.groups.specs.Groups.{chosen, chosenBy, nameAt, soughtIn, rangeOf, headersAs, trailersAs}
 use Rattle.groups.specs.declared.named.Groups.{Groups}
+use Rattle.walk.specs.SectionLaws.{plain-content}
 use Rattle.walk.specs.declared.sections.Layout.{Layout}
 use Rattle.groups.specs.declared.named.Sought.{Sought}
 use Rattle.groups.specs.declared.named.Sought.the-variants.{At, Nowhere}
@@ -62,11 +67,41 @@ module _ {σ : Service} {s rows : List ℕ} {f e : ℕ} {r : List ℕ} {n z i en
   pub seeking-end : Seeking σ s rows f e r n z i end → i ≤ 0 → Nowhere ≡ soughtIn σ s rows f e r n z
   seeking-end x l = let q : i ≡ 0 = omega (arith, l) in sym (x .same ∙ ap (λ (j : ℕ). soughtIn σ s rows f e r j end) q)
 
+-- ---- the chosen one, in its row
+
+pub record Among {A : Type 0} (name : A → List ℕ) (r : List ℕ) (xs ys : Snoc A) (a : A) : Type 0 where
+  pub rest : Snoc A
+  pub whole : xs ≡ ys ▷ a +++ rest
+  pub ref : name a ≡ r
+  pub there : T (among (each name xs) r)
+
+pub chosen-among : {A : Type 0} (name : A → List ℕ) (r : List ℕ) (xs : Snoc A) {ys : Snoc A} {a : A} → chosenBy name xs r ≡ some (chosen ys a) → Among name r xs ys a
+chosen-among name r nil e = let z : _≡_ {A = ℕ} 0 1 = cc in absurd (omega arith)
+chosen-among {A} name r (xs ▷ x) {ys} {a} e = by (same (name x) r) refl (λ d. chosen-among name r xs d) e
+  where
+    by : (b : Bool) → same (name x) r ≡ b → (chosenBy name xs r ≡ some (chosen ys a) → Among name r xs ys a) → cond b (some (chosen xs x)) (chosenBy name xs r) ≡ some (chosen ys a)
+        → Among name r (xs ▷ x) ys a
+    by true d g e =
+        let k : xs ≡ ys = cc in
+        let j : x ≡ a = cc in
+        record {
+          rest = nil;
+          whole = ap (λ (z : Snoc A). z ▷ x) k ∙ ap (λ (z : A). ys ▷ z) j;
+          ref = ap name (sym j) ∙ same-eq (name x) r (passes (same (name x) r) d);
+          there = rw d tt;
+        }
+    by false d g e = let w = g e in record { rest = w .rest ▷ x; whole = ap (λ (z : Snoc A). z ▷ x) (w .whole); ref = w .ref; there = rw d (w .there) }
+
 -- ---- the groups of a message, by its layout
 
 pub groups-sought : (σ : Service) (s rows r : List ℕ) {g k : Groups} {x : Sought} → x ≡ soughtIn σ s rows (g .first) (g .element) r (g .count) (g .end) → g ≡ k
     → x ≡ soughtIn σ s rows (k .first) (k .element) r (k .count) (k .end)
 groups-sought σ s rows r e d = e ∙ ap (λ (g : Groups). soughtIn σ s rows (g .first) (g .element) r (g .count) (g .end)) d
+
+-- a reference that is content already
+pub sought-plain : (σ : Service) (s rows r : List ℕ) (g : Groups) {x : Sought} → x ≡ soughtIn σ s rows (g .first) (g .element) (content 32 r) (g .count) (g .end)
+    → x ≡ soughtIn σ s rows (g .first) (g .element) r (g .count) (g .end)
+sought-plain σ s rows r g d = d ∙ ap (λ (t : List ℕ). soughtIn σ s rows (g .first) (g .element) t (g .count) (g .end)) (plain-content r)
 
 pub trailers-room : (c : Layout) {g : Groups} → g ≡ trailersAs c → c .trailers ≤ 9 → g .first + g .count ≤ 18
 trailers-room c e l = subst (λ (g : Groups). g .first + g .count ≤ 18) (sym e) (omega (arith, l))
@@ -81,12 +116,6 @@ module _ {A : Type 0} (show : A → Snoc Segment) (name : A → List ℕ) (σ : 
   abbrev pub Names : Snoc A → Type 0
   Names nil = Unit {0}
   Names (xs ▷ a) = Names xs × (nameAt σ s (p + wide σ (joined show xs)) e ≡ name a)
-
-  last-of : {B : Type 0} {xs ys : Snoc B} {a b : B} → xs ▷ a ≡ ys ▷ b → a ≡ b
-  last-of e = cc
-
-  first-of : {B : Type 0} {xs ys : Snoc B} {a b : B} → xs ▷ a ≡ ys ▷ b → xs ≡ ys
-  first-of e = cc
 
   pub sought-chosen : (xs : Snoc A) (end : ℕ) → upto (size xs) (λ (i : ℕ). getD rows (f + i) 0) ≡ startsOf show σ p xs → end ≡ p + wide σ (joined show xs) → Names xs
       → soughtIn σ s rows f e r (size xs) end ≡ rangeOf show σ p (chosenBy name xs r)
@@ -114,17 +143,10 @@ module _ {A : Type 0} (show : A → Snoc Segment) (name : A → List ℕ) (σ : 
   -- ---- the chosen one stands where it is said to
 
   pub chosen-stands : (xs : Snoc A) {ys : Snoc A} {a : A} → chosenBy name xs r ≡ some (chosen ys a) → Stand σ s p (joined show xs) → Stand σ s (p + wide σ (joined show ys)) (show a)
-  chosen-stands nil e w = let z : _≡_ {A = ℕ} 0 1 = cc in absurd (omega arith)
-  chosen-stands (xs ▷ x) {ys} {a} e w = by (same (name x) r) (λ k v. chosen-stands xs k v) e
-    where
-      by : (b : Bool) → (chosenBy name xs r ≡ some (chosen ys a) → Stand σ s p (joined show xs) → Stand σ s (p + wide σ (joined show ys)) (show a))
-          → cond b (some (chosen xs x)) (chosenBy name xs r) ≡ some (chosen ys a) → Stand σ s (p + wide σ (joined show ys)) (show a)
-      by true f e =
-          let k : xs ≡ ys = cc in
-          let j : x ≡ a = cc in
-          subst (λ (z : A). Stand σ s (p + wide σ (joined show ys)) (show z)) j
-          (subst (λ (zs : Snoc A). Stand σ s (p + wide σ (joined show zs)) (show x)) k (stand-back σ s p (joined show xs) (show x) w))
-      by false f e = f e (stand-front σ s p (joined show xs) (show x) w)
+  chosen-stands xs {ys} {a} e w =
+      let c = chosen-among name r xs e in
+      stand-back σ s p (joined show ys) (show a)
+      (stand-front σ s p (joined show ys +++ show a) (joined show (c .rest)) (subst (Stand σ s p) (ap (joined show) (c .whole) ∙ joined-join show (ys ▷ a) (c .rest)) w))
 
 -- ---- a header has its 0534 in the second element of its USH, a trailer in the first of its UST
 

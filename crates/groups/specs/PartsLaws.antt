@@ -1,17 +1,17 @@
 -- Where the parts of the message that is named stand; and that the groups which the code finds are those of the reading.
-use Prim.Native.Nat.{ℕ, _+_, _≤_}
+use Prim.Native.Nat.{ℕ, _+_}
 use native.Mathlib.Omega.{arith}
-use mathlib.Core.Path.{_≡_, refl, ap, _∙_, sym, subst, fun-ext}
-use mathlib.Core.List.{List, [], _∷_}
+use mathlib.Core.Path.{_≡_, ap, _∙_, sym, subst, fun-ext}
+use mathlib.Core.List.{List}
 use mathlib.Core.Option.{Option, none, some}
-use lib.ListN.{length, getD}
-use Rattle.syntax.specs.Tree.{Segment, printS}
+use lib.Dec.{T}
+use lib.ListN.{getD}
+use Rattle.syntax.specs.Service.{fit}
 use Rattle.syntax.specs.declared.Service.{Service}
 use Rattle.syntax.specs.declared.Syntax.{Syntax}
-use Rattle.syntax.specs.declared.Refusal.{Refusal}
 use Rattle.grammar.specs.Lists.{Snoc, nil, _▷_, _+++_, joined, list, size, holds}
 use Rattle.grammar.specs.Segments.{Unh, Unt, seg}
-use Rattle.grammar.specs.Interchange.{Leaf, Header, Trailer, Body, Open, msg, Message, message, showHeader, showTrailer, showBody, showOpen, showMessage}
+use Rattle.grammar.specs.Interchange.{Leaf, Header, Trailer, Body, Open, msg, message, showHeader, showTrailer, showBody, showOpen, showMessage}
 use Rattle.grammar.specs.Rules.{auto, okMessage, refH, refT}
 use Rattle.grammar.specs.Valid.{Interchange}
 use Rattle.grammar.specs.Verdict.{Verdict, accepted, refusedWith, verdictOf}
@@ -24,7 +24,7 @@ use Rattle.walk.specs.Sections.{Laid}
 use Rattle.walk.specs.declared.sections.Layout.{Layout}
 use Rattle.groups.specs.Stand.{Row, Stand}
 use Rattle.groups.specs.StandLaws.{stand-front, stand-back, stand-row}
-use Rattle.groups.specs.Groups.{chosen, soughtIn, rangeOf}
+use Rattle.groups.specs.Groups.{chosen, chosenBy, soughtIn, rangeOf}
 use Rattle.groups.specs.GroupsLaws.{sought-chosen, chosen-stands, names-stand, header-named, trailer-named}
 use Rattle.groups.specs.Parts.{headerNamed, trailerNamed, headerAt, trailerAt, bodyIn}
 use Rattle.groups.specs.Links.{tieIn, linkFrom}
@@ -88,7 +88,26 @@ module _ (σ : Service) (s : List ℕ) (q : ℕ) (h : Leaf) (hs : Snoc Header) (
         wide-join σ (nil ▷ seg Unh h) (joined showHeader hs),
       )
 
--- ---- the header and the trailer that are found
+-- ---- the header and the trailer that the code finds, of a message that stands at q and has the layout c
+
+module _ (σ : Service) (fits : T (fit σ)) (s : List ℕ) (q : ℕ) (h : Leaf) (hs : Snoc Header) (b : Body) (ts : Snoc Trailer) (t : Leaf) {c : Layout} {rows : List ℕ}
+    (l : Laid σ s q (msg h hs b ts) t c rows) (w : Stand σ s q (showMessage (message (msg h hs b ts) t))) (r : List ℕ) where
+  pub header-sought : soughtIn σ s rows 0 2 r (c .headers) (c .body) ≡ rangeOf showHeader σ (headsAt σ q (msg h hs b ts)) (chosenBy refH hs r)
+  header-sought =
+      ap (λ (n : ℕ). soughtIn σ s rows 0 2 r n (c .body)) (l .headers)
+      ∙ sought-chosen showHeader refH σ s rows 0 2 r (headsAt σ q (msg h hs b ts)) hs (c .body) (zeros (size hs) ∙ l .starts .heads) (l .body)
+      (names-stand showHeader refH σ s rows 0 2 r (headsAt σ q (msg h hs b ts)) (λ i a x. header-named σ fits s i a x) hs (headers-stand σ s q h hs b ts t w))
+    where
+      zeros : (n : ℕ) → upto n (λ (i : ℕ). getD rows (0 + i) 0) ≡ upto n (λ (i : ℕ). getD rows i 0)
+      zeros n = ap (upto n) (fun-ext (λ i. let e : 0 + i ≡ i = omega arith in ap (λ (j : ℕ). getD rows j 0) e))
+
+  pub trailer-sought : soughtIn σ s rows 9 1 r (c .trailers) (c .unt) ≡ rangeOf showTrailer σ (tailAt σ q (msg h hs b ts)) (chosenBy refT ts r)
+  trailer-sought =
+      ap (λ (n : ℕ). soughtIn σ s rows 9 1 r n (c .unt)) (l .trailers)
+      ∙ sought-chosen showTrailer refT σ s rows 9 1 r (tailAt σ q (msg h hs b ts)) ts (c .unt) (l .starts .tails) (l .unt ∙ unt-behind σ s q h hs b ts t w)
+      (names-stand showTrailer refT σ s rows 9 1 r (tailAt σ q (msg h hs b ts)) (λ i a x. trailer-named σ fits s i a x) ts (trailers-stand σ s q h hs b ts t w))
+
+-- ---- the same, of the message that is named
 
 module _ {s m : List ℕ} {y : Syntax} {c : Layout} {rows : List ℕ} (h : Holds s m y c rows) (r : List ℕ) where
   pub header-found : soughtIn (y .service) s rows 0 2 r (c .headers) (c .body) ≡ rangeOf showHeader (y .service) (headsAt (y .service) (h .q) (h .o)) (headerNamed (h .o) r)
@@ -96,27 +115,14 @@ module _ {s m : List ℕ} {y : Syntax} {c : Layout} {rows : List ℕ} (h : Holds
     where
       by : (o : Open) → Laid (y .service) s (h .q) o (h .t) c rows → Stand (y .service) s (h .q) (showMessage (message o (h .t)))
           → soughtIn (y .service) s rows 0 2 r (c .headers) (c .body) ≡ rangeOf showHeader (y .service) (headsAt (y .service) (h .q) o) (headerNamed o r)
-      by (msg u hs b ts) l w =
-          ap (λ (n : ℕ). soughtIn (y .service) s rows 0 2 r n (c .body)) (l .headers)
-          ∙ sought-chosen showHeader refH (y .service) s rows 0 2 r (headsAt (y .service) (h .q) (msg u hs b ts)) hs (c .body)
-          (zeros (size hs) ∙ l .starts .heads) (l .body)
-          (names-stand showHeader refH (y .service) s rows 0 2 r (headsAt (y .service) (h .q) (msg u hs b ts)) (λ i a x. header-named (y .service) (h .fits) s i a x) hs
-          (headers-stand (y .service) s (h .q) u hs b ts (h .t) w))
-        where
-          zeros : (n : ℕ) → upto n (λ (i : ℕ). getD rows (0 + i) 0) ≡ upto n (λ (i : ℕ). getD rows i 0)
-          zeros n = ap (upto n) (fun-ext (λ i. let e : 0 + i ≡ i = omega arith in ap (λ (j : ℕ). getD rows j 0) e))
+      by (msg u hs b ts) l w = header-sought (y .service) (h .fits) s (h .q) u hs b ts (h .t) l w r
 
   pub trailer-found : soughtIn (y .service) s rows 9 1 r (c .trailers) (c .unt) ≡ rangeOf showTrailer (y .service) (tailAt (y .service) (h .q) (h .o)) (trailerNamed (h .o) r)
   trailer-found = by (h .o) (h .laid) (h .stands)
     where
       by : (o : Open) → Laid (y .service) s (h .q) o (h .t) c rows → Stand (y .service) s (h .q) (showMessage (message o (h .t)))
           → soughtIn (y .service) s rows 9 1 r (c .trailers) (c .unt) ≡ rangeOf showTrailer (y .service) (tailAt (y .service) (h .q) o) (trailerNamed o r)
-      by (msg u hs b ts) l w =
-          ap (λ (n : ℕ). soughtIn (y .service) s rows 9 1 r n (c .unt)) (l .trailers)
-          ∙ sought-chosen showTrailer refT (y .service) s rows 9 1 r (tailAt (y .service) (h .q) (msg u hs b ts)) ts (c .unt)
-          (l .starts .tails) (l .unt ∙ unt-behind (y .service) s (h .q) u hs b ts (h .t) w)
-          (names-stand showTrailer refT (y .service) s rows 9 1 r (tailAt (y .service) (h .q) (msg u hs b ts)) (λ i a x. trailer-named (y .service) (h .fits) s i a x) ts
-          (trailers-stand (y .service) s (h .q) u hs b ts (h .t) w))
+      by (msg u hs b ts) l w = trailer-sought (y .service) (h .fits) s (h .q) u hs b ts (h .t) l w r
 
   -- they stand where they are said to
   pub header-there : {hs : Snoc Header} {x : Header} → headerNamed (h .o) r ≡ some (chosen hs x) → Stand (y .service) s (headerAt (y .service) (h .q) (h .o) (chosen hs x)) (showHeader x)

@@ -3,12 +3,9 @@ use Prim.Native.Nat.{ℕ, suc, _+_, _-_}
 use native.Mathlib.Omega.{arith}
 use mathlib.Core.Path.{_≡_, refl, ap, _∙_, sym, subst}
 use mathlib.Core.List.{List, [], _∷_, _++_, append-assoc, append-nil}
-use mathlib.Core.Option.{Option, none, some}
-use mathlib.Core.Bool.{Bool, true, false, cond}
 use lib.Dec.{T}
 use lib.ListN.{length, take, drop, length-append}
 use lib.Seq.{slice, drop-append-add, drop-drop}
-use Rattle.syntax.specs.Octets.{same}
 use Rattle.syntax.specs.Service.{fit}
 use Rattle.syntax.specs.Tree.{Segment, printS, print, well}
 use Rattle.syntax.specs.TreeLaws.{print-cons}
@@ -16,10 +13,10 @@ use Rattle.syntax.specs.BridgeLaws.{Agrees, bridge}
 use Rattle.syntax.specs.CuttingLaws.{slice-take}
 use Rattle.syntax.specs.ReaderLaws.{well-cons, well-uncons}
 use Rattle.syntax.specs.declared.Service.{Service}
-use Rattle.grammar.specs.Lists.{Snoc, nil, _▷_, _+++_, list, joined}
+use Rattle.grammar.specs.Lists.{Snoc, nil, _▷_, _+++_, list}
 use Rattle.grammar.specs.Segments.{asked}
 use Rattle.grammar.specs.Places.{wide}
-use Rattle.grammar.specs.PlacesLaws.{wide-list, wide-join}
+use Rattle.grammar.specs.PlacesLaws.{wide-list}
 use Rattle.elements.specs.Octets.{askedAt}
 use Rattle.turns.specs.TurnLaws.{asked-same}
 use Rattle.groups.specs.Stand.{Row, Stand}
@@ -38,6 +35,10 @@ module _ (σ : Service) where
   pub well-parts : (gs hs : List Segment) → T (well σ (gs ++ hs)) → T (well σ gs) × T (well σ hs)
   well-parts [] hs w = (tt, w)
   well-parts (g ∷ gs) hs w = let a = well-uncons σ g (gs ++ hs) w in let b = well-parts gs hs (a .1) in (well-cons σ g gs (a .0) (b .0), b .1)
+
+  pub well-append : (gs hs : List Segment) → T (well σ gs) → T (well σ hs) → T (well σ (gs ++ hs))
+  well-append [] hs v w = w
+  well-append (g ∷ gs) hs v w = let k = well-uncons σ g gs v in well-cons σ g (gs ++ hs) (k .0) (well-append gs hs (k .1) w)
 
 -- ---- in parts
 

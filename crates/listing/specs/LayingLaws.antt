@@ -5,19 +5,20 @@ use mathlib.Core.Bool.{Bool, true, false, cond}
 use mathlib.Core.List.{List, _++_}
 use mathlib.Core.Option.{Option, none, some}
 use mathlib.Core.Path.{_≡_, refl, ap, sym, _∙_, subst}
-use lib.Dec.{T, leb, ltb}
+use lib.Dec.{T, ltb}
 use lib.ListN.{length, getD}
-use borrow.Author.Tests.{leb-true, ltb-true, ltb-false}
+use borrow.Author.Tests.{ltb-true, ltb-false}
 use Rattle.syntax.specs.Service.{fit}
 use Rattle.syntax.specs.declared.Service.{Service}
 use Rattle.grammar.specs.Lists.{Snoc, nil, _▷_, _+++_, joined, size, sum, holds}
 use Rattle.grammar.specs.Segments.{Unh, Unt, seg, text, Asked}
 use Rattle.grammar.specs.Interchange.{Leaf, Header, header, Trailer, Body, Open, msg, message, showHeader, showTrailer, showBody, showOpen, showMessage}
-use Rattle.grammar.specs.Rules.{refH, refT, refO, okMessage, refsMessage}
+use Rattle.grammar.specs.Rules.{refH, refO, okMessage, refsMessage}
 use Rattle.grammar.specs.Verdict.{loadsM}
 use Rattle.grammar.specs.Places.{wide, startsOf, headersIn, trailersIn}
 use Rattle.grammar.specs.PlacesLaws.{wide-join}
-use Rattle.grammar.specs.PairLaws.{few-trailers}
+use Rattle.grammar.specs.ListsLaws.{last-of, first-of}
+use Rattle.grammar.specs.PairLaws.{few-headers, few-tails}
 use Rattle.message.specs.Heads.{upto}
 use Rattle.walk.specs.Layout.{headsAt, bodyAt, tailAt}
 use Rattle.walk.specs.Sections.{Laid}
@@ -25,17 +26,11 @@ use Rattle.walk.specs.declared.sections.Layout.{Layout}
 use Rattle.groups.specs.Stand.{Stand}
 use Rattle.groups.specs.StandLaws.{stand-front, stand-back, stand-asked}
 use Rattle.groups.specs.Groups.{Chosen, chosen, nameAt, soughtIn, rangeOf}
-use Rattle.groups.specs.GroupsLaws.{sought-chosen, names-stand, header-named, header-scope, trailer-named}
+use Rattle.groups.specs.GroupsLaws.{header-named, header-scope}
 use Rattle.groups.specs.Parts.{trailerNamed, scopeH}
-use Rattle.groups.specs.PartsLaws.{headers-stand, trailers-stand, unt-behind}
+use Rattle.groups.specs.PartsLaws.{headers-stand, trailer-sought}
 use Rattle.listing.specs.Listing.{messageLine, sealLine, typeO, toTrailer, sealOf, sealsOf, messageOf}
 use Rattle.listing.specs.Laying.{Near, upTo, oneAt, twoAt, sealAt, sealsAt, sectionAt}
-
-last-of : {A : Type 0} {xs ys : Snoc A} {a b : A} → xs ▷ a ≡ ys ▷ b → a ≡ b
-last-of e = cc
-
-first-of : {A : Type 0} {xs ys : Snoc A} {a b : A} → xs ▷ a ≡ ys ▷ b → xs ≡ ys
-first-of e = cc
 
 -- ---- every place is one of the interchange
 
@@ -52,16 +47,6 @@ starts-within σ p f (hs ▷ x) e i h = by (ltb i (size hs)) refl (starts-within
         omega (arith, m, wide-join σ (joined showHeader hs) (showHeader x))
 
 module _ (σ : Service) (s : List ℕ) (q : ℕ) (c : Layout) (rows : List ℕ) (short : length s ≤ 65535) where
-  few-headers : (o : Open) (t : Leaf) → holds (okMessage (message o t)) → size (headersIn o) ≤ 9
-  few-headers (msg h hs b ts) t k = leb-true (size hs) 9 (to-true (leb (size hs) 9) (k .0 .0))
-    where
-      to-true : (b : Bool) → T b → b ≡ true
-      to-true true w = refl
-      to-true false w = absurd w
-
-  few-tails : (o : Open) (t : Leaf) → holds (refsMessage (message o t)) → size (trailersIn o) ≤ size (headersIn o)
-  few-tails (msg h hs b ts) t k = few-trailers (msg h hs b ts) (k .0)
-
   tail-within : (o : Open) → tailAt σ q o ≤ q + wide σ (showOpen o)
   tail-within (msg h hs b ts) =
       omega (
@@ -107,12 +92,6 @@ module _ (σ : Service) (fits : T (fit σ)) (s : List ℕ) (q : ℕ) (h : Leaf) 
   abbrev o : Open
   o = msg h hs b ts
 
-  trailer-sought : (r : List ℕ) → soughtIn σ s rows 9 1 r (c .trailers) (c .unt) ≡ rangeOf showTrailer σ (tailAt σ q o) (trailerNamed o r)
-  trailer-sought r =
-      ap (λ (n : ℕ). soughtIn σ s rows 9 1 r n (c .unt)) (l .trailers)
-      ∙ sought-chosen showTrailer refT σ s rows 9 1 r (tailAt σ q o) ts (c .unt) (l .starts .tails) (l .unt ∙ unt-behind σ s q h hs b ts t w)
-      (names-stand showTrailer refT σ s rows 9 1 r (tailAt σ q o) (λ i a x. trailer-named σ fits s i a x) ts (trailers-stand σ s q h hs b ts t w))
-
   up-to : (gs : Snoc Header) (g : Header) (start : ℕ) → start ≡ headsAt σ q o + wide σ (joined showHeader gs) → (x : Option (Chosen Trailer))
       → upTo start (rangeOf showTrailer σ (tailAt σ q o) x) ≡ toTrailer σ q o (chosen gs g) x
   up-to gs g start e none = refl
@@ -128,7 +107,7 @@ module _ (σ : Service) (fits : T (fit σ)) (s : List ℕ) (q : ℕ) (h : Leaf) 
       let f : nameAt σ s start 3 ≡ scopeH g = scope-named start g x in
       let z : oneAt c start end ≡ wide σ (showHeader g) + wide σ (showBody b) = omega (arith, d, l .tail, l .body) in
       let v : twoAt σ s rows c start ≡ toTrailer σ q o (chosen gs g) (trailerNamed o (refH g)) =
-      ap (λ (r : List ℕ). upTo start (soughtIn σ s rows 9 1 r (c .trailers) (c .unt))) n ∙ ap (upTo start) (trailer-sought (refH g)) ∙ up-to gs g start e (trailerNamed o (refH g)) in
+      ap (λ (r : List ℕ). upTo start (soughtIn σ s rows 9 1 r (c .trailers) (c .unt))) n ∙ ap (upTo start) (trailer-sought σ fits s q h hs b ts t l w (refH g)) ∙ up-to gs g start e (trailerNamed o (refH g)) in
       ap (λ (r : List ℕ). sealLine r (nameAt σ s start 3) (oneAt c start end) (twoAt σ s rows c start)) n
       ∙ ap (λ (k : List ℕ). sealLine (refH g) k (oneAt c start end) (twoAt σ s rows c start)) f
       ∙ ap (λ (k : ℕ). sealLine (refH g) (scopeH g) k (twoAt σ s rows c start)) z

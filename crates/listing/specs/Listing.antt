@@ -10,13 +10,13 @@ use Rattle.syntax.specs.Octets.{octets, same}
 use Rattle.syntax.specs.declared.Service.{Service}
 use Rattle.grammar.specs.Lists.{Snoc, nil, _▷_, size, sum}
 use Rattle.grammar.specs.Segments.{text, second}
-use Rattle.grammar.specs.Interchange.{Leaf, Header, Trailer, Body, Open, msg, Message, message, idle, shown, showHeader, showBody}
+use Rattle.grammar.specs.Interchange.{Leaf, Header, Trailer, Open, msg, Message, message, idle, shown, showHeader, showBody}
 use Rattle.grammar.specs.Rules.{refH, refO}
 use Rattle.grammar.specs.Valid.{interchange, openingIn}
 use Rattle.grammar.specs.Verdict.{Verdict, accepted, refusedWith, verdictOf, loadsM}
 use Rattle.grammar.specs.Places.{wide, headersIn}
 use Rattle.groups.specs.Groups.{Chosen, chosen}
-use Rattle.groups.specs.Parts.{trailerNamed, scopeH, headerAt, trailerAt}
+use Rattle.groups.specs.Parts.{trailerNamed, scopeH, headerAt, trailerAt, bodyIn}
 use Rattle.groups.specs.Calls.{serviceIn}
 use Rattle.writing.specs.Decimal.{decimalOf}
 use Rattle.writing.specs.Laid.{joined}
@@ -59,9 +59,6 @@ abbrev pub sealLine : List ℕ → List ℕ → ℕ → ℕ → List ℕ
 sealLine reference scope one two = joined (sealWords reference scope ∷ coveredWords scope one two ∷ feed ∷ [])
 
 -- ---- the lines of a message whose UNH stands at q
-
-abbrev pub bodyIn : Open → Body
-bodyIn (msg h hs b ts) = b
 
 -- 0065
 abbrev pub typeO : Open → List ℕ
