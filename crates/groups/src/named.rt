@@ -2,10 +2,11 @@
 ghost use mathlib.Core.Path.{_≡_};
 ghost use Prim.Native.Nat.{_+_, _≤_};
 ghost use lib.ListN.{length};
+ghost use Rattle.syntax.specs.Content.{content};
 ghost use Rattle.syntax.specs.Repertoire.{Table};
 ghost use Rattle.groups.specs.Groups.{headersAs, trailersAs, soughtIn};
 use syntax::Syntax;
-use syntax::content::content_is;
+use syntax::content::same_content;
 use syntax::reading::component_part;
 use walk::sections::Layout;
 
@@ -52,7 +53,47 @@ pub fn trailers_of(c: Layout) -> Groups
     }
 }
 
-// Where the group with the 0534 `reference` starts and ends. A group ends where the next one starts, so the last is looked at first.
+// Where the group starts and ends whose 0534 has the content of `x` under `release`. A group ends where the next one starts, so the last is
+// looked at first.
+pub fn group_like(
+    s: &[u8],
+    t: &[u8; 256],
+    y: Syntax,
+    rows: &[usize; 18],
+    g: Groups,
+    x: &[u8],
+    release: u8,
+) -> Sought
+    requires { ⌜ Table y (now t) ⌝ }
+    requires { ⌜ (g .first + g .count ≤ 18) × (length (now rows) ≡ 18) ⌝ }
+    ensures { λ r. ⌜ r ≡ soughtIn (y .service) (now (s .entry)) (now (rows .entry)) (g .first) (g .element) (content release (now (x .entry))) (g .count) (g .end) ⌝ }
+{
+    let v = y.service;
+    let first = g.first;
+    let element = g.element;
+    let mut i = g.count;
+    let mut end = g.end;
+    while 0 < i {
+        let k = i - 1;
+        let start = rows[first + k];
+        if same_content(
+            component_part(s, start, t, y, element, 0),
+            v.release,
+            x,
+            release,
+        ) {
+            return Sought::At(Range {
+                start: start,
+                end: end,
+            });
+        }
+        end = start;
+        i = k;
+    }
+    Sought::Nowhere
+}
+
+// The group with the 0534 `reference`, which is content: a space frees nothing.
 pub fn group_named(
     s: &[u8],
     t: &[u8; 256],
@@ -65,26 +106,5 @@ pub fn group_named(
     requires { ⌜ (g .first + g .count ≤ 18) × (length (now rows) ≡ 18) ⌝ }
     ensures { λ r. ⌜ r ≡ soughtIn (y .service) (now (s .entry)) (now (rows .entry)) (g .first) (g .element) (now (reference .entry)) (g .count) (g .end) ⌝ }
 {
-    let v = y.service;
-    let first = g.first;
-    let element = g.element;
-    let mut i = g.count;
-    let mut end = g.end;
-    while 0 < i {
-        let k = i - 1;
-        let start = rows[first + k];
-        if content_is(
-            component_part(s, start, t, y, element, 0),
-            v.release,
-            reference,
-        ) {
-            return Sought::At(Range {
-                start: start,
-                end: end,
-            });
-        }
-        end = start;
-        i = k;
-    }
-    Sought::Nowhere
+    group_like(s, t, y, rows, g, reference, 32)
 }

@@ -3,58 +3,21 @@ ghost use mathlib.Core.Path.{_≡_};
 ghost use Prim.Native.Nat.{_+_, _-_, _≤_, _<_};
 ghost use lib.ListN.{length};
 ghost use Rattle.syntax.specs.Octets.{same};
-ghost use Rattle.syntax.specs.Content.{content};
 ghost use Rattle.syntax.specs.Repertoire.{Table};
-ghost use Rattle.groups.specs.Groups.{nameAt, soughtIn};
+ghost use Rattle.groups.specs.Groups.{nameAt};
 ghost use Rattle.writing.specs.Laid.{Laid};
 ghost use Rattle.listing.specs.Listing.{sealWords, octetsWords, coveredWords};
 ghost use Rattle.listing.specs.Laying.{nextAt, Near, oneAt, twoAt, sealAt, sealsAt};
 use crate::words::put_name;
-use groups::named::Range;
 use groups::named::Sought;
+use groups::named::group_like;
+use groups::named::trailers_of;
 use syntax::Syntax;
 use syntax::content::content_is;
-use syntax::content::same_content;
 use syntax::reading::component_part;
 use walk::sections::Layout;
 use writing::put;
 use writing::put_number;
-
-// Where the trailer group stands whose 0534 has the content of `x`. A group ends where the next one starts, so the last is looked at first.
-fn trailer_like(
-    s: &[u8],
-    t: &[u8; 256],
-    y: Syntax,
-    rows: &[usize; 18],
-    c: Layout,
-    x: &[u8],
-) -> Sought
-    requires { ⌜ Table y (now t) ⌝ }
-    requires { ⌜ Near c (now rows) ⌝ }
-    ensures { λ r. ⌜ r ≡ soughtIn (y .service) (now (s .entry)) (now (rows .entry)) 9 1 (content (y .service .release) (now (x .entry))) (c .trailers) (c .unt) ⌝ }
-{
-    let v = y.service;
-    let mut i = c.trailers;
-    let mut end = c.unt;
-    while 0 < i {
-        let k = i - 1;
-        let start = rows[9 + k];
-        if same_content(
-            component_part(s, start, t, y, 1, 0),
-            v.release,
-            x,
-            v.release,
-        ) {
-            return Sought::At(Range {
-                start: start,
-                end: end,
-            });
-        }
-        end = start;
-        i = k;
-    }
-    Sought::Nowhere
-}
 
 // How many octets there are from `a` up to `e`.
 fn between(a: usize, e: usize) -> usize
@@ -79,7 +42,16 @@ fn to_trailer(
     requires { ⌜ Near c (now rows) ⌝ }
     ensures { λ r. ⌜ r ≡ twoAt (y .service) (now (s .entry)) (now (rows .entry)) c start ⌝ }
 {
-    match trailer_like(s, t, y, rows, c, component_part(s, start, t, y, 2, 0)) {
+    let v = y.service;
+    match group_like(
+        s,
+        t,
+        y,
+        rows,
+        trailers_of(c),
+        component_part(s, start, t, y, 2, 0),
+        v.release,
+    ) {
         Sought::At(x) => between(start, x.start),
         Sought::Nowhere => 0,
     }

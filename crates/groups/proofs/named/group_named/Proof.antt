@@ -1,81 +1,13 @@
-use Prim.Native.Nat.{_-_, _+_}
-use lib.ListN.{getD}
-use native.Mathlib.Omega.{arith}
-use mathlib.Core.Path.{refl, sym, _∙_}
 use borrow.Author.Needs.{needs}
-use Rattle.groups.specs.LinksLaws.{name-is}
-use Rattle.groups.specs.GroupsLaws.{Seeking, seeking-on, seeking-hit, seeking-end}
+use Rattle.groups.specs.GroupsLaws.{sought-plain}
 use Rattle.groups.proofs.named.group_named.Statement.{statement}
 use Rattle.groups.proofs.named.group_named.Tie as tie
-use Rattle.groups.proofs.named.group_named.Reads as reads
-use Rattle.groups.proofs.named.group_named.Lts as lts
-use Rattle.syntax.proofs.content.content_is.Reads as content-is-reads
-use Rattle.syntax.proofs.reading.component_part.Reads as component-part-reads
 
-abbrev Inv-loop : tie.InvT-loop
-Inv-loop s t y rows reference v first element i₀ end₀ i end = Seeking (y .service) s rows first element reference i₀ end₀ i end
+group-like-requires : tie.Need-group-like-requires
+group-like-requires c κs = search needs
 
-abbrev μ-loop : tie.MeasureT-loop
-μ-loop s t y rows reference v first element i₀ end₀ i end = i
-
--- src/named.rt:73:5
-loop-holds : tie.Need-loop-holds Inv-loop μ-loop
-loop-holds c = record { room = c .before .before .before .pre .1 .0; fewer = omega arith; same = refl }
-
--- src/named.rt:74:17
-sub-k : tie.Need-sub-k Inv-loop μ-loop
-sub-k c = search needs
-
--- src/named.rt:75:26
-add-start : tie.Need-add-start Inv-loop μ-loop
-add-start c = search needs
-
--- src/named.rt:75:21
-mul-start : tie.Need-mul-start Inv-loop μ-loop
-mul-start c = search needs
-
--- src/named.rt:75:21
-element-copy-out-start : tie.Need-element-copy-out-start Inv-loop μ-loop
-element-copy-out-start c = search needs
-
--- src/named.rt:76:23
-component-part-requires : tie.Need-component-part-requires Inv-loop μ-loop
-component-part-requires c κs = search needs
-
--- src/named.rt:76:12
-content-is-requires : tie.Need-content-is-requires Inv-loop μ-loop
-content-is-requires c κs = search needs
-
--- src/named.rt:77:13
-returns : tie.Need-returns Inv-loop μ-loop
-returns c = seeking-hit _ _ (c .before .before .before .before .before .loop .inv) (c .before .before .before .before .loop-test .taken) refl refl (sym (name-is (c .before .before .before .before .before .before .before .before .before .args .y .service) (c .before .before .before .before .before .before .before .before .before .args .s .now) (getD (c .before .before .before .before .before .before .before .before .before .args .rows .now) (c .before .before .before .before .before .before .before .before .before .args .g .first + (c .before .before .before .before .before .loop .i - 1)) 0) (c .before .before .before .before .before .before .before .before .before .args .g .element) (c .before .before .before .before .before .before .before .before .before .args .reference .now) (c .before .before .component-part .ensures) (c .before .content-is .ensures)) ∙ c .if1 .taken)
-
--- src/named.rt:73:5
-loop-less : tie.Need-loop-less Inv-loop μ-loop
-loop-less c = search needs
-
--- src/named.rt:73:5
-loop-again : tie.Need-loop-again Inv-loop μ-loop
-loop-again c = seeking-on _ _ (c .before .before .before .before .before .loop .inv) (c .before .before .before .before .loop-test .taken) refl refl (sym (name-is (c .before .before .before .before .before .before .before .before .before .args .y .service) (c .before .before .before .before .before .before .before .before .before .args .s .now) (getD (c .before .before .before .before .before .before .before .before .before .args .rows .now) (c .before .before .before .before .before .before .before .before .before .args .g .first + (c .before .before .before .before .before .loop .i - 1)) 0) (c .before .before .before .before .before .before .before .before .before .args .g .element) (c .before .before .before .before .before .before .before .before .before .args .reference .now) (c .before .before .component-part .ensures) (c .before .content-is .ensures)) ∙ c .if1 .left)
-
--- src/named.rt:56:1
-returns-2 : tie.Need-returns-2 Inv-loop μ-loop
-returns-2 c = seeking-end (c .before .loop .inv) (c .loop-test .left)
+returns : tie.Need-returns
+returns c = sought-plain (c .before .before .before .args .y .service) (c .before .before .before .args .s .now) (c .before .before .before .args .rows .now) (c .before .before .before .args .reference .now) (c .before .before .before .args .g) (c .group-like .ensures)
 
 pub group-named-spec : {M : Type 1} → statement M
-group-named-spec =
-    tie.close
-    (tie.spec
-    Inv-loop
-    μ-loop
-    loop-holds
-    sub-k
-    add-start
-    mul-start
-    element-copy-out-start
-    component-part-requires
-    content-is-requires
-    returns
-    loop-less
-    loop-again
-    returns-2)
+group-named-spec = tie.close (tie.spec group-like-requires returns)
