@@ -72,6 +72,11 @@ messagesRead σ p (done u ms z) = messagesOf σ p u ms
 abbrev pub earlyAs : ℕ → Written
 earlyAs i = refusedAs 7 i
 
+-- behind the last section, at i: whether UNZ was read, and the length of the text
+abbrev pub endedAs : Bool → ℕ → ℕ → Written
+endedAs true n i = Length n
+endedAs false n i = earlyAs i
+
 -- the whole interchange was read from p on, and its text is laid; or it is refused
 abbrev pub LaysAll : Syntax → List ℕ → ℕ → List ℕ → Written → List ℕ → Type 0
 LaysAll y s p out (Length n) out′ =

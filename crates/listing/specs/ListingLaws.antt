@@ -1,7 +1,7 @@
 -- Laws of the walk that lays the report: a section more, the end; and of the call.
 use Prim.Native.Nat.{ℕ, _+_, _*_, _≤_, _<_}
 use native.Mathlib.Omega.{arith}
-use mathlib.Core.Bool.{Bool, true, false}
+use mathlib.Core.Bool.{Bool, true, false, cond}
 use mathlib.Core.List.{List, [], _++_, append-nil}
 use mathlib.Core.Path.{_≡_, refl, ap, sym, _∙_, subst}
 use lib.Dec.{T}
@@ -26,7 +26,7 @@ use Rattle.grammar.specs.Verdict.{read, refused, accepted, refusedWith, verdict
 use Rattle.message.specs.Summary.{startS, stateOf}
 use Rattle.turns.specs.Held.{stateIn}
 use Rattle.turns.specs.declared.state.State.{State}
-use Rattle.walk.specs.RunLaws.{Fresh, answerFrom, Walking, walking-start, unreadAs, unread-idle}
+use Rattle.walk.specs.RunLaws.{Fresh, answerFrom, Walking, walking-start, unreadAs, unread-idle, isDone, walking-short, walking-read}
 use Rattle.walk.specs.Sections.{Stays, begins, ends, breaks, SectionBy, Passing}
 use Rattle.walk.specs.SectionLaws.{Looping}
 use Rattle.walk.specs.declared.sections.Section.{Section}
@@ -41,7 +41,7 @@ use Rattle.writing.specs.Written.{refusedAs}
 use Rattle.writing.specs.declared.Written.{Written}
 use Rattle.writing.specs.declared.Written.the-variants.{Length, Refused}
 use Rattle.listing.specs.Listing.{acceptedLine, refusalLine, messageOf, acceptedOf, listingBy, listingOf, Lists}
-use Rattle.listing.specs.Laying.{Near, sectionAt, messagesRead, earlyAs, LaysAll}
+use Rattle.listing.specs.Laying.{Near, sectionAt, messagesRead, earlyAs, endedAs, LaysAll}
 use Rattle.listing.specs.LayingLaws.{near-laid, section-lines}
 
 -- ---- what stands in the octets with a section more
@@ -154,7 +154,7 @@ unb-named σ f s p u ms z w =
     ap (λ (a : Asked). a .text 5 0)
     (stand-asked σ s p f (seg Unb u) (stand-front σ s p (nil ▷ seg Unb u) (joined showMessage ms) (stand-front σ s p (shown (idle u ms)) (nil ▷ seg Unz z) w)))
 
-pub lays-told : {y : Syntax} {s : List ℕ} {from : ℕ} {x : State} {h l b : List ℕ} {i : ℕ} {m rows l₀ b₀ out out₀ : List ℕ} {p₀ : ℕ} {out′ : List ℕ} {p : ℕ}
+lays-told : {y : Syntax} {s : List ℕ} {from : ℕ} {x : State} {h l b : List ℕ} {i : ℕ} {m rows l₀ b₀ out out₀ : List ℕ} {p₀ : ℕ} {out′ : List ℕ} {p : ℕ}
     (g : Reporting y s from x h l b i m rows l₀ b₀ out₀ p₀ out′ p) → Laid out 0 (acceptedLine (nameAt (y .service) s from 5)) p₀ out₀ → T (fit (y .service))
     → (answerFrom y s from ≡ read (g .looping .walks .tree)) × ((u : Leaf) × (ms : Snoc Message) × (z : Leaf) × (g .looping .walks .tree ≡ done u ms z))
     → LaysAll y s from out (Length p) out′
@@ -173,6 +173,23 @@ lays-told {y} {s} {from} g k f a =
             (laid-more k (g .laid (subst (λ (r : Reading). Stand (y .service) s from (shown r)) (sym e) w))),
       ),
     )
+
+-- behind the last section: the text, or the input ended early
+module _ (n i : ℕ) {c d : Bool} {r : Written} (e : d ≡ c) where
+  pub ended-done : d ≡ true → r ≡ Length n → r ≡ endedAs c n i
+  ended-done t q = rw (← e, t) q
+
+  pub ended-early : d ≡ false → r ≡ earlyAs i → r ≡ endedAs c n i
+  ended-early t q = rw (← e, t) q
+
+pub lays-ended : {y : Syntax} {s : List ℕ} {from : ℕ} {x : State} {h l b : List ℕ} {i : ℕ} {m rows l₀ b₀ out out₀ : List ℕ} {p₀ : ℕ} {out′ : List ℕ} {p : ℕ}
+    (g : Reporting y s from x h l b i m rows l₀ b₀ out₀ p₀ out′ p) → Laid out 0 (acceptedLine (nameAt (y .service) s from 5)) p₀ out₀ → T (fit (y .service)) → length s ≤ i
+    → {r : Written} → r ≡ endedAs (isDone (x .phase)) p i → LaysAll y s from out r out′
+lays-ended {y} {s} {from} {x} {i = i} {out = out} {out′ = out′} {p = p} g k f n {r} e = by (isDone (x .phase)) refl e
+  where
+    by : (c : Bool) → isDone (x .phase) ≡ c → r ≡ endedAs c p i → LaysAll y s from out r out′
+    by true d e = subst (λ (r : Written). LaysAll y s from out r out′) (sym e) (lays-told g k f (walking-read (g .looping .walks) n d))
+    by false d e = lays-early y s from out out′ e (walking-short (g .looping .walks) n d)
 
 -- ---- the call: a text is measured, refused where it is too long, and then laid
 

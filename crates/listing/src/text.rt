@@ -8,10 +8,10 @@ ghost use Rattle.syntax.specs.Service.{fit};
 ghost use Rattle.syntax.specs.Opening.{begunOf};
 ghost use Rattle.syntax.specs.Repertoire.{Table};
 ghost use Rattle.syntax.specs.declared.opening.Begun.the-variants.{Ready as Begins};
-ghost use Rattle.walk.specs.RunLaws.{Fresh};
+ghost use Rattle.walk.specs.RunLaws.{isDone, Fresh};
 ghost use Rattle.writing.specs.Laid.{Laid};
 ghost use Rattle.listing.specs.Listing.{refusalLine, listingOf, Lists};
-ghost use Rattle.listing.specs.Laying.{Near, sectionAt, earlyAs, LaysAll};
+ghost use Rattle.listing.specs.Laying.{Near, sectionAt, earlyAs, endedAs, LaysAll};
 use crate::lines::accepted_line;
 use crate::lines::message_line;
 use crate::lines::refusal_line;
@@ -23,6 +23,7 @@ use syntax::Syntax;
 use syntax::opening::Begun;
 use syntax::opening::begin;
 use syntax::repertoire::table;
+use turns::state::State;
 use walk::sections::Layout;
 use walk::sections::Reached;
 use walk::sections::next_section;
@@ -61,6 +62,17 @@ fn put_section(
     at
 }
 
+// Behind the last section, at `at`: the length `p` of the text, where UNZ was read.
+fn ended(st: State, at: usize, p: usize) -> Written
+    ensures { λ r. ⌜ r ≡ endedAs (isDone (st .phase)) p at ⌝ }
+{
+    let f = st.phase;
+    if is_done(f) {
+        return Written::Length(p);
+    }
+    early(at)
+}
+
 // Every section from `from` on, with the lines of what was read; or why the interchange is refused.
 fn lay_among(
     s: &[u8],
@@ -92,19 +104,13 @@ fn lay_among(
                 return Written::Refused(f);
             }
             Reached::On(a) => {
-                let c = a.layout;
-                p = put_section(&mut *out, p, s, t, y, a.closed, c, rows);
-                let x = a.state;
-                st = x;
+                p = put_section(&mut *out, p, s, t, y, a.closed, a.layout, rows);
+                st = a.state;
                 at = a.next;
             }
         }
     }
-    let f = st.phase;
-    if !is_done(f) {
-        return early(at);
-    }
-    Written::Length(p)
+    ended(st, at, p)
 }
 
 fn lay_small(s: &[u8], from: usize, t: &[u8; 256], y: Syntax, out: &mut [u8]) -> Written

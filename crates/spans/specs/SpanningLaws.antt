@@ -15,15 +15,16 @@ use Rattle.grammar.specs.Segments.{Unb, Unt, seg}
 use Rattle.grammar.specs.Interchange.{Leaf, Open, msg, Message, message, Reading, start, idle, busy, done, shown, showOpen, showMessage}
 use Rattle.grammar.specs.Places.{wide}
 use Rattle.grammar.specs.PlacesLaws.{wide-join}
+use Rattle.grammar.specs.TestLaws.{is-true}
 use Rattle.grammar.specs.Verdict.{read, refused}
 use Rattle.message.specs.Summary.{startS, stateOf}
 use Rattle.turns.specs.Held.{stateIn}
-use Rattle.walk.specs.RunLaws.{Fresh, answerFrom, Walking, walking-start, unreadAs, unread-idle}
+use Rattle.walk.specs.RunLaws.{isDone, Fresh, answerFrom, Walking, walking-start, walking-short, walking-read, unreadAs, unread-idle}
 use Rattle.walk.specs.Sections.{autoO, Stays, begins, ends, breaks, SectionBy, Passing}
 use Rattle.walk.specs.SectionLaws.{Looping}
 use Rattle.spans.specs.Span.{autoM, Parted, parted, joinedBy, partedOf, other, runRight, Span, span, spanBy}
 use Rattle.spans.specs.SpanLaws.{PartsOf, parts}
-use Rattle.spans.specs.Spanning.{sofarBy, sofarAt, stepOf, sectionOf, startOf, endOf, toldAs, earlyAs, WholeBy, SpanIs}
+use Rattle.spans.specs.Spanning.{sofarBy, sofarAt, stepOf, sectionOf, startOf, endOf, toldAs, earlyAs, endedAs, WholeBy, SpanIs}
 use Rattle.walk.specs.declared.sections.Section.{Section}
 use Rattle.turns.specs.declared.state.State.{State}
 use Rattle.spans.specs.declared.span.Run.{Run}
@@ -47,11 +48,7 @@ right-more r x m e = ap (λ (b : Bool). check (every other (r ▷ x)) && not b) 
 
 -- an AUTACK drawn into it breaks it
 right-broken : (r : Snoc Message) (n m : Message) → T (autoM n) → runRight (r ▷ n ▷ m) ≡ false
-right-broken r n m t = ap (λ (b : Bool). check (every other r) && not b && not (autoM m)) (on (autoM n) t) ∙ ap (λ (b : Bool). b && not (autoM m)) (and-false (check (every other r)))
-  where
-    on : (b : Bool) → T b → b ≡ true
-    on true t = refl
-    on false t = absurd t
+right-broken r n m t = ap (λ (b : Bool). check (every other r) && not b && not (autoM m)) (is-true (autoM n) t) ∙ ap (λ (b : Bool). b && not (autoM m)) (and-false (check (every other r)))
 
 -- ---- what is kept, with a message more
 
@@ -269,10 +266,26 @@ module _ (y : Syntax) (s : List ℕ) (p : ℕ) (u : Leaf) (ms : Snoc Message) (z
   span-of Broken q n = tells q
 
 -- all was read
-pub span-told : {y : Syntax} {s : List ℕ} {p : ℕ} {x : State} {h l b : List ℕ} {i : ℕ} (w : Walking y s p x h l b i) (k : Sofar) {f : Spanned} → f ≡ toldAs k
+span-told : {y : Syntax} {s : List ℕ} {p : ℕ} {x : State} {h l b : List ℕ} {i : ℕ} (w : Walking y s p x h l b i) (k : Sofar) {f : Spanned} → f ≡ toldAs k
     → (answerFrom y s p ≡ read (w .tree)) × ((u : Leaf) × (ms : Snoc Message) × (z : Leaf) × (w .tree ≡ done u ms z))
     → k ≡ sofarAt (y .service) p (w .tree) → endOf k ≤ length s → SpanIs y s p f
 span-told {y} {s} {p} w k g a q n =
     let t = a .1 in
     let e = t .3 in
     subst (λ (f : Spanned). SpanIs y s p f) (sym g) (span-of y s p (t .0) (t .1) (t .2) (a .0 ∙ ap read e) k (q ∙ ap (sofarAt (y .service) p) e) n)
+
+-- behind the last section: the run, or the input ended early
+module _ (k : Sofar) (i : ℕ) {c d : Bool} {r : Spanned} (e : d ≡ c) where
+  pub ended-done : d ≡ true → r ≡ toldAs k → r ≡ endedAs c k i
+  ended-done t q = rw (← e, t) q
+
+  pub ended-early : d ≡ false → r ≡ earlyAs i → r ≡ endedAs c k i
+  ended-early t q = rw (← e, t) q
+
+pub span-ended : {y : Syntax} {s : List ℕ} {from : ℕ} {x : State} {h l b : List ℕ} {i : ℕ} {m rows l₀ b₀ : List ℕ} {k : Sofar} (g : Spanning y s from x h l b i m rows l₀ b₀ k) → length s ≤ i
+    → {f : Spanned} → f ≡ endedAs (isDone (x .phase)) k i → SpanIs y s from f
+span-ended {y} {s} {from} {x} {i = i} {k = k} g n {f} e = by (isDone (x .phase)) refl e
+  where
+    by : (c : Bool) → isDone (x .phase) ≡ c → f ≡ endedAs c k i → SpanIs y s from f
+    by true d e = span-told (g .looping .walks) k e (walking-read (g .looping .walks) n d) (g .keeps) (g .within)
+    by false d e = span-early y s from e (walking-short (g .looping .walks) n d)

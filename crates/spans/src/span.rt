@@ -5,12 +5,13 @@ ghost use lib.Dec.{T};
 ghost use lib.ListN.{length};
 ghost use Rattle.syntax.specs.Service.{fit};
 ghost use Rattle.syntax.specs.Repertoire.{Table};
-ghost use Rattle.walk.specs.RunLaws.{Fresh};
-ghost use Rattle.spans.specs.Spanning.{stepOf, sectionOf, toldAs, earlyAs, SpanIs};
+ghost use Rattle.walk.specs.RunLaws.{isDone, Fresh};
+ghost use Rattle.spans.specs.Spanning.{stepOf, sectionOf, toldAs, earlyAs, endedAs, SpanIs};
 use judge::run::is_done;
 use judge::run::unread;
 use syntax::Refusal;
 use syntax::Syntax;
+use turns::state::State;
 use walk::sections::Layout;
 use walk::sections::Reached;
 use walk::sections::next_section;
@@ -99,6 +100,17 @@ fn early(at: usize) -> Spanned
     })
 }
 
+// Behind the last section, at `at`: the run, where UNZ was read.
+fn ended(st: State, at: usize, k: Sofar) -> Spanned
+    ensures { λ r. ⌜ r ≡ endedAs (isDone (st .phase)) k at ⌝ }
+{
+    let p = st.phase;
+    if is_done(p) {
+        return told(k);
+    }
+    early(at)
+}
+
 // Every section from `from` on, with what is known of the run.
 fn span_among(
     s: &[u8],
@@ -129,19 +141,13 @@ fn span_among(
                 return Spanned::Refused(f);
             }
             Reached::On(a) => {
-                let c = a.layout;
-                k = after_section(k, a.closed, c);
-                let x = a.state;
-                st = x;
+                k = after_section(k, a.closed, a.layout);
+                st = a.state;
                 at = a.next;
             }
         }
     }
-    let p = st.phase;
-    if !is_done(p) {
-        return early(at);
-    }
-    told(k)
+    ended(st, at, k)
 }
 
 fn span_small(s: &[u8], from: usize, t: &[u8; 256], y: Syntax) -> Spanned

@@ -1,8 +1,7 @@
-use Rattle.listing.specs.ListingLaws.{Reporting, reporting-start, passed-near, reporting-on, lays-early, lays-told}
+use Rattle.listing.specs.ListingLaws.{Reporting, reporting-start, passed-near, reporting-on, lays-early, lays-ended}
 use Rattle.writing.specs.LaidLaws.{laid-length}
 use Rattle.walk.specs.SectionLaws.{starting, passed, stopped}
-use Rattle.walk.specs.RunLaws.{walking-over, walking-short, walking-read}
-use Rattle.message.specs.ItemsLaws.{not-true, not-false}
+use Rattle.walk.specs.RunLaws.{walking-over}
 use mathlib.Core.Path.{sym, _∙_}
 use lib.ListN.{length}
 use Prim.Native.Nat.{_-_}
@@ -74,19 +73,16 @@ enum-known-a : tie.Need-enum-known-a Inv-loop μ-loop
 enum-known-a c = search needs
 
 put-section-requires : tie.Need-put-section-requires Inv-loop μ-loop
-put-section-requires c κs = (c .before .before .before .before .before .before .before .before .before .before .before .before .before .before .before .before .before .before .before .before .before .before .before .before .before .before .before .before .before .before .before .before .pre .0, (c .before .before .before .before .before .before .before .before .before .before .before .before .before .before .before .before .before .before .before .before .before .before .before .before .before .before .before .before .before .before .before .before .pre .1 .0 .short, omega (arith, c .before .before .before .before .before .before .before .before .before .before .before .before .before .before .before .before .before .before .before .before .before .loop .inv .near, c .before .before .before .before .before .before .before .before .before .before .before .before .before .before .before .before .before .before .before .before .loop-test .taken, c .before .before .before .before .before .before .before .before .before .before .before .before .before .before .before .before .before .before .before .before .before .before .before .before .before .before .before .before .before .before .before .before .pre .1 .0 .short, c .before .before .before .before .before .before .before .before .before .before .before .before .before .before .before .before .before .before .before .before .before .before .before .before .before .accepted-line .ensures .1), passed-near (c .before .before .before .before .before .before .before .before .before .before .before .before .before .before .before .before .before .before .before .before .before .loop .inv .looping .walks) (passed (c .before .before .before .before .before .before .before .before .before .before .before .before .before .before .before .before .before .before .before .before .before .loop .inv .looping .walks) (c .before .before .before .before .before .before .before .before .before .before .before .before .next-section .last .1 .1 .1 .1 .1 .1 .0) (c .before .before .before .before .before .before .before .before .before .before .before .before .next-section .last .1 .1 .1 .1 .1 .1 .1 .0) (c .before .before .before .before .before .before .before .before .before .before .before .before .next-section .last .1 .1 .1 .1 .1 .1 .1 .1 .0) (c .before .before .before .before .before .before .before .before .before .before .before .before .next-section .last .1 .1 .1 .1 .1 .1 .1 .1 .1 .0) _ (c .before .before .before .before .a .given .1) (c .before .before .before .before .before .before .before .before .before .before .before .before .next-section .ensures .0 _ (c .before .before .before .before .before .before .before .before .before .before .before .before .before .before .before .before .before .before .before .before .before .loop .inv .looping .walks))) (c .before .before .before .before .before .before .before .before .before .before .before .before .before .before .before .before .before .before .before .before .before .before .before .before .before .before .before .before .before .before .before .before .pre .1 .0 .short)))
+put-section-requires c κs = (c .before .before .before .before .before .before .before .before .before .before .before .before .before .before .before .before .before .before .before .before .before .before .before .before .before .before .before .before .before .before .before .pre .0, (c .before .before .before .before .before .before .before .before .before .before .before .before .before .before .before .before .before .before .before .before .before .before .before .before .before .before .before .before .before .before .before .pre .1 .0 .short, omega (arith, c .before .before .before .before .before .before .before .before .before .before .before .before .before .before .before .before .before .before .before .before .loop .inv .near, c .before .before .before .before .before .before .before .before .before .before .before .before .before .before .before .before .before .before .before .loop-test .taken, c .before .before .before .before .before .before .before .before .before .before .before .before .before .before .before .before .before .before .before .before .before .before .before .before .before .before .before .before .before .before .before .pre .1 .0 .short, c .before .before .before .before .before .before .before .before .before .before .before .before .before .before .before .before .before .before .before .before .before .before .before .before .accepted-line .ensures .1), passed-near (c .before .before .before .before .before .before .before .before .before .before .before .before .before .before .before .before .before .before .before .before .loop .inv .looping .walks) (passed (c .before .before .before .before .before .before .before .before .before .before .before .before .before .before .before .before .before .before .before .before .loop .inv .looping .walks) (c .before .before .before .before .before .before .before .before .before .before .before .next-section .last .1 .1 .1 .1 .1 .1 .0) (c .before .before .before .before .before .before .before .before .before .before .before .next-section .last .1 .1 .1 .1 .1 .1 .1 .0) (c .before .before .before .before .before .before .before .before .before .before .before .next-section .last .1 .1 .1 .1 .1 .1 .1 .1 .0) (c .before .before .before .before .before .before .before .before .before .before .before .next-section .last .1 .1 .1 .1 .1 .1 .1 .1 .1 .0) _ (c .before .before .before .a .given .1) (c .before .before .before .before .before .before .before .before .before .before .before .next-section .ensures .0 _ (c .before .before .before .before .before .before .before .before .before .before .before .before .before .before .before .before .before .before .before .before .loop .inv .looping .walks))) (c .before .before .before .before .before .before .before .before .before .before .before .before .before .before .before .before .before .before .before .before .before .before .before .before .before .before .before .before .before .before .before .pre .1 .0 .short)))
 
 loop-less : tie.Need-loop-less Inv-loop μ-loop
-loop-less c = let p = (passed (c .before .before .before .before .before .before .before .before .before .before .before .before .before .before .before .before .before .before .before .before .before .before .before .before .before .loop .inv .looping .walks) (c .before .before .before .before .before .before .before .before .before .before .before .before .before .before .before .before .next-section .last .1 .1 .1 .1 .1 .1 .0) (c .before .before .before .before .before .before .before .before .before .before .before .before .before .before .before .before .next-section .last .1 .1 .1 .1 .1 .1 .1 .0) (c .before .before .before .before .before .before .before .before .before .before .before .before .before .before .before .before .next-section .last .1 .1 .1 .1 .1 .1 .1 .1 .0) (c .before .before .before .before .before .before .before .before .before .before .before .before .before .before .before .before .next-section .last .1 .1 .1 .1 .1 .1 .1 .1 .1 .0) _ (c .before .before .before .before .before .before .before .before .a .given .1) (c .before .before .before .before .before .before .before .before .before .before .before .before .before .before .before .before .next-section .ensures .0 _ (c .before .before .before .before .before .before .before .before .before .before .before .before .before .before .before .before .before .before .before .before .before .before .before .before .before .loop .inv .looping .walks))) .far in let k = c .before .before .before .before .before .before .before .before .before .before .before .before .before .before .before .before .before .before .before .before .before .before .before .before .loop-test .taken in omega (arith, p, k)
+loop-less c = let p = (passed (c .before .before .before .before .before .before .before .before .before .before .before .before .before .before .before .before .before .before .before .before .before .before .before .before .loop .inv .looping .walks) (c .before .before .before .before .before .before .before .before .before .before .before .before .before .before .before .next-section .last .1 .1 .1 .1 .1 .1 .0) (c .before .before .before .before .before .before .before .before .before .before .before .before .before .before .before .next-section .last .1 .1 .1 .1 .1 .1 .1 .0) (c .before .before .before .before .before .before .before .before .before .before .before .before .before .before .before .next-section .last .1 .1 .1 .1 .1 .1 .1 .1 .0) (c .before .before .before .before .before .before .before .before .before .before .before .before .before .before .before .next-section .last .1 .1 .1 .1 .1 .1 .1 .1 .1 .0) _ (c .before .before .before .before .before .before .before .a .given .1) (c .before .before .before .before .before .before .before .before .before .before .before .before .before .before .before .next-section .ensures .0 _ (c .before .before .before .before .before .before .before .before .before .before .before .before .before .before .before .before .before .before .before .before .before .before .before .before .loop .inv .looping .walks))) .far in let k = c .before .before .before .before .before .before .before .before .before .before .before .before .before .before .before .before .before .before .before .before .before .before .before .loop-test .taken in omega (arith, p, k)
 
 loop-again : tie.Need-loop-again Inv-loop μ-loop
-loop-again c = reporting-on (c .before .before .before .before .before .before .before .before .before .before .before .before .before .before .before .before .before .before .before .before .before .before .before .before .before .loop .inv) (c .before .before .before .before .before .before .before .before .before .before .before .before .before .before .before .before .before .before .before .before .before .before .before .before .before .before .before .before .before .before .before .before .before .before .before .before .pre .1 .0 .fits) (passed (c .before .before .before .before .before .before .before .before .before .before .before .before .before .before .before .before .before .before .before .before .before .before .before .before .before .loop .inv .looping .walks) (c .before .before .before .before .before .before .before .before .before .before .before .before .before .before .before .before .next-section .last .1 .1 .1 .1 .1 .1 .0) (c .before .before .before .before .before .before .before .before .before .before .before .before .before .before .before .before .next-section .last .1 .1 .1 .1 .1 .1 .1 .0) (c .before .before .before .before .before .before .before .before .before .before .before .before .before .before .before .before .next-section .last .1 .1 .1 .1 .1 .1 .1 .1 .0) (c .before .before .before .before .before .before .before .before .before .before .before .before .before .before .before .before .next-section .last .1 .1 .1 .1 .1 .1 .1 .1 .1 .0) _ (c .before .before .before .before .before .before .before .before .a .given .1) (c .before .before .before .before .before .before .before .before .before .before .before .before .before .before .before .before .next-section .ensures .0 _ (c .before .before .before .before .before .before .before .before .before .before .before .before .before .before .before .before .before .before .before .before .before .before .before .before .before .loop .inv .looping .walks))) (c .before .before .before .before .before .before .before .before .before .before .before .before .before .before .before .before .next-section .ensures .1) (c .before .before .before .before .before .before .before .before .before .before .before .before .before .before .before .before .next-section .kept .1 .1 .1 .1 .1 .1 .1 .0) (c .before .before .before .before .before .before .before .before .before .before .before .before .before .before .before .before .next-section .kept .1 .1 .1 .1 .1 .1 .1 .1 .0) (c .before .before .before .put-section .ensures .0) (c .before .before .before .put-section .ensures .1)
+loop-again c = reporting-on (c .before .before .before .before .before .before .before .before .before .before .before .before .before .before .before .before .before .before .before .before .before .before .before .before .loop .inv) (c .before .before .before .before .before .before .before .before .before .before .before .before .before .before .before .before .before .before .before .before .before .before .before .before .before .before .before .before .before .before .before .before .before .before .before .pre .1 .0 .fits) (passed (c .before .before .before .before .before .before .before .before .before .before .before .before .before .before .before .before .before .before .before .before .before .before .before .before .loop .inv .looping .walks) (c .before .before .before .before .before .before .before .before .before .before .before .before .before .before .before .next-section .last .1 .1 .1 .1 .1 .1 .0) (c .before .before .before .before .before .before .before .before .before .before .before .before .before .before .before .next-section .last .1 .1 .1 .1 .1 .1 .1 .0) (c .before .before .before .before .before .before .before .before .before .before .before .before .before .before .before .next-section .last .1 .1 .1 .1 .1 .1 .1 .1 .0) (c .before .before .before .before .before .before .before .before .before .before .before .before .before .before .before .next-section .last .1 .1 .1 .1 .1 .1 .1 .1 .1 .0) _ (c .before .before .before .before .before .before .before .a .given .1) (c .before .before .before .before .before .before .before .before .before .before .before .before .before .before .before .next-section .ensures .0 _ (c .before .before .before .before .before .before .before .before .before .before .before .before .before .before .before .before .before .before .before .before .before .before .before .before .loop .inv .looping .walks))) (c .before .before .before .before .before .before .before .before .before .before .before .before .before .before .before .next-section .ensures .1) (c .before .before .before .before .before .before .before .before .before .before .before .before .before .before .before .next-section .kept .1 .1 .1 .1 .1 .1 .1 .0) (c .before .before .before .before .before .before .before .before .before .before .before .before .before .before .before .next-section .kept .1 .1 .1 .1 .1 .1 .1 .1 .0) (c .before .before .before .put-section .ensures .0) (c .before .before .before .put-section .ensures .1)
 
-is-done-requires-2 : tie.Need-is-done-requires-2 Inv-loop μ-loop
-is-done-requires-2 c κs = search needs
-
-early-requires-2 : tie.Need-early-requires-2 Inv-loop μ-loop
-early-requires-2 c κs = search needs
+ended-requires : tie.Need-ended-requires Inv-loop μ-loop
+ended-requires c κs = search needs
 
 same-length-9 : tie.Need-same-length-9 Inv-loop μ-loop
 same-length-9 c = search needs
@@ -95,28 +91,13 @@ same-length-10 : tie.Need-same-length-10 Inv-loop μ-loop
 same-length-10 c = search needs
 
 same-length-11 : tie.Need-same-length-11 Inv-loop μ-loop
-same-length-11 c = c .before .before .before .before .loop .inv .looping .marks ∙ sym (c .before .before .before .before .before .before .before .before .before .before .before .before .before .before .before .pre .1 .1 .0)
+same-length-11 c = c .before .before .loop .inv .looping .marks ∙ sym (c .before .before .before .before .before .before .before .before .before .before .before .before .before .pre .1 .1 .0)
 
 same-length-12 : tie.Need-same-length-12 Inv-loop μ-loop
-same-length-12 c = c .before .before .before .before .loop .inv .same ∙ laid-length (c .before .before .before .before .before .before .before .before .accepted-line .ensures .0)
+same-length-12 c = c .before .before .loop .inv .same ∙ laid-length (c .before .before .before .before .before .before .accepted-line .ensures .0)
 
 returns-3 : tie.Need-returns-3 Inv-loop μ-loop
-returns-3 c = lays-early (c .before .before .before .before .before .before .before .before .before .before .before .before .before .before .before .args .y) (c .before .before .before .before .before .before .before .before .before .before .before .before .before .before .before .args .s .now) (c .before .before .before .before .before .before .before .before .before .before .before .before .before .before .before .args .from) (c .before .before .before .before .before .before .before .before .before .before .before .before .before .before .before .args .out .now) _ (c .early2 .ensures) (walking-short (c .before .before .before .before .loop .inv .looping .walks) (c .before .before .before .loop-test .left) (sym (c .before .before .is-done2 .ensures) ∙ not-true _ (c .before .if2 .taken)))
-
-same-length-13 : tie.Need-same-length-13 Inv-loop μ-loop
-same-length-13 c = search needs
-
-same-length-14 : tie.Need-same-length-14 Inv-loop μ-loop
-same-length-14 c = search needs
-
-same-length-15 : tie.Need-same-length-15 Inv-loop μ-loop
-same-length-15 c = c .before .before .before .loop .inv .looping .marks ∙ sym (c .before .before .before .before .before .before .before .before .before .before .before .before .before .before .pre .1 .1 .0)
-
-same-length-16 : tie.Need-same-length-16 Inv-loop μ-loop
-same-length-16 c = c .before .before .before .loop .inv .same ∙ laid-length (c .before .before .before .before .before .before .before .accepted-line .ensures .0)
-
-returns-4 : tie.Need-returns-4 Inv-loop μ-loop
-returns-4 c = lays-told (c .before .before .before .loop .inv) (c .before .before .before .before .before .before .before .accepted-line .ensures .0) (c .before .before .before .before .before .before .before .before .before .before .before .before .before .before .pre .1 .0 .fits) (walking-read (c .before .before .before .loop .inv .looping .walks) (c .before .before .loop-test .left) (sym (c .before .is-done2 .ensures) ∙ not-false _ (c .if2 .left)))
+returns-3 c = lays-ended (c .before .before .loop .inv) (c .before .before .before .before .before .before .accepted-line .ensures .0) (c .before .before .before .before .before .before .before .before .before .before .before .before .before .pre .1 .0 .fits) (c .before .loop-test .left) (c .ended .ensures)
 
 pub lay-among-spec : {M : Type 1} → statement M
 lay-among-spec =
@@ -145,15 +126,9 @@ lay-among-spec =
     put-section-requires
     loop-less
     loop-again
-    is-done-requires-2
-    early-requires-2
+    ended-requires
     same-length-9
     same-length-10
     same-length-11
     same-length-12
-    returns-3
-    same-length-13
-    same-length-14
-    same-length-15
-    same-length-16
-    returns-4)
+    returns-3)
