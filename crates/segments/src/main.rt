@@ -7,6 +7,7 @@ use printing::print_refusal_at;
 use printing::put;
 use printing::text;
 use syntax::Refusal;
+use syntax::Service;
 use syntax::Syntax;
 use syntax::content::Next;
 use syntax::content::next_octet;
@@ -20,6 +21,7 @@ use syntax::opening::begin;
 use syntax::reading::Edge;
 use syntax::reading::piece_end;
 use syntax::repertoire::table;
+ghost use mathlib.Core.Path.{_≡_};
 ghost use Rattle.syntax.specs.Repertoire.{Table};
 ghost use Rattle.segments.specs.Checked.{CheckedIn};
 
@@ -136,37 +138,31 @@ fn print_elements(
     }
 }
 
+fn refused(number: u8, place: usize) -> Checked
+    ensures { λ r. ⌜ r ≡ Checked.Refused (record { number = number; place = place }) ⌝ }
+{
+    Checked::Refused(Refusal { number, place })
+}
+
+// A bad tag is told before what else was found of the segment.
+fn tagged(s: &[u8], at: usize, v: Service, found: Checked) -> Checked
+    requires { ⌜ CheckedIn (now s) at found ⌝ }
+    ensures { λ r. ⌜ CheckedIn (now (s .entry)) at r ⌝ }
+{
+    match tag_at(s, at, v) {
+        Tag::Bad => refused(4, at),
+        Tag::Is(_, _, _) => found,
+    }
+}
+
 fn segment_at(s: &[u8], at: usize, t: &[u8; 256], y: Syntax) -> Checked
     requires { ⌜ Table y (now t) ⌝ }
     ensures { λ r. ⌜ CheckedIn (now (s .entry)) at r ⌝ }
 {
-    let v = y.service;
     match scan(s, at, t, y) {
-        Cut::Open => Checked::Refused(Refusal {
-            number: 4,
-            place: at,
-        }),
-        Cut::Ends(e) => {
-            if let Tag::Bad = tag_at(s, at, v) {
-                return Checked::Refused(Refusal {
-                    number: 4,
-                    place: at,
-                });
-            }
-            Checked::Good(e)
-        }
-        Cut::Spoilt(_, b) => {
-            if let Tag::Bad = tag_at(s, at, v) {
-                return Checked::Refused(Refusal {
-                    number: 4,
-                    place: at,
-                });
-            }
-            Checked::Refused(Refusal {
-                number: 3,
-                place: b,
-            })
-        }
+        Cut::Open => refused(4, at),
+        Cut::Ends(e) => tagged(s, at, y.service, Checked::Good(e)),
+        Cut::Spoilt(_, b) => tagged(s, at, y.service, refused(3, b)),
     }
 }
 
