@@ -7,11 +7,13 @@ use mathlib.Core.Logic.{_↔_}
 use mathlib.Core.Path.{_≡_, refl, ap, sym, _∙_, subst}
 use lib.Dec.{T, ltb}
 use lib.ListN.{length, drop}
-use borrow.Author.Tests.{ltb-false, le-ltb, eq-eqb}
+use borrow.Author.Tests.{ltb-false, le-ltb}
 use Rattle.syntax.specs.Octets.{same}
+use Rattle.syntax.specs.ContentLaws.{same-self}
 use Rattle.grammar.specs.PlacingLaws.{same-eq}
 use Rattle.grammar.specs.Verdict.{Verdict, accepted, refusedWith, verdictOf}
 use Rattle.writing.specs.Written.{Text, text, noText, refusedAs, Writes}
+use Rattle.writing.specs.WrittenLaws.{length-told}
 use Rattle.writing.specs.declared.Written.the-variants.{Length}
 use Rattle.register.specs.Register.{registerIn, registerBy, registerOf, checkRefused, told, checkNumbers}
 use Rattle.register.specs.declared.register.Checked.the-variants.{Same}
@@ -23,10 +25,6 @@ pub record Accepted (x : Text) (g : List ℕ) : Type 0 where
   pub short : length g ≤ 65535
 
 -- ---- the check
-
-same-self : (t : List ℕ) → same t t ≡ true
-same-self [] = refl
-same-self (b ∷ t) = rw (eq-eqb b b refl) (same-self t)
 
 text-accepted : (t g : List ℕ) → told Same ≡ checkNumbers (text t) g → Accepted (text t) g
 text-accepted t g e = by (ltb 65535 (length t)) (ltb-false 65535 (length t)) (same t g) (λ d. same-eq t g (subst T (sym d) tt)) e
@@ -67,17 +65,14 @@ front (c ∷ a) (d ∷ b) x y l e =
     let k : a ≡ b = front a b x y (omega (arith, l)) j in
     rw (i, k)
 
-never : {A : Type 0} {n m p : ℕ} → Length n ≡ refusedAs m p → A
-never e = let z : _≡_ {A = ℕ} 0 1 = cc in absurd (omega arith)
-
 writes-accepted : (x : Text) (g out : List ℕ) → Writes x out (Length (length g)) (g ++ drop (length g) out) → Accepted x g
-writes-accepted (noText n p) g out w = never (w .answer)
+writes-accepted (noText n p) g out w = length-told (w .answer)
 writes-accepted (text t) g out w = by (ltb 65535 (length t)) (ltb-false 65535 (length t)) (ltb (length out) (length t)) (w .answer) (w .octets)
   where
     by : (l : Bool) → (l ≡ false → length t ≤ 65535) → (b : Bool) → Length (length g) ≡ cond (cond l true b) (refusedAs 15 0) (Length (length t))
         → g ++ drop (length g) out ≡ cond (cond l true b) out (t ++ drop (length t) out) → Accepted (text t) g
-    by true k b e d = never e
-    by false k true e d = never e
+    by true k b e d = length-told e
+    by false k true e d = length-told e
     by false k false e d =
         let n : length g ≡ length t = cc in
         let h : t ≡ g = sym (front g t (drop (length g) out) (drop (length t) out) n d) in

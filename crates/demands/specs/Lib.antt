@@ -1,4 +1,8 @@
+-- D2c: what is stated
 pub mod Printed
+-- and what is proved, by what a call was asked and what it gave
+pub mod AskedLaws
+pub mod GivenLaws
 pub mod PrintedLaws
 pub mod NumbersLaws
 pub mod CheckedLaws
@@ -14,8 +18,6 @@ pub mod SealedWrittenLaws
 pub mod SealedSegmentLaws
 pub mod SealedValidLaws
 pub mod SealedAcceptedLaws
-pub mod SealedRangesLaws
-pub mod SealedRunsLaws
 pub mod SealedKeptLaws
 pub mod SealedLaws
 pub mod SealWritesLaws

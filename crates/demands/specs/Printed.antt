@@ -7,7 +7,7 @@ use lib.Dec.{T}
 use lib.ListN.{length}
 use lib.Seq.{slice}
 use Rattle.syntax.specs.Octets.{octets as written}
-use Rattle.syntax.specs.Tree.{Segment, print}
+use Rattle.syntax.specs.Tree.{print}
 use Rattle.grammar.specs.Lists.{Snoc, _▷_, _+++_, joined, list}
 use Rattle.grammar.specs.Interchange.{Leaf, Header, Trailer, Open, Message, message, showHeader, showTrailer, showBody, showMessage}
 use Rattle.grammar.specs.Rules.{refH, refT}
@@ -21,7 +21,7 @@ use Rattle.groups.specs.Parts.{scopeH, bodyIn}
 use Rattle.groups.specs.Calls.{serviceIn, messageIn}
 
 -- the message m of the reading of s
-pub record Message′ (s m : List ℕ) : Type 0 where
+pub record MessageOf (s m : List ℕ) : Type 0 where
   pub i : Interchange
   pub read : verdictOf s ≡ accepted i
   pub o : Open
@@ -31,7 +31,7 @@ pub record Message′ (s m : List ℕ) : Type 0 where
 
 -- scope 1: from a to b the header group with the 0534 r, from c to d the body
 pub record Scope1 (s m r : List ℕ) (a b c d : ℕ) : Type 0 where
-  pub of : Message′ s m
+  pub of : MessageOf s m
   -- the headers before it, it, and those behind it
   pub before : Snoc Header
   pub header : Header
@@ -47,7 +47,7 @@ pub record Scope1 (s m r : List ℕ) (a b c d : ℕ) : Type 0 where
 
 -- scope 2: from a to b the header group, the headers behind it, the body, and the trailers before the one with the same 0534
 pub record Scope2 (s m r : List ℕ) (a b : ℕ) : Type 0 where
-  pub of : Message′ s m
+  pub of : MessageOf s m
   pub before : Snoc Header
   pub header : Header
   pub behind : Snoc Header

@@ -1,5 +1,5 @@
 -- Each range has one reading: tags decide where a segment goes, so a list of segments is shown by one tree only.
-use Prim.Native.Nat.{ℕ, suc}
+use Prim.Native.Nat.{ℕ}
 use native.Mathlib.Omega.{arith}
 use mathlib.Core.Path.{_≡_, refl, ap, _∙_, sym}
 use mathlib.Core.List.{List, [], _∷_, _++_, append-assoc, append-nil}
@@ -10,7 +10,7 @@ use Rattle.syntax.specs.Service.{fit}
 use Rattle.syntax.specs.Tree.{Segment}
 use Rattle.syntax.specs.ReaderLaws.{print-injective}
 use Rattle.syntax.specs.declared.Service.{Service}
-use Rattle.grammar.specs.Lists.{Snoc, nil, _▷_, _+++_, joined, list, size, Rule, holds, every, few}
+use Rattle.grammar.specs.Lists.{Snoc, nil, _▷_, _+++_, joined, list, size, holds, every, few}
 use Rattle.grammar.specs.SnocLaws.{onto, not-nil}
 use Rattle.grammar.specs.Segments.{Unb, Unh, seg}
 use Rattle.grammar.specs.Interchange.{Header, Trailer, plain, msg, Message, Reading, start, idle, busy, shown, showMessage}
@@ -19,7 +19,7 @@ use Rattle.grammar.specs.Placing.{place}
 use Rattle.grammar.specs.PlacingLaws.{shows, Back, first, from, last-free, back, Before, shut-order}
 use Rattle.groups.specs.StandLaws.{list-join}
 use Rattle.demands.specs.Range.{Grammar, Reads, Range1, range1, scope1, Range2, range2, scope2, f01}
-use Rattle.grammar.specs.ListsLaws.{joined-join}
+use Rattle.grammar.specs.ListsLaws.{size-join, joined-join, every-join}
 
 -- ---- lists that grow at the end, as plain lists
 
@@ -115,22 +115,14 @@ one-reading-1 = reads-one scope1 stands1
 -- ---- scope 2: in a message with these headers, that body and these trailers
 
 module _ {A : Type 0} where
-  size-front : (x : A) (s : Snoc A) → size (nil ▷ x +++ s) ≡ suc (size s)
-  size-front x nil = refl
-  size-front x (s ▷ y) = ap suc (size-front x s)
-
   few-front : (x : A) (s : Snoc A) → holds (few 8 s) → holds (few 9 (nil ▷ x +++ s))
-  few-front x s k = le→leb (size (nil ▷ x +++ s)) 9 (omega (arith, size-front x s, leb→le (size s) 8 k))
-
-  every-front : (p : A → Rule) (x : A) (s : Snoc A) → holds (p x) → holds (every p s) → holds (every p (nil ▷ x +++ s))
-  every-front p x nil h k = (tt, h)
-  every-front p x (s ▷ y) h k = (every-front p x s h (k .0), k .1)
+  few-front x s k = le→leb (size (nil ▷ x +++ s)) 9 (omega (arith, size-join (nil ▷ x) s, leb→le (size s) 8 k))
 
   -- equal rows have an equal first, and equal ones behind it
   front-one : (x z : A) (s t : Snoc A) → nil ▷ x +++ s ≡ nil ▷ z +++ t → (x ≡ z) × (s ≡ t)
   front-one x z nil nil e = let p : x ≡ z = cc in (p, refl)
-  front-one x z nil (t ▷ b) e = let p : size (nil ▷ x) ≡ size (nil ▷ z +++ (t ▷ b)) = ap size e in absurd (omega (arith, p, size-front z t))
-  front-one x z (s ▷ a) nil e = let p : size (nil ▷ x +++ (s ▷ a)) ≡ size (nil ▷ z) = ap size e in absurd (omega (arith, p, size-front x s))
+  front-one x z nil (t ▷ b) e = let p : size (nil ▷ x) ≡ size (nil ▷ z +++ (t ▷ b)) = ap size e in absurd (omega (arith, p, size-join (nil ▷ z) t))
+  front-one x z (s ▷ a) nil e = let p : size (nil ▷ x +++ (s ▷ a)) ≡ size (nil ▷ z) = ap size e in absurd (omega (arith, p, size-join (nil ▷ x) s))
   front-one x z (s ▷ a) (t ▷ b) e =
       let p : a ≡ b = cc in
       let q : nil ▷ x +++ s ≡ nil ▷ z +++ t = cc in
@@ -149,7 +141,7 @@ behind2 (range2 h hs b ts) = simp (joined-join, list-join, append-assoc)
 
 ordered2 : (t : Range2) → holds (scope2 .rule t) → holds (order (within2 t))
 ordered2 (range2 h hs b ts) k =
-    (tt, (few-front h hs (k .1 .0), (every-front okHeader h hs (k .0) (k .1 .1 .0), (items-ok (nil ▷ h +++ hs) b (k .1 .1 .1), trailers-ok b ts))))
+    (tt, (few-front h hs (k .1 .0), (every-join okHeader (nil ▷ h) hs (tt, k .0) (k .1 .1 .0), (items-ok (nil ▷ h +++ hs) b (k .1 .1 .1), trailers-ok b ts))))
 
 one2 : (t v : Range2) → within2 t ≡ within2 v → t ≡ v
 one2 (range2 h hs b ts) (range2 i is c us) e =

@@ -2,19 +2,20 @@
 use Prim.Native.Nat.{ℕ, suc, _+_, _-_}
 use native.Mathlib.Omega.{arith}
 use mathlib.Core.Path.{_≡_, refl, ap, _∙_, sym, subst}
-use mathlib.Core.List.{List, [], _∷_, _++_}
+use mathlib.Core.List.{List, _++_}
 use mathlib.Core.Option.{Option, some}
-use mathlib.Core.Bool.{Bool, true, false, cond, not, _&&_, _||_}
-use lib.Dec.{T, eqb, eqb-refl, leb→le, le→leb}
+use mathlib.Core.Bool.{Bool, true, false, cond, not}
+use lib.Dec.{T, T-not, leb→le, le→leb}
 use lib.ListN.{length}
 use lib.Seq.{slice}
 use Rattle.syntax.specs.Octets.{octets, same}
 use Rattle.syntax.specs.Service.{fit}
 use Rattle.syntax.specs.Tree.{Segment, print, well}
-use Rattle.syntax.specs.ReaderLaws.{well-cons, well-uncons}
+use Rattle.syntax.specs.ContentLaws.{same-self}
+use Rattle.syntax.specs.TreeLaws.{and-left, and-right}
 use Rattle.syntax.specs.declared.Service.{Service}
 use Rattle.syntax.specs.declared.Syntax.{Syntax}
-use Rattle.grammar.specs.Lists.{Snoc, nil, _▷_, _+++_, joined, list, each, size, any, check, among, sum, Rule, holds, every, few, distinct}
+use Rattle.grammar.specs.Lists.{Snoc, nil, _▷_, _+++_, joined, list, each, size, any, check, among, sum, holds, every, few, distinct}
 use Rattle.grammar.specs.Segments.{Unb, Unh, Unt, Unz, seg}
 use Rattle.grammar.specs.Interchange.{Leaf, Header, header, Body, plain, ack, Open, msg, Message, message, showHeader, showTrailer, showBody, showOpen, showMessage, shown, idle}
 use Rattle.grammar.specs.Rules.{auto, okHeader, okItem, okBody, okMessage, scopeRight, scopesMessage, refM}
@@ -30,35 +31,29 @@ use Rattle.grammar.specs.PlacingLaws.{same-eq, regroup}
 use Rattle.spans.specs.Span.{other}
 use Rattle.spans.specs.SpanLaws.{Parts as RunParts, parted-so}
 use Rattle.judge.specs.FindingLaws.{totals-placed}
-use Rattle.groups.specs.StandLaws.{list-join, print-append, well-parts}
+use Rattle.groups.specs.StandLaws.{list-join, print-append, well-append, well-parts}
 use Rattle.groups.specs.Parts.{scopeH, bodyIn}
 use Rattle.groups.specs.Calls.{given, serviceIn, messageIn}
 use Rattle.groups.specs.CallsLaws.{placed-every}
 use Rattle.ranges.specs.Ranges.{parts, scope1Of, run, scope2Of}
 use Rattle.f01.specs.F01.{f01Of}
 use Rattle.demands.specs.Printed.{Scope1, Scope2, F01}
-use Rattle.demands.specs.PrintedLaws.{read-stands, message-stands, scope1-printed, scope2-printed, f01-printed}
+use Rattle.demands.specs.AskedLaws.{read-stands, message-stands}
+use Rattle.demands.specs.PrintedLaws.{scope1-printed, scope2-printed, f01-printed}
 use Rattle.demands.specs.Range.{Grammar, Reads, Same, totalIn, Range1, range1, scope1, Range2, range2, scope2, f01}
 use Rattle.demands.specs.RangeLaws.{one-reading-1, one-reading-2, one-reading-f01}
 use Rattle.demands.specs.Read.{syntaxBy, syntaxOf, totalsFor, Read1, tree1, Alike1, Read2, tree2, Alike2, ReadF, AlikeF}
-use Rattle.grammar.specs.ListsLaws.{joined-join}
+use Rattle.grammar.specs.ListsLaws.{size-join, joined-join, every-left, every-right}
+use Rattle.grammar.specs.TestLaws.{is-true, passes, or-left, or-right}
 
 -- ---- in parts
 
-every-parts : {A : Type 0} (p : A → Rule) (a b : Snoc A) → holds (every p (a +++ b)) → holds (every p a) × holds (every p b)
-every-parts p a nil h = (h, tt)
-every-parts p a (b ▷ x) h = let k = every-parts p a b (h .0) in (k .0, (k .1, h .1))
-
 module _ (σ : Service) where
-  well-append : (gs hs : List Segment) → T (well σ gs) → T (well σ hs) → T (well σ (gs ++ hs))
-  well-append [] hs v w = w
-  well-append (g ∷ gs) hs v w = let k = well-uncons σ g gs v in well-cons σ g (gs ++ hs) (k .0) (well-append gs hs (k .1) w)
-
   well-parted : (a b : Snoc Segment) → T (well σ (list (a +++ b))) → T (well σ (list a)) × T (well σ (list b))
   well-parted a b w = well-parts σ (list a) (list b) (subst (λ (l : List Segment). T (well σ l)) (list-join a b) w)
 
   well-joined : (a b : Snoc Segment) → T (well σ (list a)) → T (well σ (list b)) → T (well σ (list (a +++ b)))
-  well-joined a b v w = subst (λ (l : List Segment). T (well σ l)) (sym (list-join a b)) (well-append (list a) (list b) v w)
+  well-joined a b v w = subst (λ (l : List Segment). T (well σ l)) (sym (list-join a b)) (well-append σ (list a) (list b) v w)
 
   print-joined : (a b : Snoc Segment) → print σ (list (a +++ b)) ≡ print σ (list a) ++ print σ (list b)
   print-joined a b = ap (print σ) (list-join a b) ∙ print-append σ (list a) (list b)
@@ -119,24 +114,16 @@ items-so hs (plain nil) k = record { items = nil; plainly = refl; free = tt }
 items-so hs (plain (b ▷ i)) k = record { items = b ▷ i; plainly = refl; free = k .1 }
 items-so hs (ack c ls) k = absurd (k .0)
 
-never-both : (b : Bool) → T (not b) → T b → ⊥
-never-both true n k = n
-never-both false n k = k
-
 no-auto : (a : Bool) (x : Header) (code : List ℕ) → T (not (same code (octets "F01"))) → holds (scopeRight a x) → scopeH x ≡ code → a ≡ false
-no-auto true (header c us cs) code n k e = absurd (never-both (same code (octets "F01")) n (subst (λ (l : List ℕ). T (same l (octets "F01"))) e k))
+no-auto true (header c us cs) code n k e = absurd (T-not (same code (octets "F01")) n (subst (λ (l : List ℕ). T (same l (octets "F01"))) e k))
 no-auto false x code n k e = refl
 
 module _ (code : List ℕ) (n : T (not (same code (octets "F01")))) where
   body-so : (o : Open) (t : Leaf) (x : Header) (bs ls : Snoc Header) → headersIn o ≡ bs ▷ x +++ ls → scopeH x ≡ code
       → holds (okMessage (message o t)) → holds (scopesMessage (message o t)) → Items (bodyIn o)
   body-so (msg u hs w ts) t x bs ls e c k j =
-      let y = every-parts (scopeRight (auto u)) (bs ▷ x) ls (subst (λ (z : Snoc Header). holds (every (scopeRight (auto u)) z)) e j) in
-      items-so hs w (subst (λ (b : Bool). holds (okBody b hs w)) (no-auto (auto u) x code n (y .0 .1) c) (k .0 .1 .1 .0))
-
-size-join : {A : Type 0} (a b : Snoc A) → size (a +++ b) ≡ size a + size b
-size-join a nil = omega arith
-size-join a (b ▷ x) = omega (arith, size-join a b)
+      let y = every-left (scopeRight (auto u)) (bs ▷ x) ls (subst (λ (z : Snoc Header). holds (every (scopeRight (auto u)) z)) e j) in
+      items-so hs w (subst (λ (b : Bool). holds (okBody b hs w)) (no-auto (auto u) x code n (y .1) c) (k .0 .1 .1 .0))
 
 -- those behind one of a row are fewer than all
 few-behind : {A : Type 0} (xs bs ls : Snoc A) (x : A) (n : ℕ) → xs ≡ bs ▷ x +++ ls → holds (few (suc n) xs) → holds (few n ls)
@@ -150,8 +137,8 @@ few-behind xs bs ls x n e k =
 headers-so : (o : Open) (t : Leaf) (x : Header) (bs ls : Snoc Header) → headersIn o ≡ bs ▷ x +++ ls → holds (okMessage (message o t))
     → holds (okHeader x) × holds (few 8 ls) × holds (every okHeader ls)
 headers-so (msg u hs w ts) t x bs ls e k =
-    let y = every-parts okHeader (bs ▷ x) ls (subst (λ (z : Snoc Header). holds (every okHeader z)) e (k .0 .1 .0)) in
-    (y .0 .1, few-behind hs bs ls x 8 e (k .0 .0), y .1)
+    let y = subst (λ (z : Snoc Header). holds (every okHeader z)) e (k .0 .1 .0) in
+    (every-left okHeader (bs ▷ x) ls y .1, few-behind hs bs ls x 8 e (k .0 .0), every-right okHeader (bs ▷ x) ls y)
 
 -- loads lie in the body only
 loads-so : (o : Open) (t : Leaf) → loadsM (message o t) ≡ loadsB (bodyIn o)
@@ -293,24 +280,9 @@ module _ (s m r s′ m′ r′ : List ℕ) (a b a′ b′ : ℕ) where
 
 -- ---- F01
 
-true-so : (b : Bool) → T b → b ≡ true
-true-so true h = refl
-true-so false h = absurd h
-
 -- a 0062 is used once, so a message named by its own is that message
-same-self : (x : List ℕ) → same x x ≡ true
-same-self [] = refl
-same-self (n ∷ x) = rw (true-so (eqb n n) (eqb-refl n)) (same-self x)
-
-or-left : (a b : Bool) → a ≡ true → T (a || b)
-or-left a b e = subst (λ (c : Bool). T (c || b)) (sym e) tt
-
-or-right : (a b : Bool) → T b → T (a || b)
-or-right true b h = tt
-or-right false b h = h
-
 among-there : (bs ls : Snoc Message) (x : Message) → T (among (each refM (bs ▷ x +++ ls)) (refM x))
-among-there bs nil x = or-left (same (refM x) (refM x)) (among (each refM bs) (refM x)) (same-self (refM x))
+among-there bs nil x = or-left (same (refM x) (refM x)) (among (each refM bs) (refM x)) (passes (same (refM x) (refM x)) (same-self (refM x)))
 among-there bs (ls ▷ l) x = or-right (same (refM l) (refM x)) (among (each refM (bs ▷ x +++ ls)) (refM x)) (among-there bs ls x)
 
 totals-at : (bs ls : Snoc Message) (x : Message) → holds (distinct (each refM (bs ▷ x +++ ls))) → totalsIn (bs ▷ x +++ ls) (refM x) ≡ totalsFor (loadsM x)
@@ -322,7 +294,7 @@ totals-at bs (ls ▷ l) x d = by (same (refM l) (refM x)) (same-eq (refM l) (ref
     by true f h =
         let k : T (among (each refM (bs ▷ x +++ ls)) (refM l)) =
         subst (λ (r : List ℕ). T (among (each refM (bs ▷ x +++ ls)) r)) (sym (f tt)) (among-there bs ls x) in
-        absurd (never-both (among (each refM (bs ▷ x +++ ls)) (refM l)) (d .1) k)
+        absurd (T-not (among (each refM (bs ▷ x +++ ls)) (refM l)) (d .1) k)
     by false f h = h
 
 -- for each message of a run
@@ -361,26 +333,27 @@ messages-written s (interchange n u ms z) e =
     let a = well-parted σ (shown (idle u ms)) (nil ▷ seg Unz z) (read-stands s (interchange n u ms z) e .written) in
     well-parted σ (nil ▷ seg Unb u) (joined showMessage ms) (a .0) .1
 
-and-both : (a b : Bool) → T (a && b) → T a × T b
-and-both true b h = (tt, h)
-and-both false b h = absurd h
-
 module _ (s : List ℕ) (a b : ℕ) where
   read-f : F01 s a b → ReadF s a b
   read-f p =
       let v = valid-so s (p .i) (p .read) in
       let σ : Service = serviceIn (p .i) in
       let w : RunParts (messagesIn (p .i)) (p .before) (p .run) (p .behind) = parted-so {ms = messagesIn (p .i)} (p .parts) in
-      let o = every-parts okMessage (p .before +++ p .run) (p .behind) (subst (λ (z : Snoc Message). holds (every okMessage z)) (w .whole) (messages-ordered (p .i) v)) in
+      let o = every-left okMessage (p .before +++ p .run) (p .behind) (subst (λ (z : Snoc Message). holds (every okMessage z)) (w .whole) (messages-ordered (p .i) v)) in
       let wr = subst (λ (z : Snoc Message). T (well σ (list (joined showMessage z)))) (w .whole) (messages-written s (p .i) (p .read)) in
       let w1 = well-parted σ (joined showMessage (p .before +++ p .run)) (joined showMessage (p .behind))
       (subst (λ (z : Snoc Segment). T (well σ (list z))) (joined-join showMessage (p .before +++ p .run) (p .behind)) wr) in
       let w2 = well-parted σ (joined showMessage (p .before)) (joined showMessage (p .run))
       (subst (λ (z : Snoc Segment). T (well σ (list z))) (joined-join showMessage (p .before) (p .run)) (w1 .0)) in
-      let r = and-both (any (p .run)) (check (every other (p .run))) (p .right) in
       let k : Reads f01 σ (slice a b s) (p .run) =
       record {
-        ordered = (r .0, (check-holds (every other (p .run)) (true-so (check (every other (p .run))) (r .1)), every-parts okMessage (p .before) (p .run) (o .0) .1));
+        ordered = (
+          and-left (any (p .run)) (check (every other (p .run))) (p .right),
+          (
+            check-holds (every other (p .run)) (is-true (check (every other (p .run))) (and-right (any (p .run)) (check (every other (p .run))) (p .right))),
+            every-right okMessage (p .before) (p .run) o,
+          ),
+        );
         written = w2 .1;
         printed = sym (p .octets);
       } in

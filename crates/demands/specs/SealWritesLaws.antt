@@ -2,30 +2,25 @@
 use Prim.Native.Nat.{ℕ, _≤_}
 use native.Mathlib.Omega.{arith}
 use mathlib.Core.Path.{_≡_, refl, ap, _∙_, sym}
-use mathlib.Core.List.{List, [], _∷_, _++_}
+use mathlib.Core.List.{List, _++_}
 use mathlib.Core.Bool.{Bool, true, false, cond}
 use lib.Dec.{ltb}
 use lib.ListN.{length, take, drop}
+use lib.Seq.{take-append-seam}
 use borrow.Author.Tests.{ltb-false}
 use Rattle.writing.specs.Written.{Text, text, noText, refusedAs, Writes}
+use Rattle.writing.specs.WrittenLaws.{length-told}
 use Rattle.writing.specs.declared.Written.the-variants.{Length}
 
-refused-not : {A : Type 0} {k n p : ℕ} → Length k ≡ refusedAs n p → A
-refused-not e = let z : _≡_ {A = ℕ} 0 1 = cc in absurd (omega arith)
-
-take-front : (a b : List ℕ) → take (length a) (a ++ b) ≡ a
-take-front [] b = refl
-take-front (x ∷ a) b = ap (λ (l : List ℕ). x ∷ l) (take-front a b)
-
 pub writes-so : (t : Text) (out : List ℕ) (k : ℕ) (out′ : List ℕ) → Writes t out (Length k) out′ → (t ≡ text (take k out′)) × ((length (take k out′) ≡ k) × (k ≤ 65535))
-writes-so (noText n p) out k out′ w = refused-not (w .answer)
+writes-so (noText n p) out k out′ w = length-told (w .answer)
 writes-so (text x) out k out′ w = by (ltb 65535 (length x)) refl (ltb (length out) (length x)) (w .answer) (w .octets)
   where
     by : (a : Bool) → ltb 65535 (length x) ≡ a → (b : Bool) → Length k ≡ cond (cond a true b) (refusedAs 15 0) (Length (length x)) → out′ ≡ cond (cond a true b) out (x ++ drop (length x) out)
         → (text x ≡ text (take k out′)) × ((length (take k out′) ≡ k) × (k ≤ 65535))
-    by true d b e o = refused-not e
-    by false d true e o = refused-not e
+    by true d b e o = length-told e
+    by false d true e o = length-told e
     by false d false e o =
         let n : k ≡ length x = cc in
-        let f : take k out′ ≡ x = ap (λ (j : ℕ). take j out′) n ∙ ap (take (length x)) o ∙ take-front x (drop (length x) out) in
+        let f : take k out′ ≡ x = ap (λ (j : ℕ). take j out′) n ∙ ap (take (length x)) o ∙ take-append-seam x (drop (length x) out) in
         (ap text (sym f), (ap length f ∙ sym n, omega (arith, n, ltb-false 65535 (length x) d)))

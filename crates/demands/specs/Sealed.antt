@@ -6,7 +6,7 @@ use mathlib.Core.Option.{some}
 use lib.Seq.{slice}
 use Rattle.grammar.specs.Lists.{Snoc, _▷_, _+++_}
 use Rattle.grammar.specs.Segments.{number}
-use Rattle.grammar.specs.Interchange.{Leaf, Open, Message, message}
+use Rattle.grammar.specs.Interchange.{Message, message}
 use Rattle.grammar.specs.Valid.{Interchange, syntaxIn}
 use Rattle.grammar.specs.Verdict.{accepted, verdictOf}
 use Rattle.grammar.specs.Named.{placed}
@@ -14,6 +14,7 @@ use Rattle.grammar.specs.Counted.{messagesIn}
 use Rattle.writing.specs.Written.{text}
 use Rattle.groups.specs.Calls.{given, serviceIn, messageIn}
 use Rattle.ranges.specs.Ranges.{parts, run, scope1Of, scope2Of}
+use Rattle.demands.specs.Printed.{MessageOf}
 use Rattle.sealing.specs.Sealing.{newHeader, newTrailer, grown, sealedMessage, sealed, textBy, sealOctetsOf}
 
 -- the tree that sealing the message m of i gives: for VALUE v under F f, with the reference r
@@ -24,23 +25,18 @@ sealedBy i m r f v = sealed i m (newHeader r f) (newTrailer (serviceIn i) r (tex
 -- trailer group last in that message and UNT's count four more
 pub record Accepted (s m r : List ℕ) (f : ℕ) (v x : List ℕ) : Type 0 where
   -- the old tree, its message m, and where its UNH stands
-  pub i : Interchange
-  pub read : verdictOf s ≡ accepted i
-  pub o : Open
-  pub n : Leaf
-  pub q : ℕ
-  pub named : messageIn i m ≡ some (placed (message o n) q)
+  pub of : MessageOf s m
   -- the new tree: the same UNA, UNB and UNZ, the message that is sealed where the message was, and all other messages as they were
-  pub reads : verdictOf x ≡ accepted (sealedBy i m r f v)
+  pub reads : verdictOf x ≡ accepted (sealedBy (of .i) m r f v)
   pub before : Snoc Message
   pub behind : Snoc Message
-  pub old : messagesIn i ≡ before ▷ message o n +++ behind
-  pub new : messagesIn (sealedBy i m r f v) ≡ before ▷ sealedMessage (newHeader r f) (newTrailer (serviceIn i) r (textBy f v)) (message o n) +++ behind
-  pub counts : number (grown n) 1 ≡ number n 1 + 4
+  pub old : messagesIn (of .i) ≡ before ▷ message (of .o) (of .t) +++ behind
+  pub new : messagesIn (sealedBy (of .i) m r f v) ≡ before ▷ sealedMessage (newHeader r f) (newTrailer (serviceIn (of .i)) r (textBy f v)) (message (of .o) (of .t)) +++ behind
+  pub counts : number (grown (of .t)) 1 ≡ number (of .t) 1 + 4
   -- it is found by the same 0062, at the same place
-  pub stays : messageIn (sealedBy i m r f v) m ≡ some (placed (sealedMessage (newHeader r f) (newTrailer (serviceIn i) r (textBy f v)) (message o n)) q)
+  pub stays : messageIn (sealedBy (of .i) m r f v) m ≡ some (placed (sealedMessage (newHeader r f) (newTrailer (serviceIn (of .i)) r (textBy f v)) (message (of .o) (of .t))) (of .q))
   -- the same repertoire, version and service characters are in force
-  pub settled : syntaxIn (sealedBy i m r f v) ≡ syntaxIn i
+  pub settled : syntaxIn (sealedBy (of .i) m r f v) ≡ syntaxIn (of .i)
 
 -- "For one interchange, message, REF and F, the new header's range in the sealed interchange is what the first call wrote."
 pub record Signed (s m r : List ℕ) (f : ℕ) (x : List ℕ) : Type 0 where

@@ -14,15 +14,16 @@ use Rattle.grammar.specs.Valid.{Interchange, interchange, print, syntaxIn, open
 use Rattle.grammar.specs.Verdict.{accepted, verdictOf}
 use Rattle.grammar.specs.VerdictLaws.{verdict-exact}
 use Rattle.grammar.specs.Named.{Placed, placed}
+use Rattle.grammar.specs.TestLaws.{passes}
+use Rattle.sealing.specs.WovenLaws.{around}
 use Rattle.writing.specs.Written.{Text, text, noText}
 use Rattle.groups.specs.Calls.{Answered, given, refusedAs, answeredBy, then, serviceIn, messageIn}
 use Rattle.values.specs.Values.{answered}
 use Rattle.sealing.specs.Sealing.{newHeader, newTrailer, maySeal, lengthRight, writable, textBy, sealedText, orUnwritten, sealAt, sealOf}
-use Rattle.demands.specs.PrintedLaws.{given-so}
+use Rattle.demands.specs.AskedLaws.{given-so}
 use Rattle.demands.specs.Sealed.{sealedBy, Accepted}
-use Rattle.demands.specs.SealedListLaws.{of-true}
 use Rattle.demands.specs.SealedNumberLaws.{grown-number}
-use Rattle.demands.specs.SealedTreeLaws.{placed-sealed, around}
+use Rattle.demands.specs.SealedTreeLaws.{placed-sealed}
 use Rattle.demands.specs.SealedSegmentLaws.{text-short}
 use Rattle.demands.specs.SealedValidLaws.{small, sealed-valid}
 
@@ -64,7 +65,7 @@ module _ (s m r : List ℕ) (f : ℕ) (v x : List ℕ) where
       by : (c : Bool) → (maySeal (msg u hs b ts) r f && lengthRight f v) ≡ c → cond c (orUnwritten i m r f (textBy f v)) (noText 16 0) ≡ text x → Succeeds s m r f v x
       by true a e =
           let w = written-so i e in
-          let h = of-true (maySeal (msg u hs b ts) r f && lengthRight f v) a in
+          let h = passes (maySeal (msg u hs b ts) r f && lengthRight f v) a in
           record {
             i = i;
             read = d;
@@ -111,17 +112,12 @@ module _ (s m r : List ℕ) (f : ℕ) (v x : List ℕ) where
           let i : Interchange = interchange k u ms z in
           let H : Header = newHeader r f in
           let R : Trailer = newTrailer (serviceIn (interchange k u ms z)) r (textBy f v) in
-          let g = around H R m (serviceIn i) (openingIn k .at) u ms e in
+          let g = around (serviceIn i) (openingIn k .at) u H R m ms e in
           record {
-            i = i;
-            read = d;
-            o = msg (w .u) (w .hs) (w .b) (w .ts);
-            n = w .n;
-            q = w .q;
-            named = e;
+            of = record { i = i; read = d; o = msg (w .u) (w .hs) (w .b) (w .ts); t = w .n; q = w .q; named = e };
             reads = a;
             before = g .before;
-            behind = g .behind;
+            behind = g .after;
             old = g .was;
             new = g .becomes;
             counts = grown-number (w .n) (small k u ms z (verdict-exact s i .0 d .0) m r f (textBy f v) (serviceIn i) (openingIn k .at) (w .u) (w .hs) (w .b) (w .ts) (w .n) (w .q) e);

@@ -5,7 +5,6 @@ use mathlib.Core.List.{List}
 use mathlib.Core.Option.{some}
 use mathlib.Core.Bool.{Bool, true, false, not, cond}
 use lib.Dec.{T}
-use lib.Seq.{slice}
 use Rattle.syntax.specs.Octets.{octets, same}
 use Rattle.syntax.specs.Tree.{print}
 use Rattle.syntax.specs.declared.Service.{Service}
@@ -14,18 +13,21 @@ use Rattle.grammar.specs.Interchange.{Leaf, Header, Trailer, Body, msg, Message
 use Rattle.grammar.specs.Rules.{refH, refT}
 use Rattle.grammar.specs.Valid.{Interchange, interchange, openingIn}
 use Rattle.grammar.specs.Verdict.{accepted, verdictOf}
+use Rattle.grammar.specs.VerdictLaws.{accepted-one}
+use Rattle.grammar.specs.TestLaws.{passes}
 use Rattle.grammar.specs.PlacingLaws.{same-eq, regroup}
 use Rattle.grammar.specs.Named.{placed}
 use Rattle.groups.specs.Groups.{chosen, chosenBy}
+use Rattle.groups.specs.GroupsLaws.{Among, chosen-among}
 use Rattle.groups.specs.Calls.{given, serviceIn, messageIn}
 use Rattle.ranges.specs.Ranges.{parts, run, scope1Of, scope2Of}
 use Rattle.sealing.specs.Sealing.{newHeader, newTrailer, grown, sealedMessage, sealed, textBy}
 use Rattle.demands.specs.Sealed.{sealedBy, Kept1, Kept2}
-use Rattle.demands.specs.SealedListLaws.{front, of-true, same-swap, away, chosen-old}
+use Rattle.demands.specs.SealedListLaws.{front, same-swap, away, chosen-old}
 use Rattle.demands.specs.SealedNumberLaws.{ref-trailer}
 use Rattle.demands.specs.SealedTreeLaws.{placed-sealed, placed-other}
-use Rattle.demands.specs.SealedRangesLaws.{There1, there1, Asks, asks1, asks2}
-use Rattle.demands.specs.SealedRunsLaws.{Among, chosen-among, runOf, There2, there2, tail-so}
+use Rattle.demands.specs.AskedLaws.{Asks, asks1, asks2}
+use Rattle.demands.specs.GivenLaws.{There1, there1, stands1, runOf, There2, there2, tail-so, stands2}
 
 -- ---- the sealed interchange: its service characters, the message that is sealed, and the others
 
@@ -39,9 +41,6 @@ pub message-other : (i : Interchange) (m : List ℕ) (h : Header) (t : Trailer) 
     → (j : ℕ) × (messageIn (sealed i m h t) k ≡ some (placed x j))
 message-other (interchange n u ms z) m h t k d e = placed-other h t m (serviceIn (interchange n u ms z)) (openingIn n .at) u k d ms e
 
-accepted-one : {i j : Interchange} → accepted i ≡ accepted j → i ≡ j
-accepted-one e = cc
-
 -- ---- the ranges
 
 module _ (s m r : List ℕ) (f : ℕ) (v x : List ℕ) (i : Interchange) (read : verdictOf s ≡ accepted i) (reads : verdictOf x ≡ accepted (sealedBy i m r f v)) where
@@ -54,44 +53,69 @@ module _ (s m r : List ℕ) (f : ℕ) (v x : List ℕ) (i : Interchange) (read :
   reads-as : (j : Interchange) → verdictOf s ≡ accepted j → verdictOf x ≡ accepted (sealedBy j m r f v)
   reads-as j d = reads ∙ ap (λ (i : Interchange). accepted (sealedBy i m r f v)) (accepted-one (sym read ∙ d))
 
+  -- what was asked of a message is asked of it again, now that it is sealed
+  abbrev again : {k h code : List ℕ} (w : Asks s k h code) → same m k ≡ true → Asks x k h code
+  again {k} {h} w d =
+      let e : m ≡ k = same-eq m k (passes (same m k) d) in
+      let n : messageIn (w .i) m ≡ some (placed (message (msg (w .u) (w .hs) (w .b) (w .ts)) (w .n)) (w .q)) = ap (messageIn (w .i)) e ∙ w .named in
+      record {
+        i = sealedBy (w .i) m r f v;
+        read = reads-as (w .i) (w .read);
+        u = w .u;
+        hs = front H (w .hs);
+        b = w .b;
+        ts = w .ts ▷ R (w .i);
+        n = grown (w .n);
+        q = w .q;
+        named = ap (messageIn (sealedBy (w .i) m r f v)) (sym e) ∙ message-sealed (w .i) m H (R (w .i)) n;
+        ys = front H (w .ys);
+        y = w .y;
+        chose = chosen-old refH h H (w .hs) (w .chose);
+        scoped = w .scoped;
+      }
+
+  -- and of another message, which is as it was
+  abbrev aside : {k h code : List ℕ} (w : Asks s k h code) → same m k ≡ false → Asks x k h code
+  aside {k} w d =
+      let o = message-other (w .i) m H (R (w .i)) k d (w .named) in
+      record {
+        i = sealedBy (w .i) m r f v;
+        read = reads-as (w .i) (w .read);
+        u = w .u;
+        hs = w .hs;
+        b = w .b;
+        ts = w .ts;
+        n = w .n;
+        q = o .0;
+        named = o .1;
+        ys = w .ys;
+        y = w .y;
+        chose = w .chose;
+        scoped = w .scoped;
+      }
+
   -- scope 1: the header and the body stand in the new range
   still1 : (k h : List ℕ) (w : Asks s k h (octets "1")) → There1 x k h (serviceIn (sealedBy (w .i) m r f v)) (w .y) (w .b)
   still1 k h w = by (same m k) refl
     where
       by : (c : Bool) → same m k ≡ c → There1 x k h (serviceIn (sealedBy (w .i) m r f v)) (w .y) (w .b)
-      by true d =
-          let e : m ≡ k = same-eq m k (of-true (same m k) d) in
-          let n : messageIn (w .i) m ≡ some (placed (message (msg (w .u) (w .hs) (w .b) (w .ts)) (w .n)) (w .q)) = ap (messageIn (w .i)) e ∙ w .named in
-          there1 x k h (sealedBy (w .i) m r f v) (w .u) (front H (w .hs)) (w .b) (w .ts ▷ R (w .i)) (grown (w .n)) (w .q) (front H (w .ys)) (w .y)
-          (reads-as (w .i) (w .read)) (ap (messageIn (sealedBy (w .i) m r f v)) (sym e) ∙ message-sealed (w .i) m H (R (w .i)) n)
-          (chosen-old refH h H (w .hs) (w .chose)) (w .scoped)
-      by false d =
-          let o = message-other (w .i) m H (R (w .i)) k d (w .named) in
-          there1 x k h (sealedBy (w .i) m r f v) (w .u) (w .hs) (w .b) (w .ts) (w .n) (o .0) (w .ys) (w .y) (reads-as (w .i) (w .read)) (o .1) (w .chose) (w .scoped)
+      by true d = there1 x k h (again w d)
+      by false d = there1 x k h (aside w d)
 
   pub scope1-kept : (k h : List ℕ) (a b c d : ℕ) → scope1Of s k h ≡ given (parts a b c d) → Kept1 s x k h a b c d
   scope1-kept k h a b c d e =
       let w = asks1 s k h e in
-      let o = there1 s k h (w .i) (w .u) (w .hs) (w .b) (w .ts) (w .n) (w .q) (w .ys) (w .y) (w .read) (w .named) (w .chose) (w .scoped) in
+      let o = stands1 s k h w e in
       let n = still1 k h w in
       let σ : serviceIn (sealedBy (w .i) m r f v) ≡ serviceIn (w .i) = service-sealed (w .i) m H (R (w .i)) in
-      let g : given (parts (o .start) (o .end) (o .body) (o .body-end)) ≡ given (parts a b c d) = sym (o .range) ∙ e in
-      let ea : o .start ≡ a = cc in
-      let eb : o .end ≡ b = cc in
-      let ec : o .body ≡ c = cc in
-      let ed : o .body-end ≡ d = cc in
       record {
         header = n .start;
         header-end = n .end;
         body = n .body;
         body-end = n .body-end;
         range = n .range;
-        header-octets =
-            n .header-octets ∙ ap (λ (z : Service). print z (list (showHeader (w .y)))) σ ∙ sym (o .header-octets)
-            ∙ ap (λ (z : ℕ). slice z (o .end) s) ea ∙ ap (λ (z : ℕ). slice a z s) eb;
-        body-octets =
-            n .body-octets ∙ ap (λ (z : Service). print z (list (showBody (w .b)))) σ ∙ sym (o .body-octets)
-            ∙ ap (λ (z : ℕ). slice z (o .body-end) s) ec ∙ ap (λ (z : ℕ). slice c z s) ed;
+        header-octets = n .header-part .octets ∙ ap (λ (z : Service). print z (list (showHeader (w .y)))) σ ∙ sym (o .0 .octets);
+        body-octets = n .body-part .octets ∙ ap (λ (z : Service). print z (list (showBody (w .b)))) σ ∙ sym (o .1 .octets);
       }
 
   -- scope 2: the REF is new among the headers of the message that is named, whatever else it has
@@ -100,42 +124,28 @@ module _ (s m r : List ℕ) (f : ℕ) (v x : List ℕ) (i : Interchange) (read :
         → There2 x k h (serviceIn (sealedBy (w .i) m r f v)) (runOf (w .y) (p .rest) (w .b) es)
     still2 k h w es e l p = by (same m k) refl
       where
-        t : Among refT h (w .ts) es e
-        t = chosen-among refT h (w .ts) l
-
         by : (c : Bool) → same m k ≡ c → There2 x k h (serviceIn (sealedBy (w .i) m r f v)) (runOf (w .y) (p .rest) (w .b) es)
         by true d =
-            let g : m ≡ k = same-eq m k (of-true (same m k) d) in
-            let n : messageIn (w .i) m ≡ some (placed (message (msg (w .u) (w .hs) (w .b) (w .ts)) (w .n)) (w .q)) = ap (messageIn (w .i)) g ∙ w .named in
+            let g : m ≡ k = same-eq m k (passes (same m k) d) in
             let j : i ≡ w .i = accepted-one (sym read ∙ w .read) in
-            let a : T (not (among (each refH (w .hs)) r)) = new (w .u) (w .hs) (w .b) (w .ts) (w .n) (w .q) (ap (λ (i : Interchange). messageIn i m) j ∙ n) in
+            let a : T (not (among (each refH (w .hs)) r)) =
+            new (w .u) (w .hs) (w .b) (w .ts) (w .n) (w .q) (ap (λ (i : Interchange). messageIn i m) j ∙ ap (messageIn (w .i)) g ∙ w .named) in
             let z : same (refT (R (w .i))) h ≡ false = ap (λ (y : List ℕ). same y h) (ref-trailer (serviceIn (w .i)) r (textBy f v)) ∙ same-swap h r (away (each refH (w .hs)) r h a (p .there)) in
-            there2 x k h (sealedBy (w .i) m r f v) (w .u) (front H (w .hs)) (w .b) (w .ts ▷ R (w .i)) (grown (w .n)) (w .q) (front H (w .ys)) (w .y) (p .rest) es e (t .rest ▷ R (w .i))
-            (reads-as (w .i) (w .read)) (ap (messageIn (sealedBy (w .i) m r f v)) (sym g) ∙ message-sealed (w .i) m H (R (w .i)) n)
-            (ap (front H) (p .whole) ∙ regroup (nil ▷ H) (w .ys ▷ w .y) (p .rest)) (ap (λ (y : Snoc Trailer). y ▷ R (w .i)) (t .whole))
-            (chosen-old refH h H (w .hs) (w .chose)) (w .scoped) (ap (λ (c : Bool). cond c (some (chosen (w .ts) (R (w .i)))) (chosenBy refT (w .ts) h)) z ∙ l)
-        by false d =
-            let o = message-other (w .i) m H (R (w .i)) k d (w .named) in
-            there2 x k h (sealedBy (w .i) m r f v) (w .u) (w .hs) (w .b) (w .ts) (w .n) (o .0) (w .ys) (w .y) (p .rest) es e (t .rest) (reads-as (w .i) (w .read)) (o .1)
-            (p .whole) (t .whole) (w .chose) (w .scoped) l
+            there2 x k h (again w d) (p .rest) es e (ap (front H) (p .whole) ∙ regroup (nil ▷ H) (w .ys ▷ w .y) (p .rest))
+            (ap (λ (c : Bool). cond c (some (chosen (w .ts) (R (w .i)))) (chosenBy refT (w .ts) h)) z ∙ l)
+        by false d = there2 x k h (aside w d) (p .rest) es e (p .whole) l
 
     pub scope2-kept : (k h : List ℕ) (a b : ℕ) → scope2Of s k h ≡ given (run a b) → Kept2 s x k h a b
     scope2-kept k h a b e =
         let w = asks2 s k h e in
         let l = tail-so s k h w e in
         let p = chosen-among refH h (w .hs) (w .chose) in
-        let t = chosen-among refT h (w .ts) (l .1 .1) in
-        let o = there2 s k h (w .i) (w .u) (w .hs) (w .b) (w .ts) (w .n) (w .q) (w .ys) (w .y) (p .rest) (l .0) (l .1 .0) (t .rest) (w .read) (w .named) (p .whole) (t .whole) (w .chose) (w .scoped) (l .1 .1) in
+        let o = stands2 s k h w (p .rest) (l .0) (l .1 .0) (p .whole) (l .1 .1) e in
         let n = still2 k h w (l .0) (l .1 .0) (l .1 .1) p in
         let σ : serviceIn (sealedBy (w .i) m r f v) ≡ serviceIn (w .i) = service-sealed (w .i) m H (R (w .i)) in
-        let g : given (run (o .start) (o .end)) ≡ given (run a b) = sym (o .range) ∙ e in
-        let ea : o .start ≡ a = cc in
-        let eb : o .end ≡ b = cc in
         record {
           start = n .start;
           end = n .end;
           range = n .range;
-          octets =
-              n .octets ∙ ap (λ (z : Service). print z (list (runOf (w .y) (p .rest) (w .b) (l .0)))) σ ∙ sym (o .octets)
-              ∙ ap (λ (z : ℕ). slice z (o .end) s) ea ∙ ap (λ (z : ℕ). slice a z s) eb;
+          octets = n .stands .octets ∙ ap (λ (z : Service). print z (list (runOf (w .y) (p .rest) (w .b) (l .0)))) σ ∙ sym (o .octets);
         }

@@ -11,12 +11,14 @@ use lib.Seq.{slice}
 use borrow.Author.Tests.{eqb-true, ne-eqb}
 use Rattle.syntax.specs.Octets.{octets, same}
 use Rattle.syntax.specs.Tree.{print}
-use Rattle.syntax.specs.TreeLaws.{and-left}
+use Rattle.syntax.specs.ContentLaws.{same-self}
+use Rattle.syntax.specs.TreeLaws.{off, and-left}
 use Rattle.syntax.specs.declared.Service.{Service}
 use Rattle.grammar.specs.Lists.{Snoc, nil, _▷_, each, among, list}
 use Rattle.grammar.specs.Interchange.{Leaf, Header, Trailer, Body, Open, msg, message, showHeader, showBody}
 use Rattle.grammar.specs.Rules.{auto, refH, refT}
 use Rattle.grammar.specs.Named.{placed}
+use Rattle.grammar.specs.TestLaws.{is-true}
 use Rattle.writing.specs.Written.{text, noText}
 use Rattle.filters.specs.Octets.{Octets}
 use Rattle.filters.specs.Hex.{hexText, hexValue}
@@ -30,11 +32,12 @@ use Rattle.groups.specs.Calls.{serviceIn, messageIn}
 use Rattle.values.specs.Values.{filterH, behind, linkText, filtered, orNoHeader, valueAt, answered, valueOf}
 use Rattle.sealing.specs.Sealing.{newHeader, newTrailer, grown, maySeal, filterRight, lengthRight, textBy, signedText, octetsAt, sealOctetsOf, sealOf}
 use Rattle.demands.specs.Sealed.{sealedBy, Accepted, Signed, Kept}
-use Rattle.demands.specs.SealedListLaws.{front, true-of, false-of, same-self, chosen-new}
+use Rattle.demands.specs.SealedListLaws.{front, chosen-new}
 use Rattle.demands.specs.SealedNumberLaws.{ref-header, ref-trailer, released-content}
 use Rattle.demands.specs.SealedMessageLaws.{May, may}
 use Rattle.demands.specs.SealedAcceptedLaws.{Succeeds, succeeds, sealed-read, sealed-accepted}
-use Rattle.demands.specs.SealedRangesLaws.{asked-of, There1, there1}
+use Rattle.demands.specs.AskedLaws.{asked-of}
+use Rattle.demands.specs.GivenLaws.{There1, there1}
 use Rattle.demands.specs.SealedKeptLaws.{service-sealed, message-sealed, scope1-kept, scope2-kept}
 
 -- ---- the text of VALUE stands for VALUE
@@ -75,22 +78,36 @@ module _ (s m r : List ℕ) (f : ℕ) (v x : List ℕ) (w : Succeeds s m r f v x
   chose : chosenBy refH (front H (w .hs)) r ≡ some (chosen nil H)
   chose = chosen-new refH H (w .hs) r (ref-header r f) (asked .new)
 
-  -- ---- "the new header's scope 1 octets in it are what `seal_octets` writes"
+  -- ---- "the new header's range in the sealed interchange is what the first call wrote"
 
   written : sealOctetsOf s m r f ≡ text (print (serviceIn (w .i)) (list (showHeader H)) ++ print (serviceIn (w .i)) (list (showBody (w .b))))
   written =
       ap answered (asked-of s m (λ i p. some (octetsAt i p r f)) (w .i) (placed (message (msg (w .u) (w .hs) (w .b) (w .ts)) (w .n)) (w .q)) (w .read) (w .named))
-      ∙ ap (λ (c : Bool). cond c (text (signedText (serviceIn (w .i)) (msg (w .u) (w .hs) (w .b) (w .ts)) r f)) (noText 16 0)) (true-of (maySeal (msg (w .u) (w .hs) (w .b) (w .ts)) r f) (w .may))
+      ∙ ap (λ (c : Bool). cond c (text (signedText (serviceIn (w .i)) (msg (w .u) (w .hs) (w .b) (w .ts)) r f)) (noText 16 0)) (is-true (maySeal (msg (w .u) (w .hs) (w .b) (w .ts)) r f) (w .may))
       ∙ ap text
       (ap (print (serviceIn (w .i))) (list-join (showHeader (newHeader r f)) (showBody (w .b))) ∙ print-append (serviceIn (w .i)) (list (showHeader (newHeader r f))) (list (showBody (w .b))))
 
   pub sealed-signed : Signed s m r f x
   sealed-signed =
       let t : There1 x m r (serviceIn (sealedBy (w .i) m r f v)) H (w .b) =
-      there1 x m r (sealedBy (w .i) m r f v) (w .u) (front H (w .hs)) (w .b) (w .ts ▷ R) (grown (w .n)) (w .q) nil H (sealed-read s m r f v x w l) stays chose refl in
+      there1 x m r (record {
+        i = sealedBy (w .i) m r f v;
+        read = sealed-read s m r f v x w l;
+        u = w .u;
+        hs = front H (w .hs);
+        b = w .b;
+        ts = w .ts ▷ R;
+        n = grown (w .n);
+        q = w .q;
+        named = stays;
+        ys = nil;
+        y = H;
+        chose = chose;
+        scoped = refl;
+      }) in
       let σ : serviceIn (sealedBy (w .i) m r f v) ≡ serviceIn (w .i) = service-sealed (w .i) m H R in
-      let eh : slice (t .start) (t .end) x ≡ print (serviceIn (w .i)) (list (showHeader H)) = t .header-octets ∙ ap (λ (z : Service). print z (list (showHeader H))) σ in
-      let eb : slice (t .body) (t .body-end) x ≡ print (serviceIn (w .i)) (list (showBody (w .b))) = t .body-octets ∙ ap (λ (z : Service). print z (list (showBody (w .b)))) σ in
+      let eh : slice (t .start) (t .end) x ≡ print (serviceIn (w .i)) (list (showHeader H)) = t .header-part .octets ∙ ap (λ (z : Service). print z (list (showHeader H))) σ in
+      let eb : slice (t .body) (t .body-end) x ≡ print (serviceIn (w .i)) (list (showBody (w .b))) = t .body-part .octets ∙ ap (λ (z : Service). print z (list (showBody (w .b)))) σ in
       record {
         a = t .start;
         b = t .end;
@@ -102,14 +119,14 @@ module _ (s m r : List ℕ) (f : ℕ) (v x : List ℕ) (w : Succeeds s m r f v x
             ∙ ap (λ (z : List ℕ). text (slice (t .start) (t .end) x ++ z)) (sym eb);
       }
 
-  -- ---- "`value` of it gives VALUE"
+  -- ---- the value call gives VALUE of it
 
   pub sealed-value : Octets v → valueOf x m r ≡ text v
   sealed-value o =
       let O : Open = msg (w .u) (front H (w .hs)) (w .b) (w .ts ▷ R) in
       let z : same (refT R) r ≡ true = ap (λ (y : List ℕ). same y r) (ref-trailer (serviceIn (w .i)) r (textBy f v)) ∙ same-self r in
       ap answered (asked-of x m (λ i p. some (valueAt p r)) (sealedBy (w .i) m r f v) (placed (message O (grown (w .n))) (w .q)) (sealed-read s m r f v x w l) stays)
-      ∙ ap (λ (c : Bool). orNoHeader (chosenBy refH (front H (w .hs)) r) (cond c (linkText (w .b) r) (behind (chosenBy refT (w .ts ▷ R) r)))) (false-of (auto (w .u)) (asked .other))
+      ∙ ap (λ (c : Bool). orNoHeader (chosenBy refH (front H (w .hs)) r) (cond c (linkText (w .b) r) (behind (chosenBy refT (w .ts ▷ R) r)))) (off (auto (w .u)) (asked .other))
       ∙ ap (λ (c : Option (Chosen Header)). orNoHeader c (behind (chosenBy refT (w .ts ▷ R) r))) chose
       ∙ ap (λ (c : Bool). filtered (chosen nil H) (behind (cond c (some (chosen (w .ts) R)) (chosenBy refT (w .ts) r)))) z
       ∙ ap (λ (t : List ℕ). orBad (valueBy (filterH H) t)) (released-content (serviceIn (w .i)) (textBy f v))

@@ -2,12 +2,16 @@
 use Prim.Native.Nat.{ℕ, _+_}
 use native.Mathlib.Omega.{arith}
 use mathlib.Core.Path.{_≡_, refl, ap, _∙_, sym, subst}
-use mathlib.Core.List.{List, [], _∷_}
+use mathlib.Core.List.{List}
 use mathlib.Core.Option.{some}
 use mathlib.Core.Bool.{Bool, true, false, not, cond, _||_}
-use lib.Dec.{T, eqb, T-not, eqb-refl}
+use lib.Dec.{T, T-not}
 use Rattle.syntax.specs.Octets.{same}
-use Rattle.grammar.specs.Lists.{Snoc, nil, _▷_, _+++_, each, joined, size, among, Rule, holds, every, distinct}
+use Rattle.syntax.specs.ContentLaws.{same-self}
+use Rattle.syntax.specs.TreeLaws.{off}
+use Rattle.grammar.specs.Lists.{Snoc, nil, _▷_, _+++_, each, joined, among, Rule, holds, every, distinct}
+use Rattle.grammar.specs.ListsLaws.{every-join}
+use Rattle.grammar.specs.TestLaws.{is-true, passes, or-left, or-right}
 use Rattle.grammar.specs.Rules.{one}
 use Rattle.grammar.specs.PlacingLaws.{same-eq, regroup}
 use Rattle.groups.specs.Groups.{chosen, chosenBy}
@@ -17,26 +21,11 @@ front x s = nil ▷ x +++ s
 
 -- ---- texts that are told the same
 
-pub true-of : (b : Bool) → T b → b ≡ true
-true-of true h = refl
-true-of false h = absurd h
-
-pub of-true : (b : Bool) → b ≡ true → T b
-of-true b e = subst T (sym e) tt
-
-pub false-of : (b : Bool) → T (not b) → b ≡ false
-false-of true h = absurd h
-false-of false h = refl
-
-pub same-self : (x : List ℕ) → same x x ≡ true
-same-self [] = refl
-same-self (n ∷ x) = rw (true-of (eqb n n) (eqb-refl n)) (same-self x)
-
 pub not-same : (x y : List ℕ) → (x ≡ y → ⊥) → same x y ≡ false
 not-same x y h = by (same x y) refl
   where
     by : (b : Bool) → same x y ≡ b → b ≡ false
-    by true e = absurd (h (same-eq x y (of-true (same x y) e)))
+    by true e = absurd (h (same-eq x y (passes (same x y) e)))
     by false e = refl
 
 pub same-swap : (x y : List ℕ) → same x y ≡ false → same y x ≡ false
@@ -47,10 +36,6 @@ same-swap x y e = not-same y x (λ d. bad (sym (ap (same x) d ∙ same-self x) �
 
 -- ---- one put first
 
-pub size-join : {A : Type 0} (s t : Snoc A) → size (s +++ t) ≡ size s + size t
-size-join s nil = omega arith
-size-join s (t ▷ a) = omega (arith, size-join s t)
-
 pub each-front : {A B : Type 0} (f : A → B) (x : A) (s : Snoc A) → each f (front x s) ≡ front (f x) (each f s)
 each-front f x nil = refl
 each-front f x (s ▷ a) = ap (λ (t : Snoc _). t ▷ f a) (each-front f x s)
@@ -60,12 +45,7 @@ joined-front f x nil = refl
 joined-front f x (s ▷ a) = ap (λ (t : Snoc _). t +++ f a) (joined-front f x s) ∙ sym (regroup (nil +++ f x) (joined f s) (f a))
 
 pub every-front : {A : Type 0} (f : A → Rule) (x : A) (s : Snoc A) → holds (f x) → holds (every f s) → holds (every f (front x s))
-every-front f x nil p h = (tt, p)
-every-front f x (s ▷ a) p h = (every-front f x s p (h .0), h .1)
-
-pub every-join : {A : Type 0} (f : A → Rule) (s t : Snoc A) → holds (every f s) → holds (every f t) → holds (every f (s +++ t))
-every-join f s nil h k = h
-every-join f s (t ▷ a) h k = (every-join f s t h (k .0), k .1)
+every-front f x s p h = every-join f (nil ▷ x) s (tt, p) h
 
 pub every-map : {A : Type 0} (p q : A → Rule) (s : Snoc A) → ((a : A) → holds (p a) → holds (q a)) → holds (every p s) → holds (every q s)
 every-map p q nil k h = tt
@@ -96,18 +76,10 @@ distinct-front r nil h k = (tt, tt)
 distinct-front r (s ▷ a) h k =
     let n = nor (same a r) (among s r) k in (
       distinct-front r s (h .0) (n .1),
-      subst (λ (b : Bool). T (not b)) (sym (among-front r s a)) (nor-of (among s a) (same r a) (h .1) (same-swap a r (false-of (same a r) (n .0)))),
+      subst (λ (b : Bool). T (not b)) (sym (among-front r s a)) (nor-of (among s a) (same r a) (h .1) (same-swap a r (off (same a r) (n .0)))),
     )
 
 -- ---- references
-
-or-right : (a b : Bool) → T b → T (a || b)
-or-right true b h = tt
-or-right false b h = h
-
-or-left : (a b : Bool) → T a → T (a || b)
-or-left true b h = tt
-or-left false b h = absurd h
 
 -- what names one of s does not name r, if s does not have it
 pub away : (s : Snoc (List ℕ)) (r n : List ℕ) → T (not (among s r)) → T (among s n) → same n r ≡ false
@@ -118,13 +90,13 @@ aways s r nil h k = tt
 aways s r (v ▷ n) h k = subst (λ (b : Bool). T (not (b || among v r))) (sym (away s r n h (k .1))) (aways s r v h (k .0))
 
 pub wider : (x : List ℕ) (s v : Snoc (List ℕ)) → holds (every (one s) v) → holds (every (one (front x s)) v)
-wider x s v h = every-map (one s) (one (front x s)) v (λ n k. of-true (among (front x s) n) (among-front x s n ∙ true-of (among s n || same x n) (or-left (among s n) (same x n) k))) h
+wider x s v h = every-map (one s) (one (front x s)) v (λ n k. passes (among (front x s) n) (among-front x s n ∙ is-true (among s n || same x n) (or-left (among s n) (same x n) k))) h
 
 pub longer : (x : List ℕ) (s v : Snoc (List ℕ)) → holds (every (one s) v) → holds (every (one (s ▷ x)) v)
 longer x s v h = every-map (one s) (one (s ▷ x)) v (λ n k. or-right (same x n) (among s n) k) h
 
 pub first-among : (r : List ℕ) (s : Snoc (List ℕ)) → T (among (front r s) r)
-first-among r s = of-true (among (front r s) r) (among-front r s r ∙ true-of (among s r || same r r) (or-right (among s r) (same r r) (of-true (same r r) (same-self r))))
+first-among r s = passes (among (front r s) r) (among-front r s r ∙ is-true (among s r || same r r) (or-right (among s r) (same r r) (passes (same r r) (same-self r))))
 
 -- ---- the one of a reference, with one more put first
 

@@ -7,14 +7,17 @@ use mathlib.Core.Bool.{Bool, true, false, not, cond, _&&_, _||_}
 use lib.Dec.{T, eqb, leb, T-not, leb→le, le→leb, eqb→eq}
 use borrow.Author.Tests.{eq-eqb}
 use Rattle.syntax.specs.Octets.{same}
-use Rattle.syntax.specs.TreeLaws.{and-left, and-right}
+use Rattle.syntax.specs.ContentLaws.{same-self}
+use Rattle.syntax.specs.TreeLaws.{off, and-left, and-right}
 use Rattle.syntax.specs.declared.Service.{Service}
 use Rattle.grammar.specs.Lists.{Snoc, nil, _▷_, _+++_, each, joined, size, among, Rule, test, _and_, holds, every, few, distinct}
+use Rattle.grammar.specs.ListsLaws.{size-join}
+use Rattle.grammar.specs.TestLaws.{passes}
 use Rattle.grammar.specs.Segments.{Unh, seg, number, reference, second}
 use Rattle.grammar.specs.Interchange.{Leaf, Header, Trailer, trailer, Body, plain, ack, msg, Message, message, showHeader, showTrailer, showBody, showOpen, showMessage}
 use Rattle.grammar.specs.Rules.{auto, okHeader, okBody, whole, okMessage, refH, refT, linked, one, refsMessage, sizeAt, counted, countsMessage, scopeRight, scopesMessage}
 use Rattle.sealing.specs.Sealing.{newHeader, newTrailer, grown, sealedMessage, refRight, filterRight, takesMore, isNew, maySeal}
-use Rattle.demands.specs.SealedListLaws.{front, of-true, false-of, same-self, same-swap, size-join, each-front, joined-front, every-front, distinct-front, away, aways, wider, longer, first-among}
+use Rattle.demands.specs.SealedListLaws.{front, same-swap, each-front, joined-front, every-front, distinct-front, away, aways, wider, longer, first-among}
 use Rattle.demands.specs.SealedNumberLaws.{ref-header, ref-trailer, grown-number, grown-second}
 
 -- what `maySeal` asks, part by part
@@ -138,7 +141,7 @@ module _ (r : List ℕ) (f : ℕ) (σ : Service) (t : List ℕ) (u : Leaf) (hs :
   counts-sealed l k c =
       let e : number n 1 ≡ size (showMessage was) = eqb→eq (number n 1) (size (showMessage was)) (c .0) in
       let z : number (grown n) 1 ≡ size (showMessage is) = omega (arith, grown-number n l, e, size-open r f σ t u hs b ts) in (
-        of-true (eqb (number (grown n) 1) (size (showMessage is))) (eq-eqb (number (grown n) 1) (size (showMessage is)) z),
+        passes (eqb (number (grown n) 1) (size (showMessage is))) (eq-eqb (number (grown n) 1) (size (showMessage is)) z),
         (
           (
             recount r (newHeader r f) hs ts (ref-header r f) (q .new) (k .0 .1 .1 .1) (c .1 .0),
@@ -150,4 +153,4 @@ module _ (r : List ℕ) (f : ℕ) (σ : Service) (t : List ℕ) (u : Leaf) (hs :
 
   -- 11
   pub scopes-sealed : holds (scopesMessage was) → holds (scopesMessage is)
-  scopes-sealed k = every-front (scopeRight (auto u)) (newHeader r f) hs (subst (λ (a : Bool). holds (scopeRight a (newHeader r f))) (sym (false-of (auto u) (q .other))) tt) k
+  scopes-sealed k = every-front (scopeRight (auto u)) (newHeader r f) hs (subst (λ (a : Bool). holds (scopeRight a (newHeader r f))) (sym (off (auto u) (q .other))) tt) k

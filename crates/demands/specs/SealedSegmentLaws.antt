@@ -30,11 +30,12 @@ use Rattle.filters.specs.Six.{sixText}
 use Rattle.filters.specs.HexLaws.{hex-length}
 use Rattle.filters.specs.SixLaws.{six-length}
 use Rattle.sealing.specs.Sealing.{plains, released, single, ushLeaf, usaLeaf, ustLeaf, usrLeaf, newHeader, newTrailer, grown, sealedMessage, refRight, filterRight, lengthRight, textBy, mayWrite}
-use Rattle.demands.specs.SealedListLaws.{front, true-of, of-true, joined-front, every-join}
+use Rattle.demands.specs.SealedListLaws.{front, joined-front}
 use Rattle.demands.specs.SealedNumberLaws.{plains-content, released-content, decimal-some, decimal-six}
 use Rattle.demands.specs.SealedSymbolLaws.{ush-passes, usa-passes, ust-passes, usr-passes, unt-passes}
 use Rattle.demands.specs.SealedWrittenLaws.{digits-tag, clearS, ok-passes, clear-passes, value-ok, value-clear, symbols-inside, inside-symbols, wellS, symbols-well, well-symbols}
-use Rattle.grammar.specs.ListsLaws.{every-left, every-right}
+use Rattle.grammar.specs.ListsLaws.{every-left, every-right, every-join}
+use Rattle.grammar.specs.TestLaws.{is-true, passes}
 
 -- ---- a rule that the new segments meet, and UNT with its count grown where it met it
 
@@ -72,15 +73,16 @@ message-takes rule r f σ t u hs b ts n w h =
 
 -- ---- 8
 
+-- one of a segment's elements decides, the others are right by themselves
+here : (b : Bool) → b ≡ true → T (b && true && true && true)
+here true e = tt
+here false e = passes false e
+
 ush-formed : (v : Version) (r : List ℕ) (f : ℕ) → T (within 1 14 (length r)) → T (filterRight f) → T (formed v (asked (seg Ush (ushLeaf r f))))
 ush-formed v r f h k = by (eqb f 2) refl (eqb f 7) refl k
   where
     long : within 1 14 (length (contentIn (plains r))) ≡ true
-    long = ap (λ (l : List ℕ). within 1 14 (length l)) (plains-content r) ∙ true-of (within 1 14 (length r)) h
-
-    here : (b : Bool) → b ≡ true → T (b && true && true && true)
-    here true e = tt
-    here false e = of-true false e
+    long = ap (λ (l : List ℕ). within 1 14 (length l)) (plains-content r) ∙ is-true (within 1 14 (length r)) h
 
     by : (a : Bool) → eqb f 2 ≡ a → (c : Bool) → eqb f 7 ≡ c → T (a || c) → T (formed v (asked (seg Ush (ushLeaf r f))))
     by true d c e k = subst (λ (f : ℕ). T (formed v (asked (seg Ush (ushLeaf r f))))) (sym (eqb-true f 2 d)) (here (within 1 14 (length (contentIn (plains r)))) long)
@@ -88,11 +90,7 @@ ush-formed v r f h k = by (eqb f 2) refl (eqb f 7) refl k
     by false d false e k = absurd k
 
 ust-formed : (v : Version) (r : List ℕ) → T (within 1 14 (length r)) → T (formed v (asked (seg Ust (ustLeaf r))))
-ust-formed v r h = here (within 1 14 (length (contentIn (plains r)))) (ap (λ (l : List ℕ). within 1 14 (length l)) (plains-content r) ∙ true-of (within 1 14 (length r)) h)
-  where
-    here : (b : Bool) → b ≡ true → T (b && true && true && true)
-    here true e = tt
-    here false e = of-true false e
+ust-formed v r h = here (within 1 14 (length (contentIn (plains r)))) (ap (λ (l : List ℕ). within 1 14 (length l)) (plains-content r) ∙ is-true (within 1 14 (length r)) h)
 
 usr-formed : (v : Version) (σ : Service) (t : List ℕ) → length t ≤ 512 → T (formed v (asked (seg Usr (usrLeaf σ t))))
 usr-formed v σ t h = here (within 0 512 (length (contentIn (released σ t)))) long
@@ -100,11 +98,11 @@ usr-formed v σ t h = here (within 0 512 (length (contentIn (released σ t)))) l
     long : within 0 512 (length (contentIn (released σ t))) ≡ true
     long =
         ap (λ (l : List ℕ). within 0 512 (length l)) (released-content σ t)
-        ∙ true-of (within 0 512 (length t)) (and-both (leb 0 (length t)) (leb (length t) 512) (le→leb 0 (length t) (omega arith)) (le→leb (length t) 512 h))
+        ∙ is-true (within 0 512 (length t)) (and-both (leb 0 (length t)) (leb (length t) 512) (le→leb 0 (length t) (omega arith)) (le→leb (length t) 512 h))
 
     here : (b : Bool) → b ≡ true → T (b && true && true)
     here true e = tt
-    here false e = of-true false e
+    here false e = passes false e
 
 unt-formed : (v : Version) (n : Leaf) → number n 1 + 4 < 1000000 → T (formed v (asked (seg Unt n))) → T (formed v (asked (seg Unt (grown n))))
 unt-formed v n l h = by n (number n 1 + 4) (first (number n 1 + 4) l) h
@@ -113,12 +111,12 @@ unt-formed v n l h = by n (number n 1 + 4) (first (number n 1 + 4) l) h
     first k l =
         subst (λ (s : List ℕ). T (allDigits s && within 1 6 (length s) && true && true)) (sym (plains-content (decimalOf k)))
         (here (allDigits (decimalOf k)) (within 1 6 (length (decimalOf k))) (decimal-digits k (omega (arith, l)))
-        (true-of (within 1 6 (length (decimalOf k))) (and-both (leb 1 (length (decimalOf k))) (leb (length (decimalOf k)) 6) (le→leb 1 (length (decimalOf k)) (decimal-some k)) (le→leb (length (decimalOf k)) 6 (decimal-six k l)))))
+        (is-true (within 1 6 (length (decimalOf k))) (and-both (leb 1 (length (decimalOf k))) (leb (length (decimalOf k)) 6) (le→leb 1 (length (decimalOf k)) (decimal-some k)) (le→leb (length (decimalOf k)) 6 (decimal-six k l)))))
       where
         here : (a b : Bool) → a ≡ true → b ≡ true → T (a && b && true && true)
         here true true e d = tt
-        here true false e d = of-true false d
-        here false b e d = of-true false e
+        here true false e d = passes false d
+        here false b e d = passes false e
 
     by : (n : Leaf) (k : ℕ) → T (allDigits (contentIn (plains (decimalOf k))) && within 1 6 (length (contentIn (plains (decimalOf k)))) && true && true)
         → T (formed v (asked (seg Unt n))) → T (formed v (asked (seg Unt (single (decimalOf k) ∷ drop 1 n))))
@@ -140,7 +138,7 @@ text-short f v h = by (eqb f 2) h
 -- ---- all of them
 
 filter-digits : (f : ℕ) → T (filterRight f) → T (octets.every tagOctet (decimalOf f))
-filter-digits f h = digits-tag (decimalOf f) (of-true (allDigits (decimalOf f)) (decimal-digits f (by (eqb f 2) refl (eqb f 7) refl h)))
+filter-digits f h = digits-tag (decimalOf f) (passes (allDigits (decimalOf f)) (decimal-digits f (by (eqb f 2) refl (eqb f 7) refl h)))
   where
     by : (a : Bool) → eqb f 2 ≡ a → (c : Bool) → eqb f 7 ≡ c → T (a || c) → f < 18446744073709551616
     by true d c e k = omega (arith, eqb-true f 2 d)
@@ -156,7 +154,7 @@ module _ (y : Syntax) (fits : T (fit (y .service))) (r : List ℕ) (f : ℕ) (t 
   long = and-left (within 1 14 (length r)) (octets.every tagOctet r) ref
 
   number-digits : T (octets.every tagOctet (decimalOf (number n 1 + 4)))
-  number-digits = digits-tag (decimalOf (number n 1 + 4)) (of-true (allDigits (decimalOf (number n 1 + 4))) (decimal-digits (number n 1 + 4) (omega (arith, small))))
+  number-digits = digits-tag (decimalOf (number n 1 + 4)) (passes (allDigits (decimalOf (number n 1 + 4))) (decimal-digits (number n 1 + 4) (omega (arith, small))))
 
   pub takes-well : Takes (wellS (y .service)) r f (y .service) t n
   takes-well =

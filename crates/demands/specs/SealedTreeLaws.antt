@@ -1,39 +1,20 @@
 -- The messages of a sealed interchange: the one that is named is sealed, all others are as they were.
 use Prim.Native.Nat.{ℕ, suc, _+_}
-use native.Mathlib.Omega.{arith}
 use mathlib.Core.Path.{_≡_, refl, ap, _∙_, sym, subst}
 use mathlib.Core.List.{List}
-use mathlib.Core.Option.{none, some}
+use mathlib.Core.Option.{some}
 use mathlib.Core.Bool.{Bool, true, false, cond}
 use Rattle.syntax.specs.Octets.{same}
 use Rattle.syntax.specs.declared.Service.{Service}
-use Rattle.grammar.specs.Lists.{Snoc, nil, _▷_, _+++_, each, joined, size, any, Rule, holds, every}
+use Rattle.grammar.specs.Lists.{Snoc, nil, _▷_, each, size, any, Rule, holds, every}
 use Rattle.grammar.specs.Interchange.{Leaf, Header, Trailer, msg, Message, message, idle, shown}
 use Rattle.grammar.specs.Rules.{refM}
 use Rattle.grammar.specs.PlacingLaws.{same-eq}
 use Rattle.grammar.specs.Places.{wide}
 use Rattle.grammar.specs.Named.{placed, placedIn}
 use Rattle.sealing.specs.Sealing.{sealedMessage, sealedIn}
-use Rattle.demands.specs.SealedListLaws.{of-true}
+use Rattle.grammar.specs.TestLaws.{passes}
 use Rattle.groups.specs.CallsLaws.{none-some}
-
--- ---- rules on the parts of a list of parts
-
-pub joined-every : {A B : Type 0} (show : A → Snoc B) (rule : B → Rule) (s : Snoc A) → holds (every rule (joined show s)) → holds (every (λ a. every rule (show a)) s)
-joined-every show rule nil h = tt
-joined-every show rule (s ▷ a) h = by (joined show s) (show a) h (λ k. joined-every show rule s k)
-  where
-    by : (x y : Snoc _) → holds (every rule (x +++ y)) → (holds (every rule x) → holds (every (λ a. every rule (show a)) s)) → holds (every (λ a. every rule (show a)) s) × holds (every rule y)
-    by x nil h k = (k h, tt)
-    by x (y ▷ b) h k = let z = by x y (h .0) k in (z .0, (z .1, h .1))
-
-pub every-joined : {A B : Type 0} (show : A → Snoc B) (rule : B → Rule) (s : Snoc A) → holds (every (λ a. every rule (show a)) s) → holds (every rule (joined show s))
-every-joined show rule nil h = tt
-every-joined show rule (s ▷ a) h = by (joined show s) (show a) (every-joined show rule s (h .0)) (h .1)
-  where
-    by : (x y : Snoc _) → holds (every rule x) → holds (every rule y) → holds (every rule (x +++ y))
-    by x nil h k = h
-    by x (y ▷ b) h k = (by x y h (k .0), k .1)
 
 -- ---- the messages
 
@@ -106,7 +87,7 @@ module _ (h : Header) (t : Trailer) (r : List ℕ) where
             → cond c (some (placed x (p + wide σ (shown (idle u ms))))) (placedIn σ p u ms k) ≡ some (placed m q)
             → (j : ℕ) × (placedIn σ p u (cond b (ms ▷ sealedMessage h t x) (sealedIn h t ms r ▷ x)) k ≡ some (placed m j))
         by true c d g f e =
-            let z : same (refM x) k ≡ false = ap (λ (y : List ℕ). same y k) (same-eq (refM x) r (of-true (same (refM x) r) d)) ∙ n in
+            let z : same (refM x) k ≡ false = ap (λ (y : List ℕ). same y k) (same-eq (refM x) r (passes (same (refM x) r) d)) ∙ n in
             let w : placedIn σ p u ms k ≡ some (placed m q) = ap (λ (b : Bool). cond b (some (placed x (p + wide σ (shown (idle u ms))))) (placedIn σ p u ms k)) (sym z ∙ g) ∙ e in
             (q, ap (λ (b : Bool). cond b (some (placed (sealedMessage h t x) (p + wide σ (shown (idle u ms))))) (placedIn σ p u ms k)) (ap (λ (y : List ℕ). same y k) (ref-sealed x) ∙ z) ∙ w)
         by false true d g f e =
@@ -118,33 +99,3 @@ module _ (h : Header) (t : Trailer) (r : List ℕ) where
         by false false d g f e =
             let z = f e in
             (z .0, ap (λ (b : Bool). cond b (some (placed x (p + wide σ (shown (idle u (sealedIn h t ms r)))))) (placedIn σ p u (sealedIn h t ms r) k)) g ∙ z .1)
-
-    -- the messages before it and behind it stay
-    pub record Around (ms : Snoc Message) (m : Message) : Type 0 where
-      pub before : Snoc Message
-      pub behind : Snoc Message
-      pub was : ms ≡ before ▷ m +++ behind
-      pub becomes : sealedIn h t ms r ≡ before ▷ sealedMessage h t m +++ behind
-
-    pub around : (ms : Snoc Message) {m : Message} {q : ℕ} → placedIn σ p u ms r ≡ some (placed m q) → Around ms m
-    around nil e = none-some e
-    around (ms ▷ x) {m} {q} e = by (same (refM x) r) refl (λ d. around ms d) e
-      where
-        by : (b : Bool) → same (refM x) r ≡ b → (placedIn σ p u ms r ≡ some (placed m q) → Around ms m)
-            → cond b (some (placed x (p + wide σ (shown (idle u ms))))) (placedIn σ p u ms r) ≡ some (placed m q) → Around (ms ▷ x) m
-        by true d f e =
-            let j : x ≡ m = cc in
-            record {
-              before = ms;
-              behind = nil;
-              was = ap (λ (y : Message). ms ▷ y) j;
-              becomes = ap (λ (b : Bool). cond b (ms ▷ sealedMessage h t x) (sealedIn h t ms r ▷ x)) d ∙ ap (λ (y : Message). ms ▷ sealedMessage h t y) j;
-            }
-        by false d f e =
-            let z = f e in
-            record {
-              before = z .before;
-              behind = z .behind ▷ x;
-              was = ap (λ (y : Snoc Message). y ▷ x) (z .was);
-              becomes = ap (λ (b : Bool). cond b (ms ▷ sealedMessage h t x) (sealedIn h t ms r ▷ x)) d ∙ ap (λ (y : Snoc Message). y ▷ x) (z .becomes);
-            }

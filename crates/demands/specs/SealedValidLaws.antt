@@ -27,12 +27,11 @@ use Rattle.walk.specs.RunLaws.{long-print}
 use Rattle.groups.specs.Calls.{serviceIn, messageIn}
 use Rattle.groups.specs.CallsLaws.{placed-every}
 use Rattle.sealing.specs.Sealing.{newHeader, newTrailer, sealedIn, sealed, maySeal, mayWrite, writable}
-use Rattle.demands.specs.SealedListLaws.{size-join, every-join}
 use Rattle.demands.specs.SealedMessageLaws.{May, may, order-sealed, refs-sealed, counts-sealed, scopes-sealed}
-use Rattle.demands.specs.SealedTreeLaws.{joined-every, every-joined, refs-same, size-same, any-same, every-sealed}
+use Rattle.demands.specs.SealedTreeLaws.{refs-same, size-same, any-same, every-sealed}
 use Rattle.demands.specs.SealedWrittenLaws.{wellS, list-well, well-list}
 use Rattle.demands.specs.SealedSegmentLaws.{Takes, message-takes, takes-well, takes-inside, takes-formed, takes-amount}
-use Rattle.grammar.specs.ListsLaws.{every-left, every-right}
+use Rattle.grammar.specs.ListsLaws.{size-join, every-left, every-right, every-join, every-joined, joined-every}
 
 -- ---- a segment has four octets at least, so an interchange has few segments
 
@@ -87,9 +86,9 @@ module _ (k : Option Una) (u : Leaf) (ms : Snoc Message) (z : Leaf) (v : Valid (
     all-take rule a h =
         let U : Snoc Segment = nil ▷ seg Unb u in (
           every-join rule U (joined showMessage after) (every-left rule U (joined showMessage ms) (h .0))
-              (every-joined showMessage rule after
+              (joined-every rule showMessage after
               (every-sealed (newHeader r f) new m σ p u (λ x. every rule (showMessage x)) ms e (λ g. message-takes rule r f (v .y .service) t w hs b ts n a g)
-              (joined-every showMessage rule ms (every-right rule U (joined showMessage ms) (h .0))))),
+              (every-joined rule showMessage ms (every-right rule U (joined showMessage ms) (h .0))))),
           h .1,
         )
 

@@ -1,116 +1,35 @@
 -- The new segments are written well, and stay inside the repertoire: letters and digits always do, and VALUE's text where it may be written.
-use Prim.Native.Nat.{ℕ, suc, _≤_}
-use native.Mathlib.Omega.{arith}
+use Prim.Native.Nat.{ℕ, suc}
 use mathlib.Core.Path.{_≡_, refl, ap, _∙_, sym, subst}
-use mathlib.Core.List.{List, [], _∷_, _++_}
-use mathlib.Core.Bool.{Bool, true, false, not, cond, _&&_, _||_}
-use lib.Dec.{T, eqb, leb, leb→le, le→leb}
-use borrow.Author.Tests.{eqb-true, ne-eqb}
-use Rattle.syntax.specs.Octets.{octets, digit, capital, small, within, among, every}
-use Rattle.syntax.specs.Service.{servant, kindOf, serves, fit, differ}
+use mathlib.Core.List.{List, [], _∷_}
+use mathlib.Core.Bool.{Bool, true, false, not, cond, _&&_}
+use lib.Dec.{T, eqb}
+use Rattle.syntax.specs.Octets.{octets, digit, capital, every}
+use Rattle.syntax.specs.Service.{kindOf, serves, fit}
 use Rattle.syntax.specs.Repertoire.{inside, outside}
 use Rattle.syntax.specs.Opening.{isThere}
 use Rattle.syntax.specs.Cutting.{tagOctet, firstOutside}
 use Rattle.syntax.specs.Tree.{Segment, Symbol, tok, comp, elem, term, flatC, flatS, flat, spell, spells, printS, ok, okTag, well}
 use Rattle.syntax.specs.Tree as syntax
 use Rattle.syntax.specs.TreeLaws.{and-left, and-right, and-both, every-reads}
-use Rattle.syntax.specs.ReaderLaws.{well-cons, well-uncons}
+use Rattle.syntax.specs.ReaderLaws.{tag-data}
+use Rattle.syntax.specs.CleanLaws.{tag-inside}
 use Rattle.syntax.specs.declared.Found.the-variants.{At}
 use Rattle.syntax.specs.declared.Service.{Service}
 use Rattle.syntax.specs.declared.Syntax.{Syntax}
-use Rattle.syntax.specs.declared.Level.{Level}
-use Rattle.syntax.specs.declared.Level.the-variants.{A, B, C}
 use Rattle.syntax.specs.Content.{allDigits}
 use Rattle.grammar.specs.Lists.{Snoc, nil, _▷_, list, Rule, test, holds}
 use Rattle.grammar.specs.Lists as lists
 use Rattle.grammar.specs.Rules.{insideS}
-use Rattle.groups.specs.StandLaws.{well-parts}
+use Rattle.groups.specs.StandLaws.{well-append, well-parts}
 use Rattle.sealing.specs.Sealing.{releasedOctet, released, mayWrite}
-use Rattle.demands.specs.SealedListLaws.{of-true}
+use Rattle.grammar.specs.TestLaws.{or-left}
 use Rattle.demands.specs.SealedSymbolLaws.{Passes, every-append, every-left, every-right, every-as}
 
 -- ---- letters and digits
 
-or-left : (a b : Bool) → T a → T (a || b)
-or-left true b h = tt
-or-left false b h = absurd h
-
 pub digits-tag : (t : List ℕ) → T (allDigits t) → T (every tagOctet t)
 digits-tag t h = every-as digit tagOctet (λ b k. or-left (digit b) (capital b) k) t h
-
--- they are between 0 and Z
-tag-low : (b : ℕ) → T (tagOctet b) → (48 ≤ b) × (b ≤ 90)
-tag-low b h = by (digit b) refl h
-  where
-    by : (d : Bool) → digit b ≡ d → T (d || capital b) → (48 ≤ b) × (b ≤ 90)
-    by true e k = let z = of-true (digit b) e in (leb→le 48 b (and-left (leb 48 b) (leb b 57) z), omega (arith, leb→le b 57 (and-right (leb 48 b) (leb b 57) z)))
-    by false e k = (omega (arith, leb→le 65 b (and-left (leb 65 b) (leb b 90) k)), leb→le b 90 (and-right (leb 65 b) (leb b 90) k))
-
--- no service character is one
-servant-not : (x : ℕ) → T (servant x) → T (tagOctet x) → ⊥
-servant-not x s t = by (within 33 126 x) (digit x) (capital x) (not (small x)) s t
-  where
-    by : (w d c m : Bool) → T (w && not d && not c && m) → T (d || c) → ⊥
-    by true true c m s t = s
-    by true false true m s t = s
-    by true false false m s t = t
-    by false d c m s t = s
-
-other : (b x : ℕ) → T (tagOctet b) → T (servant x) → eqb b x ≡ false
-other b x h s = ne-eqb b x (λ e. servant-not x s (subst (λ (z : ℕ). T (tagOctet z)) e h))
-
-other-space : (b x : ℕ) → T (tagOctet b) → T (cond (eqb x 32) true (servant x)) → eqb b x ≡ false
-other-space b x h s = ne-eqb b x (λ e. by (eqb x 32) refl s e)
-  where
-    by : (c : Bool) → eqb x 32 ≡ c → T (cond c true (servant x)) → b ≡ x → ⊥
-    by true d s e = subst (λ (z : ℕ). T (tagOctet z)) (e ∙ eqb-true x 32 d) h
-    by false d s e = servant-not x s (subst (λ (z : ℕ). T (tagOctet z)) e h)
-
-pub tag-data : (σ : Service) → T (fit σ) → (b : ℕ) → T (tagOctet b) → kindOf σ b ≡ 1
-tag-data σ f b h =
-    let c : Bool = servant (σ .component) in
-    let e : Bool = servant (σ .element) in
-    let l : Bool = cond (eqb (σ .release) 32) true (servant (σ .release)) in
-    let r : Bool = cond (eqb (σ .repetition) 32) true (servant (σ .repetition)) in
-    let t : Bool = servant (σ .terminator) in
-    let k₅ : T (c && e && l && r && t) = and-left (c && e && l && r && t) (differ σ) f in
-    let k₄ : T (c && e && l && r) = and-left (c && e && l && r) t k₅ in
-    let k₃ : T (c && e && l) = and-left (c && e && l) r k₄ in
-    let k₂ : T (c && e) = and-left (c && e) l k₃ in
-    let space : eqb b 32 ≡ false = ne-eqb b 32 (λ q. subst (λ (z : ℕ). T (tagOctet z)) q h) in
-    rw (
-      space,
-      other-space b (σ .release) h (and-right (c && e) l k₃),
-      other b (σ .terminator) h (and-right (c && e && l && r) t k₅),
-      other b (σ .element) h (and-right c e k₂),
-      other b (σ .component) h (and-left c e k₂),
-      other-space b (σ .repetition) h (and-right (c && e && l) r k₄),
-    )
-
--- they are inside every repertoire
-tag-inside : (l : Level) (b : ℕ) → T (tagOctet b) → inside l b ≡ true
-unfolding inside
-tag-inside A b h = by (digit b) (capital b) (eqb b 32) (among (octets ".,-()/='+:?!\"%&*;<>") b) h
-  where
-    by : (d c x y : Bool) → T (d || c) → (c || d || x || y) ≡ true
-    by true true x y h = refl
-    by true false x y h = refl
-    by false true x y h = refl
-    by false false x y h = absurd h
-tag-inside B b h = by (digit b) (capital b) (eqb b 32) (among (octets ".,-()/='+:?!\"%&*;<>") b) h
-  where
-    by : (d c x y : Bool) → T (d || c) → ((c || d || x || y) || small b) ≡ true
-    by true true x y h = refl
-    by true false x y h = refl
-    by false true x y h = refl
-    by false false x y h = absurd h
-tag-inside C b h =
-    let k = tag-low b h in
-    by (within 32 126 b) (and-both (leb 32 b) (leb b 126) (le→leb 32 b (omega (arith, k .0))) (le→leb b 126 (omega (arith, k .1))))
-  where
-    by : (w : Bool) → T w → (w || within 160 255 b) ≡ true
-    by true h = refl
-    by false h = absurd h
 
 -- ---- the two tests of a symbol
 
@@ -229,14 +148,10 @@ module _ (σ : Service) where
   pub well-symbols : (g : Segment) → holds (wellS σ g) → T (every (ok σ) (flatS g))
   well-symbols g h = every-left (ok σ) (flatS g) [] (and-right (okTag g && true) (every (ok σ) (flat (g ∷ []))) h)
 
-  well-append : (gs hs : List Segment) → T (well σ gs) → T (well σ hs) → T (well σ (gs ++ hs))
-  well-append [] hs h k = k
-  well-append (g ∷ gs) hs h k = let a = well-uncons σ g gs h in well-cons σ g (gs ++ hs) (a .0) (well-append gs hs (a .1) k)
-
   -- of a list of them
   pub list-well : (gs : Snoc Segment) → holds (lists.every (wellS σ) gs) → T (well σ (list gs))
   list-well nil h = tt
-  list-well (gs ▷ g) h = well-append (list gs) (g ∷ []) (list-well gs (h .0)) (h .1)
+  list-well (gs ▷ g) h = well-append σ (list gs) (g ∷ []) (list-well gs (h .0)) (h .1)
 
   pub well-list : (gs : Snoc Segment) → T (well σ (list gs)) → holds (lists.every (wellS σ) gs)
   well-list nil h = tt

@@ -17,6 +17,10 @@ writes-as {out = out} {left = left} {a = a} e w = subst (λ (v : Text). Writes v
 pub writes-none : {number place : ℕ} {out : List ℕ} {r : Written} → r ≡ refusedAs number place → Writes (noText number place) out r out
 writes-none e = record { answer = e; octets = refl }
 
+-- a length is no refusal
+pub length-told : {A : Type 0} {n number place : ℕ} → Length n ≡ refusedAs number place → A
+length-told e = let z : _≡_ {A = ℕ} 0 1 = cc in absurd (omega arith)
+
 module _ {t : List ℕ} {m : ℕ} (e : m ≡ length t) where
   pub writes-long : {out : List ℕ} {r : Written} → 65535 < m → r ≡ refusedAs 15 0 → Writes (text t) out r out
   writes-long h q = record { answer = q ∙ rw (← e, lt-ltb _ _ h); octets = rw (← e, lt-ltb _ _ h) }
