@@ -35,14 +35,14 @@ six = refl
 pub read : valueBy (octets "7") (octets "Zm8=") ≡ some (octets "fo")
 read = refl
 
--- "`====` and `A===` bad"
+-- four pads stand for nothing, nor do three
 pub pads : valueBy (octets "7") (octets "====") ≡ none
 pads = refl
 
 pub three-pads : valueBy (octets "7") (octets "A===") ≡ none
 three-pads = refl
 
--- "padding in the last group only"
+-- "padding only at the end"
 pub inner-pad : valueBy (octets "7") (octets "Zg==Zg==") ≡ none
 inner-pad = refl
 

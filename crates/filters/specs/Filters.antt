@@ -10,7 +10,7 @@ use Rattle.writing.specs.Written.{Text, text, noText}
 use Rattle.filters.specs.Hex.{hexValue}
 use Rattle.filters.specs.Six.{sixValue}
 
--- the value of a text under a 0505, both by content: "exactly `2` or `7`"
+-- the value of a text under a 0505, both by content; 0505 is `2` or `7`, and any other filter is unknown
 abbrev pub valueBy : List ℕ → List ℕ → Option (List ℕ)
 valueBy code t =
     cond (eqb (length t) 0) none (cond (same code (octets "2")) (hexValue t) (cond (same code (octets "7")) (sixValue t) none))

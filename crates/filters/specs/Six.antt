@@ -1,5 +1,5 @@
 -- "Code 7: base 64 of RFC 1521, length a multiple of 4, padding only at the end, spare bits zero."
--- "padding in the last group only, `====` and `A===` bad, no line breaks"
+-- So `====` and `A===` are bad, and so is a line break.
 use Prim.Native.Nat.{ℕ, _+_, _-_, _*_, _/_, _%_}
 use mathlib.Core.List.{List, [], _∷_}
 use mathlib.Core.Bool.{Bool, cond}
