@@ -4,7 +4,8 @@ use mathlib.Core.Path.{_≡_, refl}
 use Rattle.syntax.specs.Octets.{octets}
 use Rattle.syntax.specs.Repertoire.{inside}
 use Rattle.grammar.specs.Example.{P3, P7}
-use Rattle.listing.specs.Listing.{feed, listingOf}
+use Rattle.lines.specs.Words.{feed}
+use Rattle.listing.specs.Listing.{listingOf}
 
 pub p7-printed : listingOf P7 ≡ octets "accepted R1" ++ feed ++ octets "message M1 DESADV loads 2 grams 57340000" ++ feed ++ octets "seal A1 scope 1 octets 82" ++ feed
 unfolding inside

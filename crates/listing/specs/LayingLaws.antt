@@ -29,8 +29,10 @@ use Rattle.groups.specs.Groups.{Chosen, chosen, nameAt, soughtIn, rangeOf}
 use Rattle.groups.specs.GroupsLaws.{header-named, header-scope}
 use Rattle.groups.specs.Parts.{trailerNamed, scopeH}
 use Rattle.groups.specs.PartsLaws.{headers-stand, trailer-sought}
-use Rattle.listing.specs.Listing.{messageLine, sealLine, typeO, toTrailer, sealOf, sealsOf, messageOf}
-use Rattle.listing.specs.Laying.{Near, upTo, oneAt, twoAt, sealAt, sealsAt, sectionAt}
+use Rattle.lines.specs.Words.{messageLine, sealLine}
+use Rattle.listing.specs.Listing.{typeO, toTrailer, sealOf, sealsOf, messageOf}
+use Rattle.lines.specs.Seals.{Near, upTo, oneAt, twoAt, sealAt, sealsAt}
+use Rattle.listing.specs.Laying.{sectionAt}
 
 -- ---- every place is one of the interchange
 

@@ -33,6 +33,7 @@ use Rattle.walk.specs.declared.sections.Section.{Section}
 use Rattle.judge.specs.FindingLaws.{verdict-by}
 use Rattle.groups.specs.Stand.{Stand}
 use Rattle.groups.specs.StandLaws.{stand-front, stand-back, stand-asked}
+use Rattle.walk.specs.declared.sections.Layout.{Layout}
 use Rattle.groups.specs.Groups.{nameAt}
 use Rattle.groups.specs.CallsLaws.{begins as begun-so}
 use Rattle.writing.specs.Laid.{Laid}
@@ -40,9 +41,21 @@ use Rattle.writing.specs.LaidLaws.{laid-same, laid-length, laid-all, laid-front
 use Rattle.writing.specs.Written.{refusedAs}
 use Rattle.writing.specs.declared.Written.{Written}
 use Rattle.writing.specs.declared.Written.the-variants.{Length, Refused}
-use Rattle.listing.specs.Listing.{acceptedLine, refusalLine, messageOf, acceptedOf, listingBy, listingOf, Lists}
-use Rattle.listing.specs.Laying.{Near, sectionAt, messagesRead, earlyAs, endedAs, LaysAll}
+use Rattle.lines.specs.Words.{acceptedLine, refusalLine, messageLine}
+use Rattle.listing.specs.Listing.{messageOf, acceptedOf, listingBy, listingOf, Lists}
+use Rattle.lines.specs.Seals.{Near, sealsAt}
+use Rattle.listing.specs.Laying.{sectionAt, messagesRead, earlyAs, endedAs, LaysAll}
 use Rattle.listing.specs.LayingLaws.{near-laid, section-lines}
+
+-- ---- the lines of a section
+
+module _ (σ : Service) (s rows : List ℕ) (c : Layout) {d : Bool} {out : List ℕ} {at : ℕ} where
+  pub section-closed : {p : ℕ} {out₁ : List ℕ} {r : ℕ} {out′ : List ℕ} → d ≡ true → Laid out at (messageLine (nameAt σ s (c .unh) 1) (nameAt σ s (c .unh) 2) (c .loads) (c .grams)) p out₁
+      → Laid out₁ p (sealsAt σ s rows c (c .headers) (c .body)) r out′ → Laid out at (sectionAt σ s rows c d) r out′
+  section-closed e g h = laid-same (ap (sectionAt σ s rows c) (sym e)) (laid-more g h)
+
+  pub section-other : d ≡ false → Laid out at (sectionAt σ s rows c d) at out
+  section-other e = laid-same (ap (sectionAt σ s rows c) (sym e)) laid-none
 
 -- ---- what stands in the octets with a section more
 

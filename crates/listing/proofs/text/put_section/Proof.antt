@@ -1,4 +1,4 @@
-use Rattle.listing.specs.SealsLaws.{section-closed, section-other}
+use Rattle.listing.specs.ListingLaws.{section-closed, section-other}
 use native.Mathlib.Omega.{arith}
 use borrow.Author.Needs.{needs}
 use Rattle.listing.proofs.text.put_section.Statement.{statement}
