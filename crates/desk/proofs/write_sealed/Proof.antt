@@ -5,9 +5,9 @@ use Rattle.desk.proofs.write_sealed.Statement.{statement}
 use Rattle.desk.proofs.write_sealed.Tie as tie
 use Rattle.desk.proofs.write_sealed.Reads as reads
 use Rattle.desk.proofs.write_sealed.Lts as lts
-use Rattle.desk.proofs.argument.Reads as argument-reads
-use Rattle.desk.proofs.capacity.Reads as capacity-reads
-use Rattle.desk.proofs.number_of.Reads as number-of-reads
+use Rattle.commands.proofs.argument.Reads as argument-reads
+use Rattle.commands.proofs.capacity.Reads as capacity-reads
+use Rattle.commands.proofs.number_of.Reads as number-of-reads
 use Rattle.desk.proofs.print_written.Reads as print-written-reads
 use Rattle.sealing.proofs.seal.seal.Reads as seal-reads
 

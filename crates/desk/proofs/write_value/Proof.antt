@@ -5,8 +5,8 @@ use Rattle.desk.proofs.write_value.Statement.{statement}
 use Rattle.desk.proofs.write_value.Tie as tie
 use Rattle.desk.proofs.write_value.Reads as reads
 use Rattle.desk.proofs.write_value.Lts as lts
-use Rattle.desk.proofs.argument.Reads as argument-reads
-use Rattle.desk.proofs.capacity.Reads as capacity-reads
+use Rattle.commands.proofs.argument.Reads as argument-reads
+use Rattle.commands.proofs.capacity.Reads as capacity-reads
 use Rattle.desk.proofs.print_written.Reads as print-written-reads
 use Rattle.values.proofs.value.Reads as value-reads
 

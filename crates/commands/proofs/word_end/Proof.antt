@@ -1,8 +1,8 @@
 use Prim.Native.Nat.{_-_}
 use lib.ListN.{length}
 use borrow.Author.Needs.{needs}
-use Rattle.desk.proofs.word_end.Statement.{statement}
-use Rattle.desk.proofs.word_end.Tie as tie
+use Rattle.commands.proofs.word_end.Statement.{statement}
+use Rattle.commands.proofs.word_end.Tie as tie
 
 abbrev Inv-loop : tie.InvT-loop
 Inv-loop s from i₀ i = Unit {0}

@@ -1,7 +1,7 @@
 use Prim.Native.Nat.{_-_}
 use borrow.Author.Needs.{needs}
-use Rattle.desk.proofs.decode_pairs.Statement.{statement}
-use Rattle.desk.proofs.decode_pairs.Tie as tie
+use Rattle.commands.proofs.decode_pairs.Statement.{statement}
+use Rattle.commands.proofs.decode_pairs.Tie as tie
 
 abbrev Inv-loop : tie.InvT-loop
 Inv-loop h room₀ at n k₀ e₀ room k e = Unit {0}

@@ -1,8 +1,8 @@
 use Prim.Native.Nat.{_-_}
 use lib.ListN.{length}
 use borrow.Author.Needs.{needs}
-use Rattle.desk.proofs.arguments.Statement.{statement}
-use Rattle.desk.proofs.arguments.Tie as tie
+use Rattle.commands.proofs.arguments.Statement.{statement}
+use Rattle.commands.proofs.arguments.Tie as tie
 
 abbrev Inv-loop : tie.InvT-loop
 Inv-loop s form room₀ bounds₀ at₀ end₀ i₀ room bounds at end i = Unit {0}
