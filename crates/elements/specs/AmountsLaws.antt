@@ -5,13 +5,14 @@ use native.Mathlib.Numerals.{add-one}
 use native.Mathlib.Omega.{arith}
 use mathlib.Core.List.{List, [], _∷_}
 use mathlib.Core.Path.{_≡_, refl, ap, sym, _∙_}
-use mathlib.Core.Bool.{Bool, true, false, cond, _&&_, and-false}
+use mathlib.Core.Bool.{Bool, true, false, cond, and-false}
 use mathlib.Core.Option.{Option, none, some}
 use borrow.Author.Tests.{le-leb, lt-leb, leb-true}
 use lib.Dec.{T, leb, leb→le}
 use lib.ListN.{length, drop}
 use Rattle.syntax.specs.Octets.{octets, same, within, digit}
 use Rattle.syntax.specs.Content.{content, nextOf, allDigits, valueFrom}
+use Rattle.syntax.specs.TreeLaws.{and-left, and-right}
 use Rattle.syntax.specs.ContentLaws.{Stepped, next-steps, next-over}
 use Rattle.syntax.specs.declared.content.Next.{Next}
 use Rattle.syntax.specs.declared.content.Next.the-variants.{Octet, Over}
@@ -225,19 +226,11 @@ module _ (c : List ℕ) (kgm tne : ℕ) {p : Bool} (e : p ≡ same c (octets "KG
 
 -- ---- for callers: what an answer says, and that it is below 10 to the 18
 
-and-l : (a b : Bool) → T (a && b) → T a
-and-l true b h = tt
-and-l false b h = absurd h
-
-and-r : (a b : Bool) → T (a && b) → T b
-and-r true b h = h
-and-r false b h = absurd h
-
 value-below : (v : ℕ) (s : List ℕ) → T (allDigits s) → valueFrom v s < (v + 1) * tens (length s)
 value-below v [] h = rw (mul-one (v + 1)) (omega arith)
 value-below v (b ∷ s) h =
-    let e = value-below (v * 10 + (b - 48)) s (and-r (digit b) (allDigits s) h) in
-    let l : b ≤ 57 = leb→le b 57 (and-r (leb 48 b) (leb b 57) (and-l (digit b) (allDigits s) h)) in
+    let e = value-below (v * 10 + (b - 48)) s (and-right (digit b) (allDigits s) h) in
+    let l : b ≤ 57 = leb→le b 57 (and-right (leb 48 b) (leb b 57) (and-left (digit b) (allDigits s) h)) in
     let k : v * 10 + (b - 48) + 1 ≤ (v + 1) * 10 = omega arith in
     let m = mul-le-mul-right (tens (length s)) k in
     let o = mul-assoc (v + 1) 10 (tens (length s)) in
@@ -245,8 +238,8 @@ value-below v (b ∷ s) h =
 
 pub digits-below : (n : ℕ) (s : List ℕ) → T (digits n s) → (valueFrom 0 s < tens (length s)) × (length s ≤ n)
 digits-below n s h =
-    let e = value-below 0 s (and-l (allDigits s) (within 1 n (length s)) h) in
-    let l = leb→le (length s) n (and-r (leb 1 (length s)) (leb (length s) n) (and-r (allDigits s) (within 1 n (length s)) h)) in
+    let e = value-below 0 s (and-left (allDigits s) (within 1 n (length s)) h) in
+    let l = leb→le (length s) n (and-right (leb 1 (length s)) (leb (length s) n) (and-right (allDigits s) (within 1 n (length s)) h)) in
     let o = one-mul (tens (length s)) in
     (omega arith, l)
 
@@ -260,8 +253,8 @@ fraction-below d (some f) h =
 
 pub grams-fit : (w d : ℕ) (c : List ℕ) → (w ≤ 12) × (d ≤ 6) → T (amountRight (shape w d) c) → grams (shape w d) c < 1000000000000000000
 grams-fit w d c h r =
-    let k = digits-below w (before c) (and-l (digits w (before c)) (fractionRight d (behind c)) r) in
-    let f = fraction-below d (behind c) (and-r (digits w (before c)) (fractionRight d (behind c)) r) in
+    let k = digits-below w (before c) (and-left (digits w (before c)) (fractionRight d (behind c)) r) in
+    let f = fraction-below d (behind c) (and-right (digits w (before c)) (fractionRight d (behind c)) r) in
     let m = tens-below (length (before c)) 12 (omega (arith, k .1, h .0)) in
     let l : valueFrom 0 (before c) + 1 ≤ 1000000000000 = omega (arith, k .0) in
     let a = mul-le-mul-right (tens d) l in
@@ -273,8 +266,8 @@ grams-fit w d c h r =
 -- no more digits than the shape has
 grams-below : (w d : ℕ) (c : List ℕ) → T (amountRight (shape w d) c) → grams (shape w d) c < tens (w + d)
 grams-below w d c r =
-    let k = digits-below w (before c) (and-l (digits w (before c)) (fractionRight d (behind c)) r) in
-    let f = fraction-below d (behind c) (and-r (digits w (before c)) (fractionRight d (behind c)) r) in
+    let k = digits-below w (before c) (and-left (digits w (before c)) (fractionRight d (behind c)) r) in
+    let f = fraction-below d (behind c) (and-right (digits w (before c)) (fractionRight d (behind c)) r) in
     let m = tens-below (length (before c)) w (k .1) in
     let l : valueFrom 0 (before c) + 1 ≤ tens w = omega (arith, k .0) in
     let a = mul-le-mul-right (tens d) l in

@@ -1,13 +1,17 @@
 -- Facts on what the code keeps of a list: the sums, the pairs, and the header that a trailer names.
-use Prim.Native.Nat.{ℕ, suc, _<_}
+use Prim.Native.Nat.{ℕ, _<_}
 use native.Mathlib.Omega.{arith}
 use mathlib.Core.Bool.{Bool, true, false, cond, not, _&&_, _||_, false≢true}
-use mathlib.Core.List.{List, [], _∷_}
+use mathlib.Core.List.{List}
 use mathlib.Core.Option.{Option, none, some}
 use mathlib.Core.Path.{_≡_, refl, ap, _∙_, sym}
-use lib.Dec.{T, eqb, ltb, eqb→eq, eqb-refl, leb·zero, leb·suc-suc}
+use lib.Dec.{eqb, ltb, eqb→eq, eqb-refl, leb·zero, leb·suc-suc}
 use Rattle.syntax.specs.Octets.{same}
+use Rattle.syntax.specs.TreeLaws.{off}
+use Rattle.syntax.specs.ContentLaws.{same-self}
 use Rattle.grammar.specs.Lists.{Snoc, nil, _▷_, each, size, any, among, Rule, test, holds, check, every, distinct}
+use Rattle.grammar.specs.TestLaws.{is-true, passes}
+use Rattle.grammar.specs.ListsLaws.{each-size}
 use Rattle.grammar.specs.Interchange.{Header, Body, plain, ack, Trailer, trailer}
 use Rattle.grammar.specs.Loads.{controls, put}
 use Rattle.grammar.specs.Rules.{refH, sizeAt, counted, one, total}
@@ -26,24 +30,8 @@ same-bool false false f g = refl
 pub alike : (a b : Rule) → (holds a → holds b) → (holds b → holds a) → check a ≡ check b
 alike a b f g = same-bool (check a) (check b) (λ e. holds-check b (f (check-holds a e))) (λ e. holds-check a (g (check-holds b e)))
 
-so : (b : Bool) → T b → b ≡ true
-so true h = refl
-so false h = absurd h
-
-not-so : (b : Bool) → T (not b) → b ≡ false
-not-so true h = absurd h
-not-so false h = refl
-
-T-of : (b : Bool) → b ≡ true → T b
-T-of true e = tt
-T-of false e = absurd (false≢true e)
-
-same-refl : (x : List ℕ) → same x x ≡ true
-same-refl [] = refl
-same-refl (n ∷ x) = rw (so (eqb n n) (eqb-refl n)) (same-refl x)
-
 same-turn : (x y : List ℕ) → same x y ≡ true → same y x ≡ true
-same-turn x y e = ap (λ (z : List ℕ). same y z) (same-eq x y (T-of (same x y) e)) ∙ same-refl y
+same-turn x y e = ap (λ (z : List ℕ). same y z) (same-eq x y (passes (same x y) e)) ∙ same-self y
 
 same-sym : (x y : List ℕ) → same x y ≡ same y x
 same-sym x y = same-bool (same x y) (same y x) (same-turn x y) (same-turn y x)
@@ -58,10 +46,6 @@ so-and false = refl
 
 -- ---- sizes
 
-pub size-each : {A B : Type 0} (f : A → B) (s : Snoc A) → size (each f s) ≡ size s
-size-each f nil = refl
-size-each f (s ▷ a) = ap suc (size-each f s)
-
 pub any-each : {A B : Type 0} (f : A → B) (s : Snoc A) → any (each f s) ≡ any s
 any-each f nil = refl
 any-each f (s ▷ a) = refl
@@ -73,10 +57,10 @@ any-size f (s ▷ a) = sym (leb·suc-suc 0 (size (each f s)) ∙ leb·zero (size
 
 -- a place of the list is not the next one
 below : {A B : Type 0} (f : A → B) (s : Snoc A) (i : ℕ) → i < size s → eqb i (size (each f s)) ≡ false
-below f s i h = rw (size-each f s) (by (eqb i (size s)) refl)
+below f s i h = rw (each-size f s) (by (eqb i (size s)) refl)
   where
     by : (b : Bool) → eqb i (size s) ≡ b → eqb i (size s) ≡ false
-    by true e = let k = eqb→eq i (size s) (T-of (eqb i (size s)) e) in absurd (omega (arith, h, k))
+    by true e = let k = eqb→eq i (size s) (passes (eqb i (size s)) e) in absurd (omega (arith, h, k))
     by false e = e
 
 -- ---- sums
@@ -90,17 +74,17 @@ control-sums s c none = refl
 control-sums s nil (some n) = first
   where
     first : sumsIn s (nil ▷ n) ≡ controlledBy false (sumsIn s nil) n
-    first = rw (so (eqb n n) (eqb-refl n))
+    first = rw (is-true (eqb n n) (eqb-refl n))
 control-sums s (c ▷ m) (some n) = refl
 
 -- all equal to s: the first is, and all are equal to it
 all-first : (s : ℕ) (c : Snoc ℕ) → check (every (λ (n : ℕ). test (eqb n s)) c) ≡ (agreeIn c && (not (any c) || eqb (firstIn c) s))
 all-first s nil = refl
-all-first s (nil ▷ n) = rw (so (eqb n n) (eqb-refl n))
+all-first s (nil ▷ n) = rw (is-true (eqb n n) (eqb-refl n))
 all-first s (c ▷ m ▷ n) = rw (all-first s (c ▷ m)) (swap (agreeIn (c ▷ m)) (firstIn (c ▷ m)) (eqb (firstIn (c ▷ m)) s) refl)
   where
     swap : (a : Bool) (f : ℕ) (e : Bool) → eqb f s ≡ e → (a && eqb f s && eqb n s) ≡ ((a && eqb n f) && eqb f s)
-    swap true f true h = rw (h, eqb→eq f s (T-of (eqb f s) h)) (so-and (eqb n s))
+    swap true f true h = rw (h, eqb→eq f s (passes (eqb f s) h)) (so-and (eqb n s))
     swap false f true h = refl
     swap true f false h = rw h (and-none (eqb n f))
     swap false f false h = refl
@@ -112,7 +96,7 @@ totals (ack c ls) = refl
 
 -- ---- trailers
 
--- the trailers so far count right
+-- the trailers is-true far count right
 pub evens : (hs : Snoc Header) (ts : Snoc Trailer) → check (every (counted hs) ts) ≡ evenAll (pairOf hs ts)
 evens hs nil = refl
 evens hs (ts ▷ trailer c r) = refl
@@ -148,23 +132,23 @@ module _ (r : List ℕ) (names : Snoc (List ℕ)) (hs : Snoc Header) (h : Header
       (rw (same-sym r (refH h), e, below-flags i l) (ap (λ (t : Snoc Bool). t ▷ among names (refH h)) f))
     where
       below-flags : (i : ℕ) → i < size hs → eqb i (size (flagsOf names (each refH hs))) ≡ false
-      below-flags i l = rw (size-each (among names) (each refH hs)) (below refH hs i l)
+      below-flags i l = rw (each-size (among names) (each refH hs)) (below refH hs i l)
 
   -- this header has it, and none before it
   this : same (refH h) r ≡ true → among (each refH hs) r ≡ false → (n : Bool) → among names (refH h) ≡ n
       → Spot r (hs ▷ h) names (cond (not n) (some (size (each refH hs))) none)
   this e d true k =
-      let q : among names r ≡ true = sym (ap (among names) (same-eq (refH h) r (T-of (same (refH h) r) e))) ∙ k in
+      let q : among names r ≡ true = sym (ap (among names) (same-eq (refH h) r (passes (same (refH h) r) e))) ∙ k in
       no (rw q)
   this e d false k =
-      let q : among names r ≡ false = sym (ap (among names) (same-eq (refH h) r (T-of (same (refH h) r) e))) ∙ k in
-      let z : eqb (size hs) (size hs) ≡ true = so (eqb (size hs) (size hs)) (eqb-refl (size hs)) in
-      yes (size (each refH hs)) (rw (q, e)) (rw (size-each refH hs) (omega arith))
-      (rw (e, size-each refH hs, size-each sizeH hs, z))
-      (rw (same-sym r (refH h), e, size-each refH hs, size-each (among names) (each refH hs), size-each refH hs, z, same-flags names (each refH hs) r d))
+      let q : among names r ≡ false = sym (ap (among names) (same-eq (refH h) r (passes (same (refH h) r) e))) ∙ k in
+      let z : eqb (size hs) (size hs) ≡ true = is-true (eqb (size hs) (size hs)) (eqb-refl (size hs)) in
+      yes (size (each refH hs)) (rw (q, e)) (rw (each-size refH hs) (omega arith))
+      (rw (e, each-size refH hs, each-size sizeH hs, z))
+      (rw (same-sym r (refH h), e, each-size refH hs, each-size (among names) (each refH hs), each-size refH hs, z, same-flags names (each refH hs) r d))
 
   apart : same (refH h) r ≡ true → holds (distinct (each refH hs ▷ refH h)) → among (each refH hs) r ≡ false
-  apart e d = sym (ap (among (each refH hs)) (same-eq (refH h) r (T-of (same (refH h) r) e))) ∙ not-so (among (each refH hs) (refH h)) (d .1)
+  apart e d = sym (ap (among (each refH hs)) (same-eq (refH h) r (passes (same (refH h) r) e))) ∙ off (among (each refH hs) (refH h)) (d .1)
 
   last : (o : Option ℕ) (e : Bool) → same (refH h) r ≡ e → holds (distinct (each refH hs ▷ refH h)) → Spot r hs names o
       → Spot r (hs ▷ h) names (orElse o (cond (e && not (among names (refH h))) (some (size (each refH hs))) none))

@@ -3,11 +3,11 @@ use Prim.Native.Nat.{ℕ, zero, suc, _+_, _*_, _-_, _^_, _≤_, _<_}
 use native.Mathlib.Omega.{arith}
 use native.Mathlib.Numerals.{add-one}
 use mathlib.Core.Path.{_≡_, refl, ap, sym, _∙_, subst}
-use mathlib.Core.Bool.{Bool, true, false, cond, not, _&&_, _||_, false≢true}
+use mathlib.Core.Bool.{Bool, true, false, cond, not, _&&_, _||_}
 use mathlib.Core.List.{List, [], _∷_}
 use mathlib.Core.Option.{Option, none, some}
 use borrow.Author.Tests.{ltb-true, le-ltb, leb-true, leb-false, le-leb}
-use lib.Dec.{T, leb, ltb}
+use lib.Dec.{leb, ltb}
 use lib.ListN.{length, getD}
 use lib.Seq.{slice}
 use Rattle.syntax.specs.Octets.{octets, same, within}
@@ -19,6 +19,7 @@ use Rattle.syntax.specs.declared.Version.{Version}
 use Rattle.syntax.specs.declared.content.Number.{Number}
 use Rattle.syntax.specs.declared.content.Number.the-variants.{Is, Not}
 use Rattle.grammar.specs.Lists.{Snoc, _▷_, among}
+use Rattle.grammar.specs.TestLaws.{passes}
 use Rattle.grammar.specs.Segments.{Unt, Unz, Ust, Asked}
 use Rattle.grammar.specs.Elements.{Range, text, digits, closed, anyLength, row, inRange, formedAs, formedRow}
 use Rattle.elements.specs.AmountsLaws.{digits-below, tens-below}
@@ -82,10 +83,6 @@ module _ (σ : Service) (s : List ℕ) (a : ℕ) {x : List ℕ} (e : x ≡ partO
 
 -- ---- numbers
 
-T-of : (b : Bool) → b ≡ true → T b
-T-of true e = tt
-T-of false e = absurd (false≢true e)
-
 six-fits : (s : List ℕ) → inRange (digits 1 6) s ≡ true → allDigits s && within 1 15 (length s) ≡ true
 six-fits s h =
     let d = and-l (allDigits s) (within 1 6 (length s)) h in
@@ -99,7 +96,7 @@ six-is s h = rw (six-fits s h)
 
 pub six-below : (s : List ℕ) → inRange (digits 1 6) s ≡ true → valueFrom 0 s < 1000000
 six-below s h =
-    let k = digits-below 6 s (T-of _ h) in
+    let k = digits-below 6 s (passes _ h) in
     let m = tens-below (length s) 6 (k .1) in
     omega (arith, k .0, m)
 

@@ -10,6 +10,7 @@ use Rattle.syntax.specs.Cutting.{firstOutside}
 use Rattle.syntax.specs.Tree.{Segment, printS}
 use Rattle.syntax.specs.declared.Syntax.{Syntax}
 use Rattle.grammar.specs.Lists.{Snoc, nil, _▷_, each, size, any, among, test, _and_, holds, check, every}
+use Rattle.grammar.specs.ListsLaws.{each-size}
 use Rattle.grammar.specs.Segments as segments
 use Rattle.grammar.specs.Segments.{Name, Named, Free, Asked, asked, text, number, reference, second, elementsOf, tagText}
 use Rattle.grammar.specs.Interchange.{Leaf, Certificate, certificate, Header, header, Trailer, trailer, link, Body, plain, ack, Open, msg, Message, message, Reading, start, idle, busy, done, showOpen}
@@ -25,7 +26,7 @@ use Rattle.elements.specs.declared.Kind.{Kind}
 use Rattle.elements.specs.declared.Kind.the-variants.{Unb, Unh, Unt, Unz, Ush, Usa, Usc, Usr, Ust, Usb, Usx, Usy, Reserved, Qty, Cnt, Other}
 use Rattle.message.specs.declared.Sums.{Sums}
 use Rattle.message.specs.Summary.{groupOf, sumsOf, summaryOf, flagsOf, StateS, busyS, stateOf, atHeads, atItems, closes, orderK, isFound, freeAt, refsK, countsK, scopeIn, scopeK, ustNext, itemNext, loaded, controlled, nextK, orderS, refsS, countsS, scopeS, nextS, AnswerS, refusedS, testsS, decidedS, told}
-use Rattle.message.specs.FlagLaws.{alike, size-each, any-each, any-size, load-sums, control-sums, totals, evens, all-named, Spot, no, yes, spot}
+use Rattle.message.specs.FlagLaws.{alike, any-each, any-size, load-sums, control-sums, totals, evens, all-named, Spot, no, yes, spot}
 
 -- ---- what is to be shown of a segment of the kind k whose view is a: where it has no place, 7 is broken; where it has one, each test answers as its
 -- rule does, given the rules before it, and the step gives what is kept of the result
@@ -62,7 +63,7 @@ module _ (y : Syntax) (u : Leaf) (ms : Snoc Message) (g : Segment) where
   ush (msg h hs (plain nil) nil) q =
       let z : Reading = busy u ms (msg h (hs ▷ header (elementsOf g) nil nil) (plain nil) nil) in
       here z
-      (rw (heads h hs, size-each refH hs)
+      (rw (heads h hs, each-size refH hs)
       (alike (order z) (test (ltb (size hs) 9))
       (λ p. p .1 .0) (λ p. (q .seven .0, (p, ((q .seven .1 .1 .0, (tt, (tt, tt))), q .seven .1 .1 .1))))))
       (λ i. alike (refs z) (test (not (among (each refH hs) (second (elementsOf g)))))
@@ -280,7 +281,7 @@ module _ (y : Syntax) (u : Leaf) (ms : Snoc Message) (g : Segment) where
       here z
       (rw (any-each refM ms) (alike (order z) (test (any ms)) (λ p. p .1) (λ p. (q .seven, p))))
       (λ i. alike (refs z) (test (same (second (elementsOf g)) (text u 5 0))) (λ p. p .1 .1) (λ p. (q .nine .0, (q .nine .1, p))))
-      (λ i j. rw (size-each refM ms) (alike (counts z) (test (eqb (number (elementsOf g) 1) (size ms))) (λ p. p .1) (λ p. (q .ten, p))))
+      (λ i j. rw (each-size refM ms) (alike (counts z) (test (eqb (number (elementsOf g) 1) (size ms))) (λ p. p .1) (λ p. (q .ten, p))))
       (λ i. holds-check (scopes z) (q .eleven))
       (λ i j. refl)
 

@@ -18,6 +18,7 @@ use Rattle.syntax.specs.declared.Service.{Service}
 use Rattle.syntax.specs.declared.Syntax.{Syntax}
 use Rattle.syntax.specs.declared.Refusal.{Refusal}
 use Rattle.grammar.specs.Lists.{Snoc, nil, _▷_, _+++_, size, sum, each, joined}
+use Rattle.grammar.specs.ListsLaws.{each-size}
 use Rattle.grammar.specs.Segments as segments
 use Rattle.grammar.specs.Segments.{Named, Free, kindIn, tags, seg, elementsOf, text, reference}
 use Rattle.grammar.specs.Interchange.{Leaf, Body, plain, ack, Open, msg, Message, message, Reading, start, idle, busy, done, showHeader, showBody, showTrailer, showOpen, showMessage, shown}
@@ -36,7 +37,6 @@ use Rattle.elements.specs.declared.Kind.the-variants.{Ust, Qty, Cnt, Other}
 use Rattle.message.specs.Heads.{headRefs, headFlags, posOr}
 use Rattle.message.specs.Summary.{Summary, StateS, startS, idleS, busyS, doneS, stateOf, summaryOf, keptOf, groupOf, sumsOf, freeAt}
 use Rattle.message.specs.Steps.{summaryIn, Sought}
-use Rattle.message.specs.FlagLaws.{size-each}
 use Rattle.message.specs.declared.Group.{Group}
 use Rattle.message.specs.declared.Group.the-variants.{Opened as Fresh}
 use Rattle.message.specs.declared.Message.{Message as Kept}
@@ -153,7 +153,7 @@ kept-group : (o : Open) → keptOf o .group ≡ groupOf o
 kept-group (msg h hs b ts) = refl
 
 kept-headers : (o : Open) → keptOf o .headers ≡ size (headersIn o)
-kept-headers (msg h hs b ts) = size-each refH hs
+kept-headers (msg h hs b ts) = each-size refH hs
 
 kept-auto : (o : Open) → keptOf o .auto ≡ autoO o
 kept-auto (msg h hs b ts) = refl
