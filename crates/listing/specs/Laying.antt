@@ -17,6 +17,7 @@ use Rattle.writing.specs.Written.{refusedAs}
 use Rattle.writing.specs.declared.Written.{Written}
 use Rattle.writing.specs.declared.Written.the-variants.{Length, Refused}
 use Rattle.lines.specs.Words.{messageLine}
+use Rattle.lines.specs.Seals.{sealsAt}
 use Rattle.listing.specs.Listing.{messagesOf, acceptedOf}
 
 -- ---- the lines of a section: a message that it closed; none of UNB and UNZ

@@ -21,6 +21,7 @@ use Rattle.groups.specs.Calls.{serviceIn}
 use Rattle.writing.specs.Written.{refusedAs}
 use Rattle.writing.specs.declared.Written.{Written}
 use Rattle.writing.specs.declared.Written.the-variants.{Length}
+use Rattle.lines.specs.Words.{refusalLine, acceptedLine, messageLine, sealLine}
 
 -- ---- the lines of a message whose UNH stands at q
 
