@@ -37,6 +37,7 @@ pub fn unread() -> State
     State {
         phase: Phase::Start,
         count: 0,
+        slot: 0,
         unb: Stretch { start: 0, end: 0 },
         unh: Stretch { start: 0, end: 0 },
         message: m,

@@ -4,9 +4,11 @@ use mathlib.Core.List.{List, [], _∷_, _++_}
 use mathlib.Core.Path.{_≡_}
 use mathlib.Core.Bool.{Bool, true, false, cond}
 use lib.Dec.{eqb, leb}
-use lib.ListN.{length, getD, take, drop}
+use lib.ListN.{length, getD, take, drop, set}
 use Rattle.syntax.specs.Content.{content}
-use Rattle.grammar.specs.Lists.{Snoc, nil, _▷_}
+use Rattle.grammar.specs.Lists.{Snoc, nil, _▷_, among}
+use Rattle.syntax.specs.declared.Found.{Found}
+use Rattle.syntax.specs.declared.Found.the-variants.{At, Nothing}
 
 -- ---- a content as two numbers
 
@@ -100,3 +102,31 @@ pub record Spot (names slots : List ℕ) (n h e i : ℕ) : Type 0 where
   pub free : getD slots i 0 ≡ 0 → (k : ℕ) → k < n → Named names k h e → ⊥
   pub finds : (names′ slots′ : List ℕ) → Grown slots slots′ → (k : ℕ) → getD slots′ i 0 ≡ suc k → Named names′ k h e
       → Reached (length slots - length names) names′ slots′ h e
+
+-- ---- a reference that may be the next one
+
+-- its name is written at 2 * n, if there is room
+abbrev pub put : List ℕ → ℕ → ℕ → ℕ → List ℕ
+put names n h e = set (set names (2 * n) h) (2 * n + 1) e
+
+abbrev pub kept : List ℕ → ℕ → ℕ → ℕ → List ℕ
+kept names n h e = cond (leb (2 * n + 2) (length names)) (put names n h e) names
+
+-- its name stands behind those of the n, and its way ends at slot i, which is free
+pub record Offered (names slots : List ℕ) (n i : ℕ) : Type 0 where
+  pub room : 2 * n + 2 ≤ length names
+  pub named : Named names n (headOf (refAt names n)) (tailOf (refAt names n))
+  pub spot : Spot names slots n (getD names (2 * n) 0) (getD names (2 * n + 1) 0) i
+  pub free : getD slots i 0 ≡ 0
+
+-- the content t is not among the n references, which stay; if there is room, it is the one behind them
+pub record Fitting (names slots : List ℕ) (n : ℕ) (t : List ℕ) (i : ℕ) (names′ : List ℕ) : Type 0 where
+  pub new : among (refsIn names n) t ≡ false
+  pub same : refsIn names′ n ≡ refsIn names n
+  pub indexed : Indexed names′ slots n
+  pub size : length names′ ≡ length names
+  pub next : 2 * n + 2 ≤ length names′ → (refAt names′ n ≡ t) × Offered names′ slots n i
+
+abbrev pub OfferIs : List ℕ → List ℕ → ℕ → List ℕ → Found → List ℕ → Type 0
+OfferIs names slots n t (At i) names′ = Fitting names slots n t i names′
+OfferIs names slots n t Nothing names′ = (among (refsIn names n) t ≡ true) × (length names′ ≡ length names)

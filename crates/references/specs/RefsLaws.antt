@@ -6,7 +6,7 @@ use native.Mathlib.Nat.{suc-add, zero-add}
 use mathlib.Core.List.{List, [], _∷_, _++_, append-assoc, append-nil}
 use mathlib.Core.Path.{_≡_, refl, ap, sym, subst, _∙_}
 use mathlib.Core.Bool.{Bool, true, false, cond, not, _||_, or-true, false≢true}
-use borrow.Author.Tests.{eq-eqb, ne-eqb, eqb-true, eqb-false, le-leb, lt-leb}
+use borrow.Author.Tests.{eq-eqb, ne-eqb, eqb-true, eqb-false, leb-true, leb-false, le-leb, lt-leb}
 use lib.Dec.{T, eqb, leb}
 use lib.ListN.{length, getD, take, drop, set, length-set, length-drop, take-append-drop, length-append, replicate, length-replicate}
 use lib.Seq.{getD-set-same, getD-set-other, take-nil, drop-nil, drop-drop, take-add}
@@ -17,7 +17,7 @@ use Rattle.syntax.specs.declared.content.Next.{Next}
 use Rattle.syntax.specs.declared.content.Next.the-variants.{Octet, Over}
 use Rattle.grammar.specs.Lists.{_▷_, among}
 use Rattle.grammar.specs.PlacingLaws.{same-eq}
-use Rattle.references.specs.Refs.{packed, octetsIn, headOf, tailOf, Named, isNamed, refAt, refsIn, rootOf, Leads, here, down, Reached, Indexed, WordOf, NameOf, Grown, Spot}
+use Rattle.references.specs.Refs.{packed, octetsIn, headOf, tailOf, Named, isNamed, refAt, refsIn, rootOf, Leads, here, down, Reached, Indexed, WordOf, NameOf, Grown, Spot, put, kept, Offered, Fitting}
 
 -- ---- the numbers
 
@@ -334,20 +334,17 @@ module _ {names slots : List ℕ} {n : ℕ} (g : Indexed names slots n) where
             }
 
   -- whether the slot is taken says whether the content is there
-  pub used-is : {t : List ℕ} {h e i : ℕ} → NameOf t h e → Spot names slots n h e i → not (eqb (getD slots i 0) 0) ≡ among (refsIn names n) t
-  used-is {t} {h} {e} {i} w s = by-slot (getD slots i 0) refl
-    where
-      by-slot : (q : ℕ) → getD slots i 0 ≡ q → not (eqb q 0) ≡ among (refsIn names n) t
-      by-slot zero d = sym (among-none names t n (λ k l z. s .free d k l (name-of g w k l z)))
-      by-slot (suc k) d =
-          let o = s .held k d in
-          rw (ne-eqb (suc k) 0 (λ (z : suc k ≡ 0). omega arith)) (sym (among-some names t n k (o .0) (of-name g w k (o .0) (o .1))))
+  module _ {t : List ℕ} {h e i : ℕ} (w : NameOf t h e) (s : Spot names slots n h e i) where
+    pub offer-used : (getD slots i 0 ≡ 0 → ⊥) → among (refsIn names n) t ≡ true
+    offer-used f =
+        let d : getD slots i 0 ≡ suc (getD slots i 0 - 1) = omega arith in
+        let o = s .held (getD slots i 0 - 1) d in
+        among-some names t n (getD slots i 0 - 1) (o .0) (of-name g w (getD slots i 0 - 1) (o .0) (o .1))
+
+    offer-new : getD slots i 0 ≡ 0 → among (refsIn names n) t ≡ false
+    offer-new d = among-none names t n (λ k l z. s .free d k l (name-of g w k l z))
 
 -- ---- one more reference
-
--- its name is written at 2 * n
-abbrev pub put : List ℕ → ℕ → ℕ → ℕ → List ℕ
-put names n h e = set (set names (2 * n) h) (2 * n + 1) e
 
 module _ (names : List ℕ) (n h e : ℕ) where
   put-length : length (put names n h e) ≡ length names
@@ -380,8 +377,8 @@ module _ (names : List ℕ) (n h e : ℕ) where
 pub note-room : (names : List ℕ) (n : ℕ) → 2 * n + 2 ≤ length names → 2 * n + 1 < length names
 note-room names n l = omega arith
 
-module _ {names slots : List ℕ} {n : ℕ} (g : Indexed names slots n) (room : 2 * n + 2 ≤ length names) (few : n < 65535) {t : List ℕ} (short : length t ≤ 14)
-    {h e i : ℕ} (w : NameOf t h e) (s : Spot names slots n h e i) where
+module _ {names slots : List ℕ} {n : ℕ} (g : Indexed names slots n) (room : 2 * n + 2 ≤ length names) {t : List ℕ} (short : length t ≤ 14)
+    {h e i : ℕ} (w : NameOf t h e) (s : Spot names slots n h e i) (z : getD slots i 0 ≡ 0) where
   new-ref : refAt (put names n h e) n ≡ t
   new-ref =
       let o = put-new names n h e room in
@@ -389,95 +386,116 @@ module _ {names slots : List ℕ} {n : ℕ} (g : Indexed names slots n) (room : 
       let u = packed-more 1 (take 7 t) in
       rw (o .0, o .1) (w .shows (omega (arith, u, m .0)))
 
-  noted-refs : refsIn (put names n h e) (n + 1) ≡ refsIn names n ▷ t
-  noted-refs = rw (add-one n, refs-same names n h e n (omega arith), new-ref)
+  roots : length slots - length (put names n h e) ≡ length slots - length names
+  roots = rw (put-length names n h e)
 
-  -- with slots that still hold what they held, and at i a reference of the new name
-  module _ (slots′ : List ℕ) (size : length slots′ ≡ length slots) (grown : Grown slots slots′) {j : ℕ} (at : getD slots′ i 0 ≡ suc j) (new : Named (put names n h e) j h e)
-      (falls : (i k : ℕ) → getD slots′ i 0 ≡ suc k → (k < suc n) × (i < length slots - length names + 2 * k)) where
-    roots : length slots′ - length (put names n h e) ≡ length slots - length names
-    roots = rw (size, put-length names n h e)
+  put-indexed : Indexed (put names n h e) slots n
+  put-indexed = record {
+    few = g .few;
+    room = rw (put-length names n h e) (g .room);
+    rooted = rw (put-length names n h e) (g .rooted);
+    named = λ k l. rw (ref-same names n h e k l) (put-named names n h e k l (g .named k l));
+    falls = λ i k d. rw roots (g .falls i k d);
+    leads = λ k h′ e′ l q. rw roots (leads-kept (λ i k d. d) (λ i k y. put-named names n h e k (g .falls i k y .0)) (g .leads k h′ e′ l (put-back names n h e k l q)));
+  }
 
-    named-at : (k : ℕ) → k < suc n → (b : Bool) → eqb k n ≡ b → Named (put names n h e) k (headOf (refAt (put names n h e) k)) (tailOf (refAt (put names n h e) k))
-    named-at k l true d =
-        let o = put-new names n h e room in
-        let m = w .made short in
-        rw (eqb-true k n d, new-ref) (o .0 ∙ m .0, o .1 ∙ m .1)
-    named-at k l false d =
-        let z = eqb-false k n d in
-        let q : k < n = omega arith in
-        rw (ref-same names n h e k q) (put-named names n h e k q (g .named k q))
+  put-spot : Spot (put names n h e) slots n h e i
+  put-spot = record {
+    inside = rw roots (s .inside);
+    held = λ k d. absurd (not-zero z d);
+    free = λ d k l q. s .free d k l (put-back names n h e k l q);
+    finds = λ names′ slots′ o k d q. rw roots (s .finds names′ slots′ o k d q);
+  }
 
-    leads-at : (k h′ e′ : ℕ) → k < suc n → Named (put names n h e) k h′ e′ → (b : Bool) → eqb k n ≡ b → Reached (length slots - length names) (put names n h e) slots′ h′ e′
-    leads-at k h′ e′ l q true d =
-        let o = put-new names n h e room in
-        let z = eqb-true k n d in
-        let q : Named (put names n h e) n h′ e′ = rw z at q in
-        rw (sym (q .0) ∙ o .0, sym (q .1) ∙ o .1) (s .finds (put names n h e) slots′ grown j at new)
-    leads-at k h′ e′ l q false d =
-        let z = eqb-false k n d in
-        let o : k < n = omega arith in
-        leads-kept grown (λ i k y. put-named names n h e k (g .falls i k y .0)) (g .leads k h′ e′ o (put-back names n h e k o q))
+  put-fits : Fitting names slots n t i (put names n h e)
+  put-fits =
+      let o = put-new names n h e room in
+      let m = w .made short in
+      record {
+        new = offer-new g w s z;
+        same = refs-same names n h e n (omega arith);
+        indexed = put-indexed;
+        size = put-length names n h e;
+        next = λ r. (
+          new-ref,
+          record {
+            room = r;
+            named = rw new-ref (o .0 ∙ m .0, o .1 ∙ m .1);
+            spot = rw (o .0, o .1) put-spot;
+            free = z;
+          },
+        );
+      }
 
-    noted-indexed : Indexed (put names n h e) slots′ (n + 1)
-    noted-indexed =
-        rw (add-one n)
-        (record {
-          few = omega arith;
-          room = rw (put-length names n h e) (omega arith);
-          rooted = rw (put-length names n h e, size) (g .rooted);
-          named = λ k l. named-at k l (eqb k n) refl;
-          falls = λ i k d. rw roots (falls i k d);
-          leads = λ k h′ e′ l q. rw roots (leads-at k h′ e′ l q (eqb k n) refl);
-        })
+pub offer-fits : {names names′ slots : List ℕ} {n : ℕ} → Indexed names slots n → {t : List ℕ} → length t ≤ 14 → {h e i : ℕ} → NameOf t h e
+    → Spot names slots n h e i → getD slots i 0 ≡ 0 → names′ ≡ kept names n h e → Fitting names slots n t i names′
+offer-fits {names} {names′} {slots} {n} g {t} short {h} {e} {i} w s z d = rw d (by (leb (2 * n + 2) (length names)) refl)
+  where
+    by : (b : Bool) → leb (2 * n + 2) (length names) ≡ b → Fitting names slots n t i (cond b (put names n h e) names)
+    by true q = put-fits g (leb-true (2 * n + 2) (length names) q) short w s z
+    by false q =
+        let l = leb-false (2 * n + 2) (length names) q in
+        record { new = offer-new g w s z; same = refl; indexed = g; size = refl; next = λ r. absurd (let x : ⊥ = omega arith in x) }
 
-  abbrev Noted : List ℕ → Type 0
-  Noted slots′ =
-      (refsIn (put names n h e) (n + 1) ≡ refsIn names n ▷ t) ×
-      (Indexed (put names n h e) slots′ (n + 1) × ((length (put names n h e) ≡ length names) × (length slots′ ≡ length slots)))
+-- the two ways of keeping a name
+pub kept-room : (names : List ℕ) (n h e : ℕ) → 2 * n + 2 ≤ length names → put names n h e ≡ kept names n h e
+kept-room names n h e l = rw (le-leb (2 * n + 2) (length names) l)
 
-  -- the name was there
-  pub noted-again : (getD slots i 0 ≡ 0 → ⊥) → Noted slots
-  noted-again f =
-      let d : getD slots i 0 ≡ suc (getD slots i 0 - 1) = omega arith in
-      let o = s .held (getD slots i 0 - 1) d in (
-        noted-refs,
-        (
-          noted-indexed slots refl (λ i k d. d) d (put-named names n h e (getD slots i 0 - 1) (o .0) (o .1)) (λ i k d. let a = g .falls i k d in (omega (arith, a .0), a .1)),
-          (put-length names n h e, refl),
-        ),
-      )
+pub kept-none : (names : List ℕ) (n h e : ℕ) → length names < 2 * n + 2 → names ≡ kept names n h e
+kept-none names n h e l = rw (lt-leb (2 * n + 2) (length names) l)
 
-  -- it was not
-  pub noted-new : getD slots i 0 ≡ 0 → Noted (set slots i (n + 1))
-  noted-new z =
-      let p = s .inside in
-      let q = g .room in
-      let r = g .rooted in
-      let d : getD (set slots i (n + 1)) i 0 ≡ suc n = getD-set-same slots i (n + 1) 0 (omega arith) ∙ add-one n in (
-        noted-refs,
-        (
-          noted-indexed (set slots i (n + 1)) (length-set slots i (n + 1)) grown d (put-new names n h e room) (λ j k y. falls j k y (eqb j i) refl),
-          (put-length names n h e, length-set slots i (n + 1)),
-        ),
-      )
-    where
-      grown : Grown slots (set slots i (n + 1))
-      grown j k d = getD-set-other slots i j (n + 1) 0 (λ (q : j ≡ i). not-zero z (rw q at d)) ∙ d
+-- what was offered is taken
+module _ {names slots : List ℕ} {n i : ℕ} (g : Indexed names slots n) (o : Offered names slots n i) (few : n < 65535) where
+  abbrev taken : List ℕ
+  taken = set slots i (n + 1)
 
-      falls : (j k : ℕ) → getD (set slots i (n + 1)) j 0 ≡ suc k → (b : Bool) → eqb j i ≡ b → (k < suc n) × (j < length slots - length names + 2 * k)
-      falls j k y true d =
-          let o = eqb-true j i d in
-          let p = s .inside in
-          let q = g .room in
-          let r = g .rooted in
-          let u : suc k ≡ suc n = sym y ∙ ap (λ (x : ℕ). getD (set slots i (n + 1)) x 0) o ∙ getD-set-same slots i (n + 1) 0 (omega arith) ∙ add-one n in
-          let v : k ≡ n = omega arith in
-          (omega arith, rw (o, v) p)
-      falls j k y false d =
-          let o = eqb-false j i d in
-          let a = g .falls j k (sym (getD-set-other slots i j (n + 1) 0 o) ∙ y) in
-          (omega (arith, a .0), a .1)
+  note-in : i < length slots
+  note-in = let p = o .spot .inside in let q = g .room in let r = g .rooted in omega arith
+
+  taken-here : getD taken i 0 ≡ suc n
+  taken-here = getD-set-same slots i (n + 1) 0 note-in ∙ add-one n
+
+  grown : Grown slots taken
+  grown j k d = getD-set-other slots i j (n + 1) 0 (λ (q : j ≡ i). not-zero (o .free) (rw q at d)) ∙ d
+
+  falls-at : (j k : ℕ) → getD taken j 0 ≡ suc k → (b : Bool) → eqb j i ≡ b → (k < suc n) × (j < length slots - length names + 2 * k)
+  falls-at j k y true d =
+      let p = eqb-true j i d in
+      let u : suc k ≡ suc n = sym y ∙ ap (λ (x : ℕ). getD taken x 0) p ∙ taken-here in
+      let v : k ≡ n = omega arith in
+      (omega arith, rw (p, v) (o .spot .inside))
+  falls-at j k y false d =
+      let p = eqb-false j i d in
+      let a = g .falls j k (sym (getD-set-other slots i j (n + 1) 0 p) ∙ y) in
+      (omega (arith, a .0), a .1)
+
+  named-at : (k : ℕ) → k < suc n → (b : Bool) → eqb k n ≡ b → Named names k (headOf (refAt names k)) (tailOf (refAt names k))
+  named-at k l true d = rw (eqb-true k n d) (o .named)
+  named-at k l false d = let z = eqb-false k n d in g .named k (omega arith)
+
+  leads-at : (k h e : ℕ) → k < suc n → Named names k h e → (b : Bool) → eqb k n ≡ b → Reached (length slots - length names) names taken h e
+  leads-at k h e l q true d =
+      let z = eqb-true k n d in
+      let q : Named names n h e = rw z at q in
+      rw (← q .0, ← q .1) (o .spot .finds names taken grown n taken-here (refl, refl))
+  leads-at k h e l q false d =
+      let z = eqb-false k n d in
+      leads-kept grown (λ i k y v. v) (g .leads k h e (omega arith) q)
+
+  still-indexed : Indexed names taken (n + 1)
+  still-indexed =
+      subst (λ (k : ℕ). Indexed names taken k) (sym (add-one n))
+      (record {
+        few = omega arith;
+        room = let p = o .room in omega arith;
+        rooted = rw (length-set slots i (n + 1)) (g .rooted);
+        named = λ k l. named-at k l (eqb k n) refl;
+        falls = λ j k d. rw (length-set slots i (n + 1)) (falls-at j k d (eqb j i) refl);
+        leads = λ k h e l q. rw (length-set slots i (n + 1)) (leads-at k h e l q (eqb k n) refl);
+      })
+
+  pub noted : Indexed names taken (n + 1) × (length taken ≡ length slots)
+  noted = (still-indexed, length-set slots i (n + 1))
 
 -- no reference yet
 pub indexed-none : (m k : ℕ) {names slots : List ℕ} → m < k → names ≡ replicate {A = ℕ} m 0 → slots ≡ replicate {A = ℕ} k 0 → Indexed names slots 0

@@ -1,14 +1,12 @@
 // The references of the messages so far, in a search tree: exact, and quick whatever the references are.
+use syntax::Found;
 use syntax::content::Next;
 use syntax::content::next_octet;
-use syntax::content::part;
 ghost use mathlib.Core.Path.{_≡_};
 ghost use Prim.Native.Nat.{_+_, _*_, _%_, _≤_, _<_};
 ghost use lib.ListN.{length};
-ghost use lib.Seq.{slice};
 ghost use Rattle.syntax.specs.Content.{content};
-ghost use Rattle.grammar.specs.Lists.{_▷_, among};
-ghost use Rattle.references.specs.Refs.{full, refsIn, isNamed, rootOf, WordOf, NameOf, Indexed, Spot};
+ghost use Rattle.references.specs.Refs.{full, refsIn, isNamed, rootOf, WordOf, NameOf, Indexed, Spot, kept, Offered, OfferIs};
 
 // Up to seven octets of content as a number, the place after them, and whether no more was met.
 struct Word {
@@ -144,38 +142,40 @@ fn slot_of(names: &[u64], slots: &[u16], n: usize, head: u64, tail: u64) -> usiz
     }
 }
 
-// Whether one of the first `n` references has the content of `x`. `names` holds the two numbers of reference k at 2 * k. `slots` holds, behind as many
-// roots as it is longer, the two slots below reference k at 2 * k; a slot holds one more than a reference, or 0.
-pub fn used(release: u8, names: &[u64], slots: &[u16], n: usize, x: &[u8]) -> bool
+// The name is written behind those of `n` references, if there is room: that is certain only at a message's end, as it has two segments.
+fn keep(names: &mut [u64], n: usize, head: u64, tail: u64)
+    requires { ⌜ n < 65536 ⌝ }
+    ensures { λ r. ⌜ now (names .exit) ≡ kept (now (names .entry)) n head tail ⌝ }
+{
+    if 2 * n + 2 <= names.len() {
+        names[2 * n] = head;
+        names[2 * n + 1] = tail;
+    }
+}
+
+// Where the way of a reference ends that has the content of `x`: a free slot, and the name is kept behind the `n` that are there; nowhere if one of
+// these has the content. `names` holds the two numbers of reference k at 2 * k. `slots` holds, behind as many roots as it is longer, the two slots below
+// reference k at 2 * k; a slot holds one more than a reference, or 0.
+pub fn offer(release: u8, names: &mut [u64], slots: &[u16], n: usize, x: &[u8]) -> Found
     requires { ⌜ Indexed (now names) (now slots) n ⌝ }
-    ensures { λ r. ⌜ r ≡ among (refsIn (now (names .entry)) n) (content release (now (x .entry))) ⌝ }
+    requires { ⌜ length (content release (now x)) ≤ 14 ⌝ }
+    ensures { λ r. ⌜ OfferIs (now (names .entry)) (now (slots .entry)) n (content release (now (x .entry))) r (now (names .exit)) ⌝ }
 {
     let w = name_of(x, release);
     let i = slot_of(names, slots, n, w.head, w.tail);
-    slots[i] != 0
+    if slots[i] != 0 {
+        return Found::Nothing;
+    }
+    keep(names, n, w.head, w.tail);
+    Found::At(i)
 }
 
-// The octets from `a` up to, not including, `e` become reference `n`. One whose content is there already needs no slot.
-pub fn note(
-    s: &[u8],
-    release: u8,
-    names: &mut [u64],
-    slots: &mut [u16],
-    n: usize,
-    a: usize,
-    e: usize,
-)
+// The reference that was offered slot `i` becomes reference `n`.
+pub fn note(names: &[u64], slots: &mut [u16], n: usize, i: usize)
     requires { ⌜ Indexed (now names) (now slots) n ⌝ }
-    requires { ⌜ (2 * n + 2 ≤ length (now names)) × (n < 65535) × (length (content release (slice a e (now s))) ≤ 14) ⌝ }
-    ensures { λ r. ⌜ refsIn (now (names .exit)) (n + 1) ≡ refsIn (now (names .entry)) n ▷ content release (slice a e (now (s .entry))) ⌝ }
-    ensures { λ r. ⌜ Indexed (now (names .exit)) (now (slots .exit)) (n + 1) ⌝ }
-    ensures { λ r. ⌜ (length (now (names .exit)) ≡ length (now (names .entry))) × (length (now (slots .exit)) ≡ length (now (slots .entry))) ⌝ }
+    requires { ⌜ Offered (now names) (now slots) n i × (n < 65535) ⌝ }
+    ensures { λ r. ⌜ Indexed (now (names .entry)) (now (slots .exit)) (n + 1) ⌝ }
+    ensures { λ r. ⌜ length (now (slots .exit)) ≡ length (now (slots .entry)) ⌝ }
 {
-    let w = name_of(part(s, a, e), release);
-    let i = slot_of(names, slots, n, w.head, w.tail);
-    names[2 * n] = w.head;
-    names[2 * n + 1] = w.tail;
-    if slots[i] == 0 {
-        slots[i] = n as u16 + 1;
-    }
+    slots[i] = n as u16 + 1;
 }

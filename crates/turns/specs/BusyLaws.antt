@@ -224,7 +224,7 @@ abbrev openIn : ℕ → List ℕ → State → List ℕ → Summary
 openIn ρ s st h = summaryIn ρ s (st .message) (st .unh .start) (st .unh .end) h
 
 abbrev pub withMessage : State → Message → State
-withMessage st z = record { phase = Busy; count = st .count; unb = st .unb; unh = st .unh; message = z }
+withMessage st z = record { phase = Busy; count = st .count; slot = st .slot; unb = st .unb; unh = st .unh; message = z }
 
 -- the answers on the segment at p, of the rules and of what its kind does
 abbrev pub decidedAt : Syntax → List ℕ → State → List ℕ → List ℕ → ℕ → AnswerS
@@ -251,7 +251,7 @@ module _ (ρ : ℕ) (s : List ℕ) (st : State) (h l b : List ℕ) (p q : ℕ) (
     taken =
         let t : 8 * st .count + 4 * st .message .segments ≤ p = subst (λ (x : Phase). 8 * st .count + 4 * openSize x (st .message) ≤ p) e (g .taken) in
         omega (arith, t, n, d);
-    named = g .named;
+    offered = λ _ r. g .offered e r;
   }
 
   read-by : (A : AnswerM) (z : Message) (h′ : List ℕ) → length h′ ≡ 36 → GrowsM (st .message .segments) A → MovedIs A (To z) ρ s (st .unh .start) (st .unh .end) h′ →

@@ -23,7 +23,7 @@ use Rattle.grammar.specs.Verdict.{Test, tested, Answer, concluded, numbers}
 use Rattle.elements.specs.Kinds.{kindOf}
 use Rattle.message.specs.Summary.{Summary, StateS, startS, idleS, busyS, doneS, orderS, refsS, countsS, scopeS, nextS, AnswerS, readS, refusedS, decidedS}
 use Rattle.message.specs.Steps.{summaryIn, Roomy}
-use Rattle.references.specs.Refs.{refsIn, Indexed}
+use Rattle.references.specs.Refs.{refAt, refsIn, Indexed, Offered}
 use Rattle.elements.specs.Fields.{Fields}
 use Rattle.elements.specs.Formed.{looked}
 use Rattle.elements.specs.declared.fields.Shape.{Shape}
@@ -90,7 +90,8 @@ openSize Idle m = 0
 openSize Busy m = m .segments
 openSize Done m = 0
 
--- what keeps everything in its room: a segment has at least 4 octets, a message at least two segments; i is the place of what comes next
+-- what keeps everything in its room: a segment has at least 4 octets, a message at least two segments; i is the place of what comes next.
+-- Where there is room for it, the open message's reference stands behind the others, and is offered a slot
 pub record Held (ρ : ℕ) (s : List ℕ) (x : State) (h l b : List ℕ) (i : ℕ) : Type 0 where
   pub indexed : Indexed l b (x .count)
   pub roomy : Roomy (x .message) h
@@ -99,7 +100,8 @@ pub record Held (ρ : ℕ) (s : List ℕ) (x : State) (h l b : List ℕ) (i : �
   pub names : length s ≤ 4 * length l
   pub short : length s ≤ 65535
   pub taken : 8 * x .count + 4 * openSize (x .phase) (x .message) ≤ i
-  pub named : length (content ρ (slice (x .unh .start) (x .unh .end) s)) ≤ 14
+  pub offered : x .phase ≡ Busy → 2 * x .count + 2 ≤ length l
+      → (refAt l (x .count) ≡ content ρ (slice (x .unh .start) (x .unh .end) s)) × Offered l b (x .count) (x .slot)
 
 -- ---- a step, of a segment that is whole and inside the repertoire: 7 to 12, then the state after it
 

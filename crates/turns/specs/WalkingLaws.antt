@@ -1,5 +1,6 @@
 -- UNB, UNH, UNT and UNZ, a path at a time: the step that the rules ask, and everything still in its room.
 use Prim.Native.Nat.{ℕ, zero, suc, _+_, _*_, _≤_, _<_}
+use native.Mathlib.Numerals.{add-one}
 use native.Mathlib.Omega.{arith}
 use mathlib.Core.Path.{_≡_, refl, ap, sym, _∙_, subst}
 use mathlib.Core.Bool.{Bool, true, false, not, _&&_, false≢true}
@@ -12,6 +13,8 @@ use Rattle.syntax.specs.Octets.{octets, same}
 use Rattle.syntax.specs.Content.{content, valueFrom}
 use Rattle.syntax.specs.RepertoireLaws.{and-l, and-r}
 use Rattle.syntax.specs.Segment.{componentAt, partOf}
+use Rattle.syntax.specs.declared.Found.{Found}
+use Rattle.syntax.specs.declared.Found.the-variants.{At, Nothing}
 use Rattle.syntax.specs.declared.Syntax.{Syntax}
 use Rattle.syntax.specs.declared.Version.{Version}
 use Rattle.grammar.specs.Lists.{Snoc, nil, _▷_, size, any, among}
@@ -26,7 +29,7 @@ use Rattle.elements.specs.Octets.{textAt, askedAt}
 use Rattle.elements.specs.Fields.{Marked, startIn, endIn}
 use Rattle.elements.specs.Formed.{formedBy}
 use Rattle.elements.specs.FormedLaws.{and-stop, and-go, formed-by}
-use Rattle.references.specs.Refs.{refsIn, Indexed}
+use Rattle.references.specs.Refs.{refsIn, Indexed, Offered, Fitting, OfferIs}
 use Rattle.message.specs.Heads.{headFlags}
 use Rattle.message.specs.Summary.{Summary, StateS, startS, idleS, busyS, atStart, atIdle, atBusy, mayCome, allNamed, evenAll, totalRight, numberIn, orderK, refsK, countsK, scopeK, nextK, orderS, refsS, countsS, scopeS, nextS, opened, fresh, AnswerS, readS, refusedS, decidedS}
 use Rattle.message.specs.Steps.{summaryIn, Roomy}
@@ -135,6 +138,23 @@ unh-short v a e =
     let r = closed-range (text 1 14) a 1 (and-l (formedAs (closed (text 1 14 ∷ [])) a 1) (formedRow (composite (text 1 6 ∷ []) ∷ []) a 2) e) in
     leb-true (length (a .text 1 0)) 14 (and-r (leb 1 (length (a .text 1 0))) (leb (length (a .text 1 0)) 14) r)
 
+-- a slot was offered
+pub offer-at : {l b t l′ : List ℕ} {n : ℕ} (r : Found) → OfferIs l b n t r l′ → {i : ℕ} → r ≡ At i → Fitting l b n t i l′
+offer-at {l} {b} {t} {l′} {n} r o e = subst (λ (z : Found). OfferIs l b n t z l′) e o
+
+-- nothing is offered outside a message
+abbrev isOpen : Phase → Bool
+isOpen Start = false
+isOpen Idle = false
+isOpen Busy = true
+isOpen Done = false
+
+idle-shut : {A : Type 0} → Idle ≡ Busy → A
+idle-shut e = absurd (false≢true (ap isOpen e))
+
+done-shut : {A : Type 0} → Done ≡ Busy → A
+done-shut e = absurd (false≢true (ap isOpen e))
+
 least : (n : ℕ) → 0 ≤ n
 least n = omega arith
 
@@ -179,6 +199,10 @@ module _ (y : Syntax) (s : List ℕ) (st : State) (h l b : List ℕ) (at next : 
   abbrev Told : Step → Type 0
   Told r = StepIs (decidedFrom (y .version) (stateIn (y .service .release) s st h l) (askedAt (y .service) s at) at) r (y .service .release) s h l b next
 
+  -- with the names as they are left
+  abbrev Left : List ℕ → Step → Type 0
+  Left l′ r = StepIs (decidedFrom (y .version) (stateIn (y .service .release) s st h l) (askedAt (y .service) s at) at) r (y .service .release) s h l′ b next
+
   -- the octets of a field between two of the marks
   between : Marked (y .service) s at marks → (p : ℕ) {i j : ℕ} → 1 ≤ p → p ≤ 5 → i ≡ startIn marks p 0 → j ≡ endIn marks p 0 →
       slice i j s ≡ partOf s (componentAt (y .service) s at p 0)
@@ -196,7 +220,7 @@ module _ (y : Syntax) (s : List ℕ) (st : State) (h l b : List ℕ) (at next : 
 
     module _ {i j : ℕ} (u : i ≡ startIn marks 5 0) (w : j ≡ endIn marks 5 0) where
       abbrev unb-state : State
-      unb-state = record { phase = Idle; count = 0; unb = record { start = i; end = j }; unh = st .unh; message = st .message }
+      unb-state = record { phase = Idle; count = 0; slot = st .slot; unb = record { start = i; end = j }; unh = st .unh; message = st .message }
 
       unb-held : Held (y .service .release) s unb-state h l b next
       unb-held = record {
@@ -207,7 +231,7 @@ module _ (y : Syntax) (s : List ℕ) (st : State) (h l b : List ℕ) (at next : 
         names = g .held .names;
         short = g .held .short;
         taken = least next;
-        named = g .held .named;
+        offered = λ c. idle-shut c;
       }
 
       unb-is : stateIn (y .service .release) s unb-state h l ≡ nextS here ask
@@ -238,51 +262,63 @@ module _ (y : Syntax) (s : List ℕ) (st : State) (h l b : List ℕ) (at next : 
     pub unh-bad : not q ≡ true → {r : Step} → r ≡ Stop (record { number = 8; place = at }) → Told r
     unh-bad n d = stop (y .service .release) s h l b next (at-8 (y .version) here ask at unh-order (sym e ∙ not-true q n)) d
 
-    module _ (n : not q ≡ false) {x : List ℕ} (field : x ≡ partOf s (componentAt (y .service) s at 1 0)) {a : Bool}
-        (used : a ≡ among (refsIn l (st .count)) (content (y .service .release) x)) where
-      unh-refs : refsS here ask ≡ not a
-      unh-refs =
+    module _ (n : not q ≡ false) {x : List ℕ} (field : x ≡ partOf s (componentAt (y .service) s at 1 0)) where
+      pub unh-name : length (content (y .service .release) x) ≤ 14
+      unh-name =
+          let short = unh-short (y .version) ask (ap (λ (k : Kind). formedBy (y .version) k ask) (g .kind) ∙ sym (formed-by (y .version) ask) ∙ sym e ∙ not-false q n) in
+          rw field short
+
+      unh-refs : {a : Bool} → among (refsIn l (st .count)) (content (y .service .release) x) ≡ a → refsS here ask ≡ not a
+      unh-refs used =
           by (λ (z : StateS) (k : Kind). refsK z k ask) (idle-here ph) (g .kind)
-          ∙ sym (ap not (used ∙ ap (λ (t : List ℕ). among refs (content (y .service .release) t)) field))
+          ∙ ap not (sym (ap (λ (t : List ℕ). among refs (content (y .service .release) t)) field) ∙ used)
 
-      pub unh-again : a ≡ true → {r : Step} → r ≡ Stop (record { number = 9; place = at }) → Told r
-      unh-again v d = stop (y .service .release) s h l b next (at-9 (y .version) here ask at unh-order (sym e ∙ not-false q n) (unh-refs ∙ ap not v)) d
+      pub unh-again : (l′ : List ℕ) (z : Found) → OfferIs l b (st .count) (content (y .service .release) x) z l′ → z ≡ Nothing →
+          {r : Step} → r ≡ Stop (record { number = 9; place = at }) → Left l′ r
+      unh-again l′ z o v d =
+          let used = subst (λ (w : Found). OfferIs l b (st .count) (content (y .service .release) x) w l′) v o .0 in
+          stop (y .service .release) s h l′ b next (at-9 (y .version) here ask at unh-order (sym e ∙ not-false q n) (unh-refs used)) d
 
-      module _ (v : a ≡ false) {z : List ℕ} (name : z ≡ partOf s (componentAt (y .service) s at 2 0)) {c : Bool}
-          (auto : c ≡ same (content (y .service .release) z) (octets "AUTACK")) {m : Message} (new : m ≡ fresh c)
+      module _ {l′ : List ℕ} {k : ℕ} (o : Fitting l b (st .count) (content (y .service .release) x) k l′) {z : List ℕ} (name : z ≡ partOf s (componentAt (y .service) s at 2 0))
+          {c : Bool} (auto : c ≡ same (content (y .service .release) z) (octets "AUTACK")) {m : Message} (new : m ≡ fresh c)
           {i j : ℕ} (u : i ≡ startIn marks 1 0) (w : j ≡ endIn marks 1 0) where
         abbrev unh-state : State
-        unh-state = record { phase = Busy; count = st .count; unb = st .unb; unh = record { start = i; end = j }; message = m }
+        unh-state = record { phase = Busy; count = st .count; slot = k; unb = st .unb; unh = record { start = i; end = j }; message = m }
 
-        unh-held : Held (y .service .release) s unh-state h l b next
+        unh-part : slice i j s ≡ x
+        unh-part = between (g .noted refl .marks) 1 (omega arith) (omega arith) u w ∙ sym field
+
+        unh-held : Held (y .service .release) s unh-state h l′ b next
         unh-held =
             let one : m .segments ≡ 1 = ap (λ (x : Message). x .segments) new in
             let t = idle-taken g ph in
             let taken : 8 * st .count + 4 * m .segments ≤ next = omega (arith, one, t) in
             let begun : 1 ≤ m .segments = omega (arith, one) in
-            let short = unh-short (y .version) ask (ap (λ (k : Kind). formedBy (y .version) k ask) (g .kind) ∙ sym (formed-by (y .version) ask) ∙ sym e ∙ not-false q n) in
+            let room = g .held .names in
+            let names : length s ≤ 4 * length l′ = omega (arith, room, o .size) in
             record {
-              indexed = g .held .indexed;
+              indexed = o .indexed;
               roomy = subst (λ (x : Message). Roomy x h) (sym new) (roomy-fresh c h);
               begun = begun;
               long = g .held .long;
-              names = g .held .names;
+              names = names;
               short = g .held .short;
               taken = taken;
-              named = rw (between (g .noted refl .marks) 1 (omega arith) (omega arith) u w) short;
+              offered = λ _ r. (o .next r .0 ∙ sym (ap (content (y .service .release)) unh-part), o .next r .1);
             }
 
-        unh-is : stateIn (y .service .release) s unh-state h l ≡ nextS here ask
+        unh-is : stateIn (y .service .release) s unh-state h l′ ≡ nextS here ask
         unh-is =
-            ap (λ (x : Summary). busyS unbs refs x)
+            ap (λ (x : Summary). busyS unbs (refsIn l′ (st .count)) x)
             (fresh-summary (y .service .release) s h i j ask new (auto ∙ ap (λ (t : List ℕ). same (content (y .service .release) t) (octets "AUTACK")) name)
             (ap (content (y .service .release)) (between (g .noted refl .marks) 1 (omega arith) (omega arith) u w)))
+            ∙ ap (λ (rs : Snoc (List ℕ)). busyS unbs rs (opened ask)) (o .same)
             ∙ sym (by (λ (x : StateS) (k : Kind). nextK x k ask) (idle-here ph) (g .kind))
 
-        pub unh-read : Told (On unh-state)
+        pub unh-read : Left l′ (On unh-state)
         unh-read =
-            go (y .service .release) s h l b next
-            (at-end (y .version) here ask at unh-order (sym e ∙ not-false q n) (unh-refs ∙ ap not v)
+            go (y .service .release) s h l′ b next
+            (at-end (y .version) here ask at unh-order (sym e ∙ not-false q n) (unh-refs (o .new))
             (by (λ (x : StateS) (k : Kind). countsK x k ask) (idle-here ph) (g .kind)) (by (λ (x : StateS) (k : Kind). scopeK x k ask) (idle-here ph) (g .kind)) (unh-load ask (g .kind)))
             refl unh-is unh-held
 
@@ -326,7 +362,7 @@ module _ (y : Syntax) (s : List ℕ) (st : State) (h l b : List ℕ) (at next : 
                 (unz-counts ∙ ne-eqb (numberIn ask 1) (size refs) (λ i. c (number ∙ i ∙ size-refs l (st .count) ∙ sym count)))) d
 
             abbrev unz-state : State
-            unz-state = record { phase = Done; count = st .count; unb = st .unb; unh = st .unh; message = st .message }
+            unz-state = record { phase = Done; count = st .count; slot = st .slot; unb = st .unb; unh = st .unh; message = st .message }
 
             unz-held : Held (y .service .release) s unz-state h l b next
             unz-held =
@@ -340,7 +376,7 @@ module _ (y : Syntax) (s : List ℕ) (st : State) (h l b : List ℕ) (at next : 
                   names = g .held .names;
                   short = g .held .short;
                   taken = taken;
-                  named = g .held .named;
+                  offered = λ c. done-shut c;
                 }
 
             pub unz-read : k ≡ w → Told (On unz-state)
@@ -358,15 +394,22 @@ module _ (y : Syntax) (s : List ℕ) (st : State) (h l b : List ℕ) (at next : 
     unt-taken : 8 * st .count + 4 * st .message .segments ≤ at
     unt-taken = subst (λ (z : Phase). 8 * st .count + 4 * openSize z (st .message) ≤ at) ph (g .held .taken)
 
-    pub unt-names : (2 * st .count + 2 ≤ length l) × (st .count < 65535) × (length (content (y .service .release) (slice (st .unh .start) (st .unh .end) s)) ≤ 14)
-    unt-names =
+    unt-room : 2 * st .count + 2 ≤ length l
+    unt-room =
         let t = unt-taken in
         let n = g .ends in
         let o = g .inside in
         let k = g .held .names in
-        let z = g .held .short in
         let i = g .held .begun in
-        (omega (arith, t, n, o, k, z, i), omega (arith, t, n, o, k, z, i), g .held .named)
+        omega (arith, t, n, o, k, i)
+
+    pub unt-offered : Offered l b (st .count) (st .slot) × (st .count < 65535)
+    unt-offered =
+        let t = unt-taken in
+        let n = g .ends in
+        let o = g .inside in
+        let z = g .held .short in
+        (g .held .offered ph unt-room .1, omega (arith, t, n, o, z))
 
     pub unt-sums : (st .message .segments < 65535) × (st .message .pair .base < 65536) × (st .message .pair .own < 65536)
     unt-sums =
@@ -418,36 +461,36 @@ module _ (y : Syntax) (s : List ℕ) (st : State) (h l b : List ℕ) (at next : 
                   (at-10 (y .version) here ask at unt-may (sym e ∙ not-false q n) (unt-refs ∙ not-false a v) (unt-counts ∙ not-true c w)) d
 
               abbrev unt-state : State
-              unt-state = record { phase = Idle; count = st .count + 1; unb = st .unb; unh = st .unh; message = st .message }
+              unt-state = record { phase = Idle; count = st .count + 1; slot = st .slot; unb = st .unb; unh = st .unh; message = st .message }
 
-              module _ (w : not c ≡ false) (l′ b′ : List ℕ)
-                  (more : refsIn l′ (st .count + 1) ≡ refsIn l (st .count) ▷ content (y .service .release) (slice (st .unh .start) (st .unh .end) s))
-                  (chain : Indexed l′ b′ (st .count + 1)) (long : length l′ ≡ length l) where
-                unt-held : Held (y .service .release) s unt-state h l′ b′ next
+              module _ (w : not c ≡ false) (b′ : List ℕ) (chain : Indexed l b′ (st .count + 1)) where
+                unt-held : Held (y .service .release) s unt-state h l b′ next
                 unt-held =
                     let t = unt-taken in
                     let i = g .held .begun in
                     let j = g .ends in
-                    let k = g .held .names in
                     let taken : 8 * (st .count + 1) + 4 * 0 ≤ next = omega (arith, t, i, j) in
-                    let names : length s ≤ 4 * length l′ = omega (arith, k, long) in
                     record {
                       indexed = chain;
                       roomy = g .held .roomy;
                       begun = g .held .begun;
                       long = g .held .long;
-                      names = names;
+                      names = g .held .names;
                       short = g .held .short;
                       taken = taken;
-                      named = g .held .named;
+                      offered = λ c. idle-shut c;
                     }
 
-                unt-is : stateIn (y .service .release) s unt-state h l′ ≡ nextS here ask
-                unt-is = ap (λ (x : Snoc (List ℕ)). idleS unbs x) more ∙ sym (by (λ (x : StateS) (k : Kind). nextK x k ask) (busy-here ph) (g .kind))
+                -- the reference behind the others is the message's
+                unt-more : refsIn l (st .count + 1) ≡ refsIn l (st .count) ▷ content (y .service .release) (slice (st .unh .start) (st .unh .end) s)
+                unt-more = ap (refsIn l) (add-one (st .count)) ∙ ap (λ (t : List ℕ). refsIn l (st .count) ▷ t) (g .held .offered ph unt-room .0)
 
-                pub unt-read : StepIs (decidedFrom (y .version) (stateIn (y .service .release) s st h l) (askedAt (y .service) s at) at) (On unt-state) (y .service .release) s h l′ b′ next
+                unt-is : stateIn (y .service .release) s unt-state h l ≡ nextS here ask
+                unt-is = ap (λ (x : Snoc (List ℕ)). idleS unbs x) unt-more ∙ sym (by (λ (x : StateS) (k : Kind). nextK x k ask) (busy-here ph) (g .kind))
+
+                pub unt-read : StepIs (decidedFrom (y .version) (stateIn (y .service .release) s st h l) (askedAt (y .service) s at) at) (On unt-state) (y .service .release) s h l b′ next
                 unt-read =
-                    go (y .service .release) s h l′ b′ next
+                    go (y .service .release) s h l b′ next
                     (at-end (y .version) here ask at unt-may (sym e ∙ not-false q n) (unt-refs ∙ not-false a v) (unt-counts ∙ not-false c w)
                     (by (λ (x : StateS) (k : Kind). scopeK x k ask) (busy-here ph) (g .kind)) (unt-load ask (g .kind)))
                     refl unt-is unt-held

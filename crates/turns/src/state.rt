@@ -58,7 +58,8 @@ use message::steps::on_usr;
 use message::steps::on_ust;
 use message::steps::on_usy;
 use references::refs::note;
-use references::refs::used;
+use references::refs::offer;
+use syntax::Found;
 use syntax::Refusal;
 use syntax::Syntax;
 use syntax::content::content_is;
@@ -86,11 +87,12 @@ pub struct Stretch {
     pub end: usize,
 }
 
-// What was read so far. References are kept by place: UNB's 0020, the open message's 0062.
+// What was read so far. References are kept by place: UNB's 0020, the open message's 0062, and the slot that it is offered.
 pub struct State {
     pub message: Message,
     pub unb: Stretch,
     pub unh: Stretch,
+    pub slot: usize,
     pub count: u32,
     pub phase: Phase,
 }
@@ -247,6 +249,7 @@ fn on_unb(
     Step::On(State {
         phase: Phase::Idle,
         count: 0,
+        slot: st.slot,
         unb: Stretch {
             start: field_start(marks, 5, 0),
             end: field_end(marks, 5, 0),
@@ -266,39 +269,42 @@ fn on_unh(
     f: Shape,
     marks: &[usize],
     heads: &[usize; 36],
-    names: &[u64],
+    names: &mut [u64],
     slots: &[u16],
 ) -> Step
     requires { ⌜ Ready y (now s) st (now heads) (now names) (now slots) at next Unh f (now marks) ⌝ }
     requires { ⌜ st .phase ≡ Idle ⌝ }
-    ensures { λ r. ⌜ StepIs (decidedFrom (y .version) (stateIn (y .service .release) (now (s .entry)) st (now (heads .entry)) (now (names .entry))) (askedAt (y .service) (now (s .entry)) at) at) r (y .service .release) (now (s .entry)) (now (heads .entry)) (now (names .entry)) (now (slots .entry)) next ⌝ }
+    ensures { λ r. ⌜ StepIs (decidedFrom (y .version) (stateIn (y .service .release) (now (s .entry)) st (now (heads .entry)) (now (names .entry))) (askedAt (y .service) (now (s .entry)) at) at) r (y .service .release) (now (s .entry)) (now (heads .entry)) (now (names .exit)) (now (slots .entry)) next ⌝ }
 {
     let v = y.service;
     if !unh_formed(s, at, y, marks) {
         return stopped(8, at);
     }
-    if used(
+    match offer(
         v.release,
         names,
         slots,
         st.count as usize,
         field(s, at, y, marks, 1, 0),
     ) {
-        return stopped(9, at);
+        Found::Nothing => stopped(9, at),
+        Found::At(i) => {
+            let auto = content_is(field(s, at, y, marks, 2, 0), v.release, b"AUTACK");
+            let m = fresh_message(auto);
+            let u = st.unb;
+            Step::On(State {
+                phase: Phase::Busy,
+                count: st.count,
+                slot: i,
+                unb: u,
+                unh: Stretch {
+                    start: field_start(marks, 1, 0),
+                    end: field_end(marks, 1, 0),
+                },
+                message: m,
+            })
+        }
     }
-    let auto = content_is(field(s, at, y, marks, 2, 0), v.release, b"AUTACK");
-    let m = fresh_message(auto);
-    let u = st.unb;
-    Step::On(State {
-        phase: Phase::Busy,
-        count: st.count,
-        unb: u,
-        unh: Stretch {
-            start: field_start(marks, 1, 0),
-            end: field_end(marks, 1, 0),
-        },
-        message: m,
-    })
 }
 
 fn wide(n: u32) -> u64
@@ -350,6 +356,7 @@ fn on_unz(
     Step::On(State {
         phase: Phase::Done,
         count: st.count,
+        slot: st.slot,
         unb: u,
         unh: w,
         message: m,
@@ -415,14 +422,13 @@ fn on_unt(
     f: Shape,
     marks: &[usize],
     heads: &[usize; 36],
-    names: &mut [u64],
+    names: &[u64],
     slots: &mut [u16],
 ) -> Step
     requires { ⌜ Ready y (now s) st (now heads) (now names) (now slots) at next Unt f (now marks) ⌝ }
     requires { ⌜ st .phase ≡ Busy ⌝ }
-    ensures { λ r. ⌜ StepIs (decidedFrom (y .version) (stateIn (y .service .release) (now (s .entry)) st (now (heads .entry)) (now (names .entry))) (askedAt (y .service) (now (s .entry)) at) at) r (y .service .release) (now (s .entry)) (now (heads .entry)) (now (names .exit)) (now (slots .exit)) next ⌝ }
+    ensures { λ r. ⌜ StepIs (decidedFrom (y .version) (stateIn (y .service .release) (now (s .entry)) st (now (heads .entry)) (now (names .entry))) (askedAt (y .service) (now (s .entry)) at) at) r (y .service .release) (now (s .entry)) (now (heads .entry)) (now (names .entry)) (now (slots .exit)) next ⌝ }
 {
-    let v = y.service;
     let m = st.message;
     let w = st.unh;
     if !may_come(Kind::Unt, m) {
@@ -437,13 +443,12 @@ fn on_unt(
     if !counts_right(s, at, y, m, marks) {
         return stopped(10, at);
     }
-    let a = w.start;
-    let e = w.end;
-    note(s, v.release, names, slots, st.count as usize, a, e);
+    note(names, slots, st.count as usize, st.slot);
     let u = st.unb;
     Step::On(State {
         phase: Phase::Idle,
         count: st.count + 1,
+        slot: st.slot,
         unb: u,
         unh: w,
         message: m,
@@ -527,6 +532,7 @@ fn on_busy(
             Step::On(State {
                 phase: Phase::Busy,
                 count: st.count,
+                slot: st.slot,
                 unb: u,
                 unh: w,
                 message: x,
@@ -546,12 +552,12 @@ fn on_idle(
     f: Shape,
     marks: &[usize],
     heads: &[usize; 36],
-    names: &[u64],
+    names: &mut [u64],
     slots: &[u16],
 ) -> Step
     requires { ⌜ Ready y (now s) st (now heads) (now names) (now slots) at next k f (now marks) ⌝ }
     requires { ⌜ st .phase ≡ Idle ⌝ }
-    ensures { λ r. ⌜ StepIs (decidedFrom (y .version) (stateIn (y .service .release) (now (s .entry)) st (now (heads .entry)) (now (names .entry))) (askedAt (y .service) (now (s .entry)) at) at) r (y .service .release) (now (s .entry)) (now (heads .entry)) (now (names .entry)) (now (slots .entry)) next ⌝ }
+    ensures { λ r. ⌜ StepIs (decidedFrom (y .version) (stateIn (y .service .release) (now (s .entry)) st (now (heads .entry)) (now (names .entry))) (askedAt (y .service) (now (s .entry)) at) at) r (y .service .release) (now (s .entry)) (now (heads .entry)) (now (names .exit)) (now (slots .entry)) next ⌝ }
 {
     match k {
         Kind::Unh => on_unh(s, at, next, y, st, f, marks, heads, names, slots),

@@ -64,7 +64,7 @@ use Rattle.turns.specs.declared.state.Looked.the-variants.{Seen, Bad}
 -- ---- before UNB, and behind UNZ
 
 abbrev pub unreadAs : State
-unreadAs = record { phase = Start; count = 0; unb = record { start = 0; end = 0 }; unh = record { start = 0; end = 0 }; message = fresh false }
+unreadAs = record { phase = Start; count = 0; slot = 0; unb = record { start = 0; end = 0 }; unh = record { start = 0; end = 0 }; message = fresh false }
 
 abbrev pub isDone : Phase → Bool
 isDone Start = false
@@ -171,7 +171,7 @@ walking-start {y} {s} {h} {l} {b} {x} {i} f n e =
         names = f .room;
         short = f .short;
         taken = omega arith;
-        named = omega arith;
+        offered = λ e. absurd (false≢true (ap isBusy e));
       };
       first = λ e. refl;
       goes = refl;

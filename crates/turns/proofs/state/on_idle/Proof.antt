@@ -11,22 +11,28 @@ enum-told c = search needs
 
 on-unh-requires : tie.Need-on-unh-requires
 on-unh-requires c κs =
-    let g = c .before .before .before .before .before .before in
-    (ready-at (g .pre .0) (c .enum-told .given .1), g .pre .1)
+    let g = c .before .before .before .before .before .before .before in
+    (ready-at (g .pre .0) (c .before .enum-told .given .1), g .pre .1)
 
 enum-told-2 : tie.Need-enum-told-2
 enum-told-2 c = search needs
 
 on-unz-requires : tie.Need-on-unz-requires
 on-unz-requires c κs =
-    let g = c .before .before .before .before .before .before in
-    (ready-at (g .pre .0) (c .enum-told2 .given .1), g .pre .1)
+    let g = c .before .before .before .before .before .before .before in
+    (ready-at (g .pre .0) (c .before .enum-told2 .given .1), g .pre .1)
 
 stopped-requires : tie.Need-stopped-requires
 stopped-requires c κs = search needs
 
+same-length : tie.Need-same-length
+same-length c = search needs
+
 returns : tie.Need-returns
 returns c = search needs
+
+same-length-2 : tie.Need-same-length-2
+same-length-2 c = search needs
 
 returns-2 : tie.Need-returns-2
 returns-2 c = search needs
@@ -45,6 +51,8 @@ on-idle-spec =
     enum-told-2
     on-unz-requires
     stopped-requires
+    same-length
     returns
+    same-length-2
     returns-2
     returns-3)
