@@ -5,10 +5,10 @@ use native.Mathlib.Omega.{arith}
 use mathlib.Core.Bool.{Bool, true, false, cond, not, _&&_, false≢true}
 use mathlib.Core.List.{List, [], _∷_, _++_}
 use mathlib.Core.Path.{_≡_, refl, ap, _∙_, sym}
-use lib.Dec.{eqb}
+use lib.Dec.{eqb, leb}
 use lib.ListN.{length, getD, set, drop, drop-of-length-le}
 use lib.Seq.{drop-cons}
-use borrow.Author.Tests.{ne-eqb, eq-eqb}
+use borrow.Author.Tests.{ne-eqb, eq-eqb, le-leb}
 use Rattle.syntax.specs.Octets.{every}
 use Rattle.syntax.specs.Service.{kindOf, serves}
 use Rattle.syntax.specs.Repertoire.{inside, outsideClass, releaseClass, endClass, classOf}
@@ -27,7 +27,7 @@ use Rattle.sealing.specs.Woven.{releasedText}
 -- ---- what the class of an octet says
 
 module _ (y : Syntax) (b : ℕ) {c : ℕ} (e : c ≡ classOf y b) where
-  pub service-none : c ≡ 0 → false ≡ serves (y .service) b
+  pub service-none : c ≤ 1 → false ≡ serves (y .service) b
   service-none z = by (sorted y b e)
     where
       by : Sorted (kindOf (y .service) b) (inside (y .level) b) c → false ≡ serves (y .service) b
@@ -37,11 +37,11 @@ module _ (y : Syntax) (b : ℕ) {c : ℕ} (e : c ≡ classOf y b) where
       by (is-separator k l d) = absurd (omega (arith, z, d, k))
       by (is-end k d) = absurd (omega (arith, z, d))
 
-  pub service-by : (c ≡ 0 → ⊥) → not (eqb c outsideClass) ≡ serves (y .service) b
+  pub service-by : 1 < c → not (eqb c outsideClass) ≡ serves (y .service) b
   service-by n = by (sorted y b e)
     where
       by : Sorted (kindOf (y .service) b) (inside (y .level) b) c → not (eqb c outsideClass) ≡ serves (y .service) b
-      by (is-data k i d) = absurd (n d)
+      by (is-data k i d) = absurd (omega (arith, n, d))
       by (is-bad k i d) = rw (k, d)
       by (is-release k d) = rw (k, d)
       by (is-separator k l d) = rw (ne-eqb (kindOf (y .service) b) 1 (λ z. omega (arith, z, k)), ne-eqb c outsideClass (λ z. omega (arith, z, l, d)))
@@ -51,14 +51,14 @@ module _ (y : Syntax) (b : ℕ) {x : Bool} (e : x ≡ serves (y .service) b) whe
   pub may-service : x ≡ true → not (eqb (y .service .release) 32) ≡ mayWrite y b
   may-service d = rw (← e, d)
 
-  pub may-plain : {c : ℕ} → x ≡ false → c ≡ classOf y b → eqb c 0 ≡ mayWrite y b
+  pub may-plain : {c : ℕ} → x ≡ false → c ≡ classOf y b → leb c 1 ≡ mayWrite y b
   may-plain {c} d f = by (sorted y b f)
     where
       serving : {k : ℕ} → kindOf (y .service) b ≡ k → not (eqb k 1) ≡ true → ⊥
       serving k h = false≢true (sym d ∙ e ∙ ap (λ (n : ℕ). not (eqb n 1)) k ∙ h)
 
-      by : Sorted (kindOf (y .service) b) (inside (y .level) b) c → eqb c 0 ≡ mayWrite y b
-      by (is-data k i h) = rw (k, i, h)
+      by : Sorted (kindOf (y .service) b) (inside (y .level) b) c → leb c 1 ≡ mayWrite y b
+      by (is-data k i h) = rw (k, i, le-leb c 1 h)
       by (is-bad k i h) = rw (k, i, h)
       by (is-release k h) = absurd (serving k refl)
       by (is-separator k l h) = absurd (serving refl (ap not (ne-eqb (kindOf (y .service) b) 1 (λ z. omega (arith, z, k)))))

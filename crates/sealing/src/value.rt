@@ -33,7 +33,7 @@ fn is_service(t: &[u8; 256], y: Syntax, b: u8) -> bool
     ensures { λ r. ⌜ r ≡ serves (y .service) b ⌝ }
 {
     let c = class(t, y, b);
-    if c == 0 {
+    if c <= 1 {
         return false;
     }
     c != OUTSIDE
@@ -48,7 +48,7 @@ fn may_write(t: &[u8; 256], y: Syntax, b: u8) -> bool
     if is_service(t, y, b) {
         return release != 32;
     }
-    class(t, y, b) == 0
+    class(t, y, b) <= 1
 }
 
 // Whether the text can be written: all of it is inside the repertoire, and where a service character is in it a release is in force.

@@ -2,14 +2,14 @@
 use Prim.Native.Nat.{ℕ, zero, suc, _+_, _-_, _≤_, _<_}
 use native.Mathlib.Omega.{arith}
 use mathlib.Core.List.{List, [], _∷_}
-use mathlib.Core.Path.{_≡_, refl, ap, sym, _∙_}
+use mathlib.Core.Path.{_≡_, refl, ap, sym, subst, _∙_}
 use mathlib.Core.Bool.{Bool, true, false, cond, _&&_, _||_}
 use lib.Dec.{T, eqb, leb, le→leb, leb→le}
 use lib.ListN.{length, getD, drop, length-drop}
 use Rattle.syntax.specs.Octets.{octets, within, digit, capital, small, among}
 use Rattle.syntax.specs.Service.{fit, kindOf}
 use Rattle.syntax.specs.Repertoire.{inside, endClass, releaseClass, outsideClass, toClass, classOf}
-use Rattle.syntax.specs.RepertoireLaws.{Sorted, is-data, is-bad, is-release, is-separator, is-end, sorted}
+use Rattle.syntax.specs.RepertoireLaws.{Sorted, is-data, is-bad, is-release, is-separator, is-end, sorted, class-tag}
 use Rattle.syntax.specs.Cutting.{stopFrom, cutBy, cutAt, tagOctet, tagOf}
 use Rattle.syntax.specs.CuttingLaws.{drop-tail, drop-head, Going, class-on, class-hit, class-freed, Cutting, cutting-at, cutting-from, cutting-none, cutting-on, cutting-end, cutting-bad, cutting-short, cutting-freed, cutting-freed-bad}
 use Rattle.syntax.specs.SegmentLaws.{edge-on, edge-end}
@@ -48,7 +48,7 @@ tidy-then g h =
 -- .. and an octet that is no data stands at i, if there is one
 pub record Stopping (y : Syntax) (s : List ℕ) (a i : ℕ) : Type 0 where
   pub tidy : Tidy y s a i
-  pub stops : i < length s → classOf y (getD s i 0) ≡ 0 → ⊥
+  pub stops : i < length s → 1 < classOf y (getD s i 0)
 
 unsound : (q : Found) (b : ℕ) → sound (cutBy q (At b)) ≡ false
 unsound Nothing b = refl
@@ -58,10 +58,10 @@ pub tidy-none : {y : Syntax} {s : List ℕ} {a i : ℕ} → Tidy y s a i → len
 tidy-none g h = sym (ap sound (cutting-none (g .cutting) h))
 
 pub stopping-none : {y : Syntax} {s : List ℕ} {a i : ℕ} → Tidy y s a i → length s ≤ i → Stopping y s a i
-stopping-none g h = record { tidy = g; stops = λ l e. let z : ⊥ = omega arith in z }
+stopping-none g h = record { tidy = g; stops = λ l. let z : ⊥ = omega arith in absurd z }
 
 module _ {y : Syntax} {s : List ℕ} {a i : ℕ} (g : Tidy y s a i) (h : i < length s) {c : ℕ} (e : c ≡ classOf y (getD s i 0)) where
-  pub tidy-data : c ≡ 0 → Tidy y s a (i + 1)
+  pub tidy-data : c ≤ 1 → Tidy y s a (i + 1)
   tidy-data d =
       let l = g .low in
       record {
@@ -70,14 +70,14 @@ module _ {y : Syntax} {s : List ℕ} {a i : ℕ} (g : Tidy y s a i) (h : i < len
         cutting = cutting-on (g .cutting) h e (omega arith);
       }
 
-  pub tidy-stop : (c ≡ 0 → ⊥) → Stopping y s a i
-  tidy-stop d = record { tidy = g; stops = λ l u. d (e ∙ u) }
+  pub tidy-stop : 1 < c → Stopping y s a i
+  tidy-stop d = record { tidy = g; stops = λ l. omega (arith, e, d) }
 
-  pub tidy-separator : (classOf y (getD s i 0) ≡ 0 → ⊥) → c < endClass → Clean y s a i c
+  pub tidy-separator : 1 < classOf y (getD s i 0) → c < endClass → Clean y s a i c
   tidy-separator d l = by-class (sorted y (getD s i 0) e)
     where
       by-class : Sorted (kindOf (y .service) (getD s i 0)) (inside (y .level) (getD s i 0)) c → Clean y s a i c
-      by-class (is-data p q r) = absurd (d (sym e ∙ r))
+      by-class (is-data p q r) = let z : ⊥ = omega (arith, e, d) in absurd z
       by-class (is-bad p q r) = let z : ⊥ = omega arith in absurd z
       by-class (is-release p r) = let z : ⊥ = omega arith in absurd z
       by-class (is-separator p q r) = record {
@@ -157,7 +157,28 @@ tag-inside C b h =
 
 tag-class : (y : Syntax) → T (fit (y .service)) → (b x : ℕ) → x ≡ b → T (tagOctet b) → 0 ≡ classOf y x
 unfolding classOf
-tag-class y f b x e h = rw (e, tag-data (y .service) f b h, tag-inside (y .level) b h)
+tag-class y f b x e h = rw (e, tag-data (y .service) f b h, tag-inside (y .level) b h, T-true (tagOctet b) h)
+  where
+    T-true : (t : Bool) → T t → t ≡ true
+    T-true true h = refl
+    T-true false h = absurd h
+
+-- of three octets whose classes add up to 0 each may stand in a tag, and only of such three
+module _ (y : Syntax) (f : T (fit (y .service))) (a b c : ℕ) {p q r : ℕ} (ea : p ≡ classOf y a) (eb : q ≡ classOf y b) (ec : r ≡ classOf y c) where
+  pub tags-by : p + q + r ≡ 0 → (tagOctet a ≡ true) × (tagOctet b ≡ true) × (tagOctet c ≡ true)
+  tags-by z = (class-tag y a ea (omega arith), class-tag y b eb (omega arith), class-tag y c ec (omega arith))
+
+  pub tags-none : (p + q + r ≡ 0 → ⊥) → (tagOctet a && tagOctet b && tagOctet c) ≡ false
+  tags-none n = by (tagOctet a) (tagOctet b) (tagOctet c) refl refl refl
+    where
+      zero : {d : ℕ} (x : ℕ) → d ≡ classOf y x → tagOctet x ≡ true → d ≡ 0
+      zero x e t = e ∙ sym (tag-class y f x x refl (subst T (sym t) tt))
+
+      by : (t u v : Bool) → tagOctet a ≡ t → tagOctet b ≡ u → tagOctet c ≡ v → (t && u && v) ≡ false
+      by true true true d e g = absurd (n (let i = zero a ea d in let j = zero b eb e in let k = zero c ec g in omega arith))
+      by true true false d e g = refl
+      by true false v d e g = refl
+      by false u v d e g = refl
 
 pub tag-here : (y : Syntax) → T (fit (y .service)) → (s : List ℕ) (i a b c : ℕ) → tagOf (y .service) (drop i s) ≡ Is a b c → TagAt y s i
 tag-here y f s i a b c e = by (tag-split (y .service) (drop i s) a b c e)
@@ -176,7 +197,7 @@ tag-here y f s i a b c e = by (tag-split (y .service) (drop i s) a b c e)
         let e₁ : i + 1 ≡ suc i = omega arith in
         let e₂ : suc i + 1 ≡ suc (suc i) = omega arith in
         let e₃ : suc (suc i) + 1 ≡ i + 3 = omega arith in
-        let g₁ = rw e₁ at (tidy-data (tidy-start y s i) (omega arith) h₀ refl) in
-        let g₂ = rw e₂ at (tidy-data g₁ (omega arith) h₁ refl) in
-        let g₃ = rw e₃ at (tidy-data g₂ (omega arith) h₂ refl) in
+        let g₁ = rw e₁ at (tidy-data (tidy-start y s i) (omega arith) h₀ (omega arith)) in
+        let g₂ = rw e₂ at (tidy-data g₁ (omega arith) h₁ (omega arith)) in
+        let g₃ = rw e₃ at (tidy-data g₂ (omega arith) h₂ (omega arith)) in
         record { long = omega arith; stops = g₃ .going .finds; cuts = cutting-from (g₃ .cutting) }

@@ -5,9 +5,8 @@ use mathlib.Core.Bool.{Bool, true, false, cond, _&&_, _||_}
 use lib.Dec.{eqb, leb}
 use lib.ListN.{drop}
 use lib.Seq.{slice}
-use Rattle.syntax.specs.Octets.{digit, capital}
 use Rattle.syntax.specs.Service.{kind}
-use Rattle.syntax.specs.Repertoire.{outside}
+use Rattle.syntax.specs.Repertoire.{outside, tagged}
 use Rattle.syntax.specs.declared.Service.{Service}
 use Rattle.syntax.specs.declared.Syntax.{Syntax}
 use Rattle.syntax.specs.declared.Found.{Found}
@@ -52,7 +51,7 @@ cutAt y s a = cutBy (endAt (y .service) s a) (firstOutside y (stretch s a (endAt
 
 -- "A tag is three octets A to Z or 0 to 9, then an element separator or the terminator."
 abbrev pub tagOctet : ℕ → Bool
-tagOctet b = digit b || capital b
+tagOctet b = tagged b
 
 abbrev pub tagOf : Service → List ℕ → Tag
 tagOf σ [] = Bad

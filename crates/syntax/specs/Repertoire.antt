@@ -12,6 +12,10 @@ use Rattle.syntax.specs.declared.Syntax.{Syntax}
 use Rattle.syntax.specs.declared.Level.{Level}
 use Rattle.syntax.specs.declared.Level.the-variants.{A, B, C}
 
+-- what a tag may have: "A to Z or 0 to 9"
+abbrev pub tagged : ℕ → Bool
+tagged b = digit b || capital b
+
 -- "UNOA: A to Z, 0 to 9, space and `. , - ( ) / = ' + : ? ! " % & * ; < >`."
 abbrev pub insideA : ℕ → Bool
 insideA b = capital b || digit b || eqb b 32 || among (octets ".,-()/='+:?!\"%&*;<>") b
@@ -26,7 +30,8 @@ inside C b = within 32 126 b || within 160 255 b
 abbrev pub outside : Syntax → ℕ → Bool
 outside y b = cond (serves (y .service) b) false (not (inside (y .level) b))
 
--- The code's class of an octet: 0 data, 2 component, 3 repetition, 4 element, and three at which a scan stops: terminator, release, outside.
+-- The code's class of an octet: data, 0 what a tag may have and 1 the others, 2 component, 3 repetition, 4 element, and three at which a scan stops:
+-- terminator, release, outside.
 -- These are so high that four classes add up to less than the lowest of them just where none of the four is one of them
 abbrev pub endClass : ℕ
 endClass = 64
@@ -37,16 +42,16 @@ releaseClass = 65
 abbrev pub outsideClass : ℕ
 outsideClass = 66
 
--- the class of an octet that is no service character in force, by whether it is inside
-abbrev pub dataClass : Bool → ℕ
-dataClass i = cond i 0 outsideClass
+-- the class of an octet that is no service character in force, by whether a tag may have it and whether it is inside
+abbrev pub dataClass : Bool → Bool → ℕ
+dataClass g i = cond i (cond g 0 1) outsideClass
 
--- the class by what the octet is (`kindOf`) and by whether it is inside
-abbrev pub toClass : ℕ → Bool → ℕ
-toClass k i = cond (eqb k 1) (dataClass i) (cond (eqb k 0) releaseClass (cond (eqb k 5) endClass k))
+-- the class by what the octet is (`kindOf`), and the two
+abbrev pub toClass : ℕ → Bool → Bool → ℕ
+toClass k g i = cond (eqb k 1) (dataClass g i) (cond (eqb k 0) releaseClass (cond (eqb k 5) endClass k))
 
 unfoldable pub classOf : Syntax → ℕ → ℕ
-classOf y b = toClass (kindOf (y .service) b) (inside (y .level) b)
+classOf y b = toClass (kindOf (y .service) b) (tagged b) (inside (y .level) b)
 
 -- a table with nothing inside
 abbrev pub Blank : List ℕ → Type 0
@@ -55,7 +60,7 @@ Blank t = t ≡ replicate 256 outsideClass
 -- a table of what is outside, and a table of classes: one rule for every octet
 pub record Base (l : Level) (t : List ℕ) : Type 0 where
   pub size : length t ≡ 256
-  pub rule : (b : ℕ) → b < 256 → getD t b 0 ≡ dataClass (inside l b)
+  pub rule : (b : ℕ) → b < 256 → getD t b 0 ≡ dataClass (tagged b) (inside l b)
 
 pub record Table (y : Syntax) (t : List ℕ) : Type 0 where
   pub size : length t ≡ 256

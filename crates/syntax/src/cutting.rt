@@ -3,7 +3,9 @@ ghost use mathlib.Core.Path.{_≡_};
 ghost use mathlib.Core.List.{[], _∷_};
 ghost use mathlib.Core.Bool.{false};
 ghost use Prim.Native.Nat.{_+_, _≤_};
+ghost use lib.Dec.{T};
 ghost use lib.ListN.{length, drop};
+ghost use Rattle.syntax.specs.Service.{fit};
 ghost use Rattle.syntax.specs.Repertoire.{classOf, Table};
 ghost use Rattle.syntax.specs.Cutting.{stopFrom, cutAt, cutBy, tagOctet, tagOf};
 ghost use Rattle.syntax.specs.CuttingLaws.{Four};
@@ -181,4 +183,37 @@ pub fn tag_at(s: &[u8], at: usize, v: Service) -> Tag
         return Tag::Bad;
     }
     tag_of(s[at], s[at + 1], s[at + 2], s[at + 3], v)
+}
+
+// The same by the class table, of one octet after the other at once: letters and digits are the only ones of class 0, as none of them serves.
+fn tag_by(a: u8, b: u8, c: u8, d: u8, t: &[u8; 256], y: Syntax) -> Tag
+    requires { ⌜ Table y (now t) ⌝ }
+    requires { ⌜ T (fit (y .service)) ⌝ }
+    ensures { λ r. ⌜ r ≡ tagOf (y .service) (a ∷ b ∷ c ∷ d ∷ []) ⌝ }
+{
+    let v = y.service;
+    if wide(class(t, y, a)) + wide(class(t, y, b)) + wide(class(t, y, c)) != 0 {
+        return Tag::Bad;
+    }
+    if d == v.element {
+        return Tag::Is(a, b, c);
+    }
+    if d == v.terminator {
+        return Tag::Is(a, b, c);
+    }
+    Tag::Bad
+}
+
+pub fn tag_in(s: &[u8], at: usize, t: &[u8; 256], y: Syntax) -> Tag
+    requires { ⌜ Table y (now t) ⌝ }
+    requires { ⌜ T (fit (y .service)) ⌝ }
+    ensures { λ r. ⌜ r ≡ tagOf (y .service) (drop at (now (s .entry))) ⌝ }
+{
+    if s.len() < 4 {
+        return Tag::Bad;
+    }
+    if s.len() - 4 < at {
+        return Tag::Bad;
+    }
+    tag_by(s[at], s[at + 1], s[at + 2], s[at + 3], t, y)
 }

@@ -51,7 +51,7 @@ fn data_end(s: &[u8], from: usize, t: &[u8; 256], y: Syntax) -> usize
 {
     let mut i = from;
     while i < s.len() {
-        if class(t, y, s[i]) != 0 {
+        if 1 < class(t, y, s[i]) {
             return i;
         }
         i += 1;

@@ -20,39 +20,43 @@ pub(crate) fn wide(b: u8) -> usize
     b as usize
 }
 
-// The octets from `a` to `e`, both included, are inside.
-fn fill(t: &mut [u8; 256], a: u8, e: u8)
+// The octets from `a` to `e`, both included, are of class `c`.
+fn fill(t: &mut [u8; 256], a: u8, e: u8, c: u8)
     requires { ⌜ a ≤ e ⌝ }
-    ensures { λ r. ⌜ Filled a (e + 1) (now (t .entry)) (now (t .exit)) ⌝ }
+    ensures { λ r. ⌜ Filled a (e + 1) c (now (t .entry)) (now (t .exit)) ⌝ }
 {
     let last = wide(e);
     let mut i = wide(a);
     while i <= last {
-        t[i] = 0;
+        t[i] = c;
         i += 1;
     }
 }
 
-// The repertoire test, for every octet at once: 0 inside. The table is filled where it stands: to copy it costs more than to fill it.
+// What is inside, and of that what a tag may have, for every octet at once. The table is filled where it stands: to copy it costs more than to fill it.
 fn base(t: &mut [u8; 256], l: Level)
     requires { ⌜ Blank (now t) ⌝ }
     ensures { λ r. ⌜ Base l (now (t .exit)) ⌝ }
 {
     match l {
         Level::A => {
-            fill(t, 32, 34);
-            fill(t, 37, 63);
-            fill(t, 65, 90);
+            fill(t, 32, 34, 1);
+            fill(t, 37, 63, 1);
+            fill(t, 48, 57, 0);
+            fill(t, 65, 90, 0);
         }
         Level::B => {
-            fill(t, 32, 34);
-            fill(t, 37, 63);
-            fill(t, 65, 90);
-            fill(t, 97, 122);
+            fill(t, 32, 34, 1);
+            fill(t, 37, 63, 1);
+            fill(t, 97, 122, 1);
+            fill(t, 48, 57, 0);
+            fill(t, 65, 90, 0);
         }
         Level::C => {
-            fill(t, 32, 126);
-            fill(t, 160, 255);
+            fill(t, 32, 126, 1);
+            fill(t, 160, 255, 1);
+            fill(t, 48, 57, 0);
+            fill(t, 65, 90, 0);
         }
     }
 }
@@ -63,7 +67,7 @@ fn put(t: &mut [u8; 256], b: u8, c: u8)
     t[b as usize] = c;
 }
 
-// The class of each octet: 0 data, 2 component, 3 repetition, 4 element, and the three at which a scan stops.
+// The class of each octet: data, 0 for what a tag may have and 1 for the others, 2 component, 3 repetition, 4 element, and the three at which a scan stops.
 // Later stores win, so what is tested first in `kindOf` is stored last.
 pub fn classes(t: &mut [u8; 256], y: Syntax)
     requires { ⌜ Blank (now t) ⌝ }
@@ -77,7 +81,7 @@ pub fn classes(t: &mut [u8; 256], y: Syntax)
     put(t, v.element, 4);
     put(t, v.terminator, TERMINATOR);
     put(t, v.release, RELEASE);
-    put(t, 32, 0);
+    put(t, 32, 1);
 }
 
 pub fn table(y: Syntax) -> [u8; 256]

@@ -68,7 +68,7 @@ use syntax::content::same_content;
 use syntax::cutting::Cut;
 use syntax::cutting::Tag;
 use syntax::cutting::scan;
-use syntax::cutting::tag_at;
+use syntax::cutting::tag_in;
 use syntax::opening::Begun;
 use syntax::opening::begin;
 use syntax::repertoire::table;
@@ -202,8 +202,7 @@ pub fn look(s: &[u8], at: usize, t: &[u8; 256], y: Syntax, marks: &mut [usize]) 
     requires { ⌜ T (fit (y .service)) × (length (now marks) ≡ 40) ⌝ }
     ensures { λ r. ⌜ Sighted y (now (s .entry)) at r (now (marks .exit)) ⌝ }
 {
-    let v = y.service;
-    match tag_at(s, at, v) {
+    match tag_in(s, at, t, y) {
         Tag::Bad => seen_alone(unseen(4, at)),
         Tag::Is(a, b, d) => {
             let k = kind_of(a, b, d);

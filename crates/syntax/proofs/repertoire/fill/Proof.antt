@@ -9,10 +9,10 @@ use Rattle.syntax.proofs.repertoire.fill.Lts as lts
 use Rattle.syntax.proofs.repertoire.wide.Reads as wide-reads
 
 abbrev Inv-loop : tie.InvT-loop
-Inv-loop t₀ a e last i₀ t i = Filling a e last i t₀ t
+Inv-loop t₀ a e c last i₀ t i = Filling a e c last i t₀ t
 
 abbrev μ-loop : tie.MeasureT-loop
-μ-loop t₀ a e last i₀ t i = last + 1 - i
+μ-loop t₀ a e c last i₀ t i = last + 1 - i
 
 wide-requires : tie.Need-wide-requires Inv-loop μ-loop
 wide-requires c κs = search needs
