@@ -10,12 +10,16 @@ use native.Mathlib.Nat.{le-of-suc-le-suc, not-suc-le-zero}
 use lib.ListN.{length, getD, drop, length-drop}
 use lib.Seq.{drop-cons}
 use Rattle.syntax.specs.Service.{servant, withoutRepetition}
-use Rattle.syntax.specs.Cutting.{tagOctet, tagOf, endAt}
+use Rattle.syntax.specs.Cutting.{tagOctet, tagOf, endAt, firstOutside, stretch, cutBy, cutAt}
 use Rattle.syntax.specs.Segment.{componentAt, partOf}
 use Rattle.syntax.specs.Content.{content}
 use Rattle.syntax.specs.Opening.{startsUna, isThere, levelNamed, versionNamed, bothNamed, declaredAt}
 use Rattle.syntax.specs.declared.Service.{Service}
 use Rattle.syntax.specs.declared.Found.{Found}
+use Rattle.syntax.specs.declared.Found.the-variants.{At, Nothing}
+use Rattle.syntax.specs.declared.Syntax.{Syntax}
+use Rattle.syntax.specs.declared.cutting.Cut.{Cut}
+use Rattle.syntax.specs.declared.cutting.Cut.the-variants.{Ends, Spoilt, Open}
 use Rattle.syntax.specs.declared.cutting.Tag.{Tag}
 use Rattle.syntax.specs.declared.cutting.Tag.the-variants.{Bad}
 use Rattle.syntax.specs.declared.opening.Opening.{Opening}
@@ -174,9 +178,8 @@ no-repetition σ (a ∷ b ∷ c ∷ d ∷ s) = refl
 
 -- what the parts of `begin_at` and `declared` answer, put together. `v` is the service without repetition, as the code has it
 module _ (s : List ℕ) (o : Opening) {v : Service} (e : v ≡ withoutRepetition (o .service)) where
-  pub there-by : {f : Found} {x : Bool} → f ≡ endAt v s (o .at) → x ≡ isThere f →
-      x ≡ isThere (endAt (withoutRepetition (o .service)) s (o .at))
-  there-by a b = b ∙ ap isThere (a ∙ ap (λ (w : Service). endAt w s (o .at)) e)
+  pub there-by : {x : Bool} → x ≡ isThere (endAt v s (o .at)) → x ≡ isThere (endAt (withoutRepetition (o .service)) s (o .at))
+  there-by b = b ∙ ap (λ (w : Service). isThere (endAt w s (o .at))) e
 
   pub tag-by : {g : Tag} → g ≡ tagOf v (drop (o .at) s) → g ≡ tagOf (o .service) (drop (o .at) s)
   tag-by a = a ∙ ap (λ (w : Service). tagOf w (drop (o .at) s)) e ∙ no-repetition (o .service) (drop (o .at) s)
@@ -187,3 +190,23 @@ pub named-by : (s : List ℕ) (σ : Service) (o : Opening) {x z : List ℕ} {l :
 named-by s σ o p a q b =
     ap₂ (bothNamed o) (a ∙ ap (λ (u : List ℕ). levelNamed (content (σ .release) u)) p)
     (b ∙ ap (λ (u : List ℕ). versionNamed (content (σ .release) u)) q)
+
+-- ---- an end, where the cut is the same
+
+-- whether a cut has an end
+abbrev ended : Cut → Bool
+ended (Ends e) = true
+ended (Spoilt e b) = true
+ended Open = false
+
+there-cut : (y : Syntax) (s : List ℕ) (i : ℕ) → isThere (endAt (y .service) s i) ≡ ended (cutAt y s i)
+there-cut y s i = by (endAt (y .service) s i) (firstOutside y (stretch s i (endAt (y .service) s i)) i)
+  where
+    by : (f g : Found) → isThere f ≡ ended (cutBy f g)
+    by Nothing g = refl
+    by (At e) Nothing = refl
+    by (At e) (At b) = refl
+
+pub has-end : (y : Syntax) (s : List ℕ) (i j : ℕ) {f : Found} {x : Bool} → cutAt y s i ≡ cutAt y s j → f ≡ endAt (y .service) s i → x ≡ isThere f →
+    x ≡ isThere (endAt (y .service) s j)
+has-end y s i j e a b = b ∙ ap isThere a ∙ there-cut y s i ∙ ap ended e ∙ sym (there-cut y s j)

@@ -7,6 +7,7 @@ ghost use Prim.Native.Nat.{_≤_};
 ghost use Rattle.syntax.specs.Repertoire.{Table};
 ghost use Rattle.syntax.specs.Service.{servant, differ, repetitionDiffers, fit, withoutRepetition};
 ghost use Rattle.syntax.specs.Content.{content};
+ghost use Rattle.syntax.specs.Cutting.{endAt};
 ghost use Rattle.syntax.specs.Opening.{startsUna, unaService, readUna, openingOf, levelNamed, versionNamed, refusedUnb, settled, declaredAt, isUnb, isTag, isThere, begunAt, begunOf};
 use crate::Found;
 use crate::Level;
@@ -16,6 +17,7 @@ use crate::Syntax;
 use crate::Version;
 use crate::content::content_is;
 use crate::cutting::Tag;
+use crate::cutting::run;
 use crate::cutting::stop;
 use crate::cutting::tag_at;
 use crate::reading::component_part;
@@ -379,6 +381,14 @@ fn is_there(f: Found) -> bool
     }
 }
 
+// Whether the segment at `at` has an end: looked for by fours as far as that goes.
+fn has_end(s: &[u8], at: usize, t: &[u8; 256], y: Syntax) -> bool
+    requires { ⌜ Table y (now t) ⌝ }
+    ensures { λ r. ⌜ r ≡ isThere (endAt (y .service) (now (s .entry)) at) ⌝ }
+{
+    is_there(stop(s, run(s, at, t, y), t, y, 5))
+}
+
 // The first segment: 5 where there is none, then 4, 5, 6.
 fn begin_at(s: &[u8], o: Opening) -> Begun
     ensures { λ r. ⌜ r ≡ begunAt (now (s .entry)) o ⌝ }
@@ -395,7 +405,7 @@ fn begin_at(s: &[u8], o: Opening) -> Begun
     };
     let mut t = [OUTSIDE; 256];
     classes(&mut t, y);
-    if !is_there(stop(s, at, &t, y, 5)) {
+    if !has_end(s, at, &t, y) {
         return unb_refused(4, at);
     }
     let g = tag_at(s, at, v);

@@ -18,11 +18,8 @@ returns c = rw (le-leb _ _ (c .before .if1 .taken)) (c .unb-refused .ensures)
 classes-requires : tie.Need-classes-requires
 classes-requires c κs = search needs
 
-stop-requires : tie.Need-stop-requires
-stop-requires c κs = search needs
-
-is-there-requires : tie.Need-is-there-requires
-is-there-requires c κs = search needs
+has-end-requires : tie.Need-has-end-requires
+has-end-requires c κs = search needs
 
 unb-refused-requires-2 : tie.Need-unb-refused-requires-2
 unb-refused-requires-2 c κs = search needs
@@ -30,10 +27,10 @@ unb-refused-requires-2 c κs = search needs
 returns-2 : tie.Need-returns-2
 returns-2 c =
     let d = c .before .before in
-    let g = d .before .before .before .before .before in
+    let g = d .before .before .before .before in
     let e = g .before .without-repetition .ensures in
     let a = g .before .before .before .args in
-    let there = there-by (a .s .now) (a .o) e (d .before .stop .ensures) (d .is-there .ensures) in
+    let there = there-by (a .s .now) (a .o) e (d .has-end .ensures) in
     rw (lt-leb _ _ (g .if1 .left), refused there (c .before .if2 .taken)) (c .unb-refused2 .ensures)
 
 tag-at-requires : tie.Need-tag-at-requires
@@ -48,10 +45,10 @@ unb-refused-requires-3 c κs = search needs
 returns-3 : tie.Need-returns-3
 returns-3 c =
     let d = c .before .before .before .before .before in
-    let g = d .before .before .before .before .before in
+    let g = d .before .before .before .before in
     let e = g .before .without-repetition .ensures in
     let a = g .before .before .before .args in
-    let there = there-by (a .s .now) (a .o) e (d .before .stop .ensures) (d .is-there .ensures) in
+    let there = there-by (a .s .now) (a .o) e (d .has-end .ensures) in
     let q = c .before .before in
     let tag = tag-by (a .s .now) (a .o) e (q .before .tag-at .ensures) in
     rw (
@@ -69,10 +66,10 @@ unb-refused-requires-4 c κs = search needs
 returns-4 : tie.Need-returns-4
 returns-4 c =
     let d = c .before .before .before .before .before .before .before in
-    let g = d .before .before .before .before .before in
+    let g = d .before .before .before .before in
     let e = g .before .without-repetition .ensures in
     let a = g .before .before .before .args in
-    let there = there-by (a .s .now) (a .o) e (d .before .stop .ensures) (d .is-there .ensures) in
+    let there = there-by (a .s .now) (a .o) e (d .has-end .ensures) in
     let q = c .before .before .before .before in
     let tag = tag-by (a .s .now) (a .o) e (q .before .tag-at .ensures) in
     rw (
@@ -88,10 +85,10 @@ declared-requires c κs = search needs
 returns-5 : tie.Need-returns-5
 returns-5 c =
     let d = c .before .before .before .before .before .before .before .before in
-    let g = d .before .before .before .before .before in
+    let g = d .before .before .before .before in
     let e = g .before .without-repetition .ensures in
     let a = g .before .before .before .args in
-    let there = there-by (a .s .now) (a .o) e (d .before .stop .ensures) (d .is-there .ensures) in
+    let there = there-by (a .s .now) (a .o) e (d .has-end .ensures) in
     let q = c .before .before .before .before .before in
     let tag = tag-by (a .s .now) (a .o) e (q .before .tag-at .ensures) in
     rw (
@@ -109,8 +106,7 @@ begin-at-spec =
     unb-refused-requires
     returns
     classes-requires
-    stop-requires
-    is-there-requires
+    has-end-requires
     unb-refused-requires-2
     returns-2
     tag-at-requires
