@@ -6,8 +6,8 @@ use mathlib.Core.Bool.{Bool, true, false, cond, not, _&&_, false≢true}
 use mathlib.Core.List.{List, [], _∷_}
 use mathlib.Core.Option.{Option}
 use borrow.Author.Tests.{le-leb, lt-leb, eq-eqb, ne-eqb}
-use lib.Dec.{leb}
-use lib.ListN.{length, drop}
+use lib.Dec.{eqb, leb}
+use lib.ListN.{length, getD, drop}
 use Rattle.syntax.specs.Octets.{octets, same, within}
 use Rattle.syntax.specs.Content.{releases, contentFrom, content, nextOf, allDigits}
 use Rattle.syntax.specs.ContentLaws.{Digital, digital-end, digital-below, digital-above, digital-on, Lengthening, lengthening-end, lengthening-less, lengthening-fits, lengthening-on}
@@ -136,7 +136,7 @@ content-most ρ f (b ∷ x) = pick f (releases ρ b) (content-most ρ true x) (c
     pick false false u v = omega arith
 
 -- of two octets at least one is content
-content-least : (ρ : ℕ) (x : List ℕ) → 2 ≤ length x → 1 ≤ length (content ρ x)
+pub content-least : (ρ : ℕ) (x : List ℕ) → 2 ≤ length x → 1 ≤ length (content ρ x)
 content-least ρ [] h = absurd (omega (arith, h))
 content-least ρ (b ∷ []) h = absurd (omega (arith, h))
 content-least ρ (b ∷ d ∷ x) h = pick (releases ρ b)
@@ -144,6 +144,16 @@ content-least ρ (b ∷ d ∷ x) h = pick (releases ρ b)
     pick : (t : Bool) → 1 ≤ length (cond t (d ∷ contentFrom ρ false x) (b ∷ contentFrom ρ false (d ∷ x)))
     pick true = omega arith
     pick false = omega arith
+
+-- .. and so is one that is no release
+pub filled-one : (ρ : ℕ) (x : List ℕ) → (length x ≡ 0 → ⊥) → not (eqb (getD x 0 0) ρ) ≡ true → 1 ≤ length (content ρ x)
+filled-one ρ [] h e = absurd (h refl)
+filled-one ρ (b ∷ x) h e = pick (eqb b 32) (eqb b ρ) e
+  where
+    pick : (z q : Bool) → not q ≡ true → 1 ≤ length (cond (cond z false q) (contentFrom ρ true x) (b ∷ contentFrom ρ false x))
+    pick true q e = omega arith
+    pick false false e = omega arith
+    pick false true e = absurd (false≢true e)
 
 module _ (ρ : ℕ) (x : List ℕ) (least most : ℕ) where
   module _ (h : length x ≤ most) where
@@ -153,8 +163,8 @@ module _ (ρ : ℕ) (x : List ℕ) (least most : ℕ) where
     pub sized-none : least ≡ 0 → true ≡ inRange (text least most) (content ρ x)
     sized-none e = sized-by (omega arith)
 
-    pub sized-some : least ≡ 1 → 2 ≤ length x → true ≡ inRange (text least most) (content ρ x)
-    sized-some e l = let w = content-least ρ x l in sized-by (omega arith)
+    pub sized-some : least ≡ 1 → 1 ≤ length (content ρ x) → true ≡ inRange (text least most) (content ρ x)
+    sized-some e l = sized-by (omega arith)
 
   module _ {n : ℕ} (q : n ≡ length (content ρ x)) where
     pub sized-few : n < least → false ≡ inRange (text least most) (content ρ x)

@@ -32,8 +32,21 @@ ghost use Rattle.elements.specs.Kinds.{kindOf};
 ghost use Rattle.elements.specs.Fields.{Marked, Fields};
 ghost use Rattle.elements.specs.Formed.{controlOf, looked};
 
-// Whether the content has so many octets: no more than `x`, and one at least where `x` has two, since a release frees the next.
-// They are counted only where that does not settle it.
+// Whether a glance tells that the content has an octet: of two octets one is content at least, since a release frees the next, and one that is no
+// release is.
+fn filled(x: &[u8], release: u8) -> bool
+    ensures { λ r. ⌜ (r ≡ true → 1 ≤ length (content release (now (x .entry)))) ⌝ }
+{
+    if 2 <= x.len() {
+        return true;
+    }
+    if x.len() == 0 {
+        return false;
+    }
+    x[0] != release
+}
+
+// Whether the content has so many octets: no more than `x`. They are counted only where a glance does not settle it.
 fn sized(x: &[u8], release: u8, least: usize, most: usize) -> bool
     ensures { λ r. ⌜ r ≡ inRange (checked.text least most) (content release (now (x .entry))) ⌝ }
 {
@@ -42,7 +55,7 @@ fn sized(x: &[u8], release: u8, least: usize, most: usize) -> bool
             return true;
         }
         if least == 1 {
-            if 2 <= x.len() {
+            if filled(x, release) {
                 return true;
             }
         }
