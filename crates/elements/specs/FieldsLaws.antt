@@ -20,6 +20,8 @@ use Rattle.syntax.specs.declared.reading.Span.{Span}
 use Rattle.syntax.specs.declared.reading.Span.the-variants.{Part, Absent}
 use Rattle.syntax.specs.Cutting.{cutAt}
 use Rattle.syntax.specs.Clean.{sound, Clean, CleanEdge, TagAt}
+use Rattle.syntax.specs.CleanLaws.{tidy-start, tidy-separator}
+use Rattle.syntax.specs.Repertoire.{classOf}
 use Rattle.syntax.specs.declared.cutting.Cut.the-variants.{Ends}
 use Rattle.elements.specs.declared.fields.Shape.{Shape}
 use Rattle.elements.specs.declared.fields.Past.{Past}
@@ -648,6 +650,10 @@ module _ {y : Syntax} {s : List ℕ} {a : ℕ} {m : List ℕ} {i : ℕ} {ends b 
               rw z (subst (λ (ps : List Piece). Noted ps m′ (8 * n)) (sym here) (w .noted (omega arith)))
 
 -- ---- a tag is passed at once
+
+-- an element separator stands at i
+pub pass-separator : {y : Syntax} {s : List ℕ} {i c : ℕ} → i < length s → c ≡ classOf y (getD s i 0) → c ≡ 4 → PassedAs y s i (Behind (i + 1) false false)
+pass-separator {y} {s} {i} {c} h e d = inside-next (inside-start y s i) {r = On i c} (tidy-separator (tidy-start y s i) h e (omega (arith, e, d)) (omega arith)) refl d
 
 tag-count : {σ : Service} {s : List ℕ} {a i at : ℕ} {ends b : Bool} → a ≤ i → atElement 1 (piecesAt σ s a) ≡ atElement 1 (piecesAt σ s i) →
     elements (piecesAt σ s a) ≡ elements (piecesAt σ s i) → anyRepeats (piecesAt σ s a) ≡ anyRepeats (piecesAt σ s i) → Passed σ s i at ends b → Passed σ s a at ends b

@@ -11,6 +11,7 @@ ghost use Rattle.elements.specs.declared.fields.Past.the-variants.{Behin
 use syntax::Syntax;
 use syntax::reading::Edge;
 use syntax::reading::clean_end;
+use syntax::repertoire::class;
 
 // How many elements a segment has, and whether anything in it repeats.
 pub struct Shape {
@@ -208,6 +209,18 @@ fn elements_from(
     )
 }
 
+// The same from `from`, behind the three octets of a tag: nearly always the tag ends there.
+fn pass_tag(s: &[u8], from: usize, t: &[u8; 256], y: Syntax) -> Past
+    requires { ⌜ Table y (now t) ⌝ }
+    requires { ⌜ from < length (now s) ⌝ }
+    ensures { λ r. ⌜ PassedAs y (now (s .entry)) from r ⌝ }
+{
+    if class(t, y, s[from]) == 4 {
+        return Past::Behind(from + 1, false, false);
+    }
+    skip(s, from, t, y)
+}
+
 // One pass over the segment with a tag at `at`: it is cut, and of each element p from 1 to 5 it is noted, in the eight marks from 8 * (p - 1) on: how many
 // components its first repeat has (0: it is not there), 1 if it repeats, and start and end of its first three components, as far as they are there.
 pub fn fields(s: &[u8], at: usize, t: &[u8; 256], y: Syntax, marks: &mut [usize]) -> Pass
@@ -217,7 +230,7 @@ pub fn fields(s: &[u8], at: usize, t: &[u8; 256], y: Syntax, marks: &mut [usize]
 {
     // Before the elements: the number of stores is known here, so no branch is guessed wrong as behind the last one.
     clear(marks);
-    match skip(s, at + 3, t, y) {
+    match pass_tag(s, at + 3, t, y) {
         Past::Broken => Pass::Broken,
         Past::Behind(i, ends, b) => elements_from(s, at, i, ends, b, t, y, marks),
     }
