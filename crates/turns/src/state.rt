@@ -88,11 +88,12 @@ pub struct Stretch {
 }
 
 // What was read so far. References are kept by place: UNB's 0020, the open message's 0062, and the slot that it is offered.
+// What is seldom used comes first: a refusal lies in the same octets, and the compiler cuts what comes first in two for its number.
 pub struct State {
-    pub message: Message,
+    pub slot: usize,
     pub unb: Stretch,
     pub unh: Stretch,
-    pub slot: usize,
+    pub message: Message,
     pub count: u32,
     pub phase: Phase,
 }

@@ -44,9 +44,9 @@ pub struct Layout {
 // After a section: the state, the place of what comes next, whether a message was closed, and then its layout.
 pub struct Section {
     pub state: State,
+    pub layout: Layout,
     pub next: usize,
     pub closed: bool,
-    pub layout: Layout,
 }
 
 pub enum Reached {
