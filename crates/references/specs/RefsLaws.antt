@@ -5,17 +5,17 @@ use native.Mathlib.Omega.{arith}
 use native.Mathlib.Nat.{suc-add, zero-add}
 use mathlib.Core.List.{List, [], _∷_, _++_, append-assoc, append-nil}
 use mathlib.Core.Path.{_≡_, refl, ap, sym, subst, _∙_}
-use mathlib.Core.Bool.{Bool, true, false, cond, not, _||_, or-true, false≢true}
+use mathlib.Core.Bool.{Bool, true, false, cond, _||_, or-true, false≢true}
 use borrow.Author.Tests.{eq-eqb, ne-eqb, eqb-true, eqb-false, leb-true, leb-false, le-leb, lt-leb}
 use lib.Dec.{T, eqb, leb}
 use lib.ListN.{length, getD, take, drop, set, length-set, length-drop, take-append-drop, length-append, replicate, length-replicate}
 use lib.Seq.{getD-set-same, getD-set-other, take-nil, drop-nil, drop-drop, take-add}
 use Rattle.syntax.specs.Octets.{same}
 use Rattle.syntax.specs.Content.{content, nextOf}
-use Rattle.syntax.specs.ContentLaws.{next-steps, next-over}
+use Rattle.syntax.specs.ContentLaws.{next-steps, next-over, same-self}
 use Rattle.syntax.specs.declared.content.Next.{Next}
 use Rattle.syntax.specs.declared.content.Next.the-variants.{Octet, Over}
-use Rattle.grammar.specs.Lists.{_▷_, among}
+use Rattle.grammar.specs.Lists.{among}
 use Rattle.grammar.specs.PlacingLaws.{same-eq}
 use Rattle.references.specs.Refs.{packed, octetsIn, headOf, tailOf, Named, isNamed, refAt, refsIn, rootOf, Leads, here, down, Reached, Indexed, WordOf, NameOf, Grown, Spot, put, kept, Offered, Fitting}
 
@@ -225,10 +225,6 @@ among-none names t (suc n) f = by-test (same (refAt names n) t) refl (among-none
     by-test : (q : Bool) → same (refAt names n) t ≡ q → among (refsIn names n) t ≡ false → (q || among (refsIn names n) t) ≡ false
     by-test true d r = let k : T (same (refAt names n) t) = rw d tt in absurd (f n (omega arith) (same-eq (refAt names n) t k))
     by-test false d r = r
-
-same-self : (t : List ℕ) → same t t ≡ true
-same-self [] = refl
-same-self (b ∷ t) = rw (eq-eqb b b refl) (same-self t)
 
 among-some : (names t : List ℕ) (n k : ℕ) → k < n → refAt names k ≡ t → among (refsIn names n) t ≡ true
 among-some names t zero k l e = absurd (let z : ⊥ = omega arith in z)

@@ -1,14 +1,12 @@
 -- The walk as the code has it: what a look at a segment tells, the state that is kept, and a step.
 use Prim.Native.Nat.{ℕ, _+_, _*_, _≤_}
 use mathlib.Core.Path.{_≡_}
-use mathlib.Core.Bool.{Bool, true, false, cond}
+use mathlib.Core.Bool.{true}
 use mathlib.Core.List.{List, [], _∷_}
-use mathlib.Core.Option.{none}
 use lib.ListN.{length, drop}
 use lib.Seq.{slice}
 use Rattle.syntax.specs.Content.{content}
 use Rattle.syntax.specs.Cutting.{cutAt, tagOf}
-use Rattle.syntax.specs.declared.Refusal.{Refusal}
 use Rattle.syntax.specs.declared.Syntax.{Syntax}
 use Rattle.syntax.specs.declared.cutting.Cut.{Cut}
 use Rattle.syntax.specs.declared.cutting.Cut.the-variants.{Ends, Spoilt, Open}
@@ -19,7 +17,7 @@ use Rattle.grammar.specs.Segments.{Asked}
 use Rattle.grammar.specs.Lists.{Snoc}
 use Rattle.grammar.specs.Elements.{formed}
 use Rattle.grammar.specs.Loads.{loadRight}
-use Rattle.grammar.specs.Verdict.{Test, tested, Answer, concluded, numbers}
+use Rattle.grammar.specs.Verdict.{tested}
 use Rattle.elements.specs.Kinds.{kindOf}
 use Rattle.message.specs.Summary.{Summary, StateS, startS, idleS, busyS, doneS, orderS, refsS, countsS, scopeS, nextS, AnswerS, readS, refusedS, decidedS}
 use Rattle.message.specs.Steps.{summaryIn, Roomy}
@@ -118,10 +116,6 @@ StepIs (readS S) (On x) ρ s h l b i = (stateIn ρ s x h l ≡ S) × Held ρ s x
 StepIs (readS S) (Stop f) ρ s h l b i = ⊥
 StepIs (refusedS n p) (On x) ρ s h l b i = ⊥
 StepIs (refusedS n p) (Stop f) ρ s h l b i = (f .number ≡ n) × (f .place ≡ p)
-
--- of a walk that has ended; UNA has no part in it
-abbrev pub walked : Answer → List ℕ
-walked a = numbers (concluded none a)
 
 -- a segment at p, whole and inside, with what was noted of it: its kind k, and if it is looked into, its fields
 pub record Ready (y : Syntax) (s : List ℕ) (x : State) (h l b : List ℕ) (p q : ℕ) (k : Kind) (f : Shape) (m : List ℕ) : Type 0 where

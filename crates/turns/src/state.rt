@@ -1,4 +1,4 @@
-// The walk over the segments of an interchange.
+// What is kept of what was read so far, and the turn of one segment in it.
 ghost use mathlib.Core.Path.{_≡_};
 ghost use mathlib.Core.Bool.{true, false, _&&_};
 ghost use mathlib.Core.List.{List};

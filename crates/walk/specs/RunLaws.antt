@@ -2,7 +2,6 @@
 use Prim.Native.Nat.{ℕ, _+_, _*_, _≤_, _<_}
 use native.Mathlib.Omega.{arith}
 use mathlib.Core.List.{List, [], _∷_}
-use mathlib.Core.Option.{Option}
 use mathlib.Core.Path.{_≡_, refl, ap, sym, _∙_, subst}
 use mathlib.Core.Bool.{Bool, true, false, false≢true}
 use lib.Dec.{T, leb, leb→le}
@@ -26,7 +25,7 @@ use Rattle.syntax.specs.declared.cutting.Tag.{Tag}
 use Rattle.syntax.specs.declared.cutting.Tag.the-variants.{Is, Bad as NoTag}
 use Rattle.syntax.specs.declared.opening.Start.{Start as Opening}
 use Rattle.syntax.specs.declared.opening.Begun.{Begun}
-use Rattle.syntax.specs.declared.opening.Begun.the-variants.{Ready as Begins, Refused as Refuses}
+use Rattle.syntax.specs.declared.opening.Begun.the-variants.{Ready as Begins}
 use Rattle.grammar.specs.Lists.{Snoc}
 use Rattle.grammar.specs.Segments.{Asked, asked}
 use Rattle.grammar.specs.Interchange.{Leaf, Message, Reading, start, idle, busy, done, shown}
@@ -38,8 +37,7 @@ use Rattle.grammar.specs.Running.{Passed, Good}
 use Rattle.grammar.specs.RunningLaws.{good-start, passed-good}
 use Rattle.grammar.specs.WalkLaws.{step-passed}
 use Rattle.grammar.specs.StartLaws.{start-read}
-use Rattle.grammar.specs.Verdict.{Answer, read, refused, tests, decided, then, atEnd, unless-done, walk, concluded, numbers, verdictOf, verdictBy, unaAt}
-use Rattle.grammar.specs.Valid.{Una}
+use Rattle.grammar.specs.Verdict.{Answer, read, refused, tests, decided, then, atEnd, unless-done, walk}
 use Rattle.elements.specs.Kinds.{kindOf}
 use Rattle.elements.specs.Octets.{askedAt}
 use Rattle.references.specs.Refs.{refsIn, Indexed}
@@ -48,7 +46,7 @@ use Rattle.message.specs.Steps.{summaryIn}
 use Rattle.message.specs.Summary.{Summary, StateS, startS, idleS, busyS, doneS, stateOf, AnswerS, told, fresh}
 use Rattle.turns.specs.FollowLaws.{follow}
 use Rattle.turns.specs.TurnLaws.{Turned, walk-over, walk-none, walk-bad, walk-turn, cut-open, cut-ends, cut-spoilt, turned-inside, turned-three}
-use Rattle.turns.specs.Held.{lookedAt, seenBy, phased, stateIn, Held, decidedFrom, StepIs, walked}
+use Rattle.turns.specs.Held.{lookedAt, seenBy, phased, stateIn, Held, decidedFrom, StepIs}
 use Rattle.elements.specs.declared.Kind.{Kind}
 use Rattle.turns.specs.declared.state.Phase.{Phase}
 use Rattle.turns.specs.declared.state.Phase.the-variants.{Start, Idle, Busy, Done}
@@ -195,18 +193,6 @@ when-done (idle u ms) e i a = absurd (false≢true e)
 when-done (busy u ms o) e i a = absurd (false≢true e)
 when-done (done u ms z) e i a = refl
 
-end-done : (x : Reading) → over (stateOf x) ≡ true → (i : ℕ) → walked (atEnd x i) ≡ 0 ∷ 0 ∷ []
-end-done start e i = absurd (false≢true e)
-end-done (idle u ms) e i = absurd (false≢true e)
-end-done (busy u ms o) e i = absurd (false≢true e)
-end-done (done u ms z) e i = refl
-
-end-early : (x : Reading) → over (stateOf x) ≡ false → (i : ℕ) → walked (atEnd x i) ≡ 7 ∷ i ∷ []
-end-early start e i = refl
-end-early (idle u ms) e i = refl
-end-early (busy u ms o) e i = refl
-end-early (done u ms z) e i = absurd (false≢true (sym e))
-
 -- where octets are left, the walk's answer is there unless all is read
 some-left : (y : Syntax) → T (fit (y .service)) → (x : Reading) (s : List ℕ) (i : ℕ) → i < length s
     → (a : Answer) × (walk y x (chain (y .service) false (drop i s)) i ≡ unless-done x i a)
@@ -312,12 +298,6 @@ module _ {y : Syntax} {s : List ℕ} {from : ℕ} {x : State} {h l b : List ℕ}
   stands : {t : Bool} → isDone (x .phase) ≡ t → over (stateOf (w .tree)) ≡ t
   stands e = ap over (w .same) ∙ over-in (y .service .release) s x h l ∙ e
 
-  -- all is read, and octets are left
-  pub walking-more : T (fit (y .service)) → i < length s → isDone (x .phase) ≡ true → walked (answerFrom y s from) ≡ 7 ∷ i ∷ []
-  walking-more f k e =
-      let a = some-left y f (w .tree) s i k in
-      ap walked (sym (w .goes) ∙ a .1 ∙ when-done (w .tree) (stands e) i (a .0))
-
   -- the whole was read
   pub walking-read : length s ≤ i → isDone (x .phase) ≡ true
       → (answerFrom y s from ≡ read (w .tree)) × ((u : Leaf) × (ms : Snoc Message) × (z : Leaf) × (w .tree ≡ done u ms z))
@@ -344,13 +324,6 @@ module _ {y : Syntax} {s : List ℕ} {from : ℕ} {x : State} {h l b : List ℕ}
   walking-over f k e =
       let a = some-left y f (w .tree) s i k in
       sym (w .goes) ∙ a .1 ∙ when-done (w .tree) (stands e) i (a .0)
-
-  -- the octets are over
-  pub walking-done : length s ≤ i → isDone (x .phase) ≡ true → walked (answerFrom y s from) ≡ 0 ∷ 0 ∷ []
-  walking-done k e = ap walked (sym (w .goes) ∙ walk-over y (w .tree) s i k) ∙ end-done (w .tree) (stands e) i
-
-  pub walking-early : length s ≤ i → isDone (x .phase) ≡ false → walked (answerFrom y s from) ≡ 7 ∷ i ∷ []
-  walking-early k e = ap walked (sym (w .goes) ∙ walk-over y (w .tree) s i k) ∙ end-early (w .tree) (stands e) i
 
   module _ (f : T (fit (y .service))) (m : isDone (x .phase) ≡ false) where
     -- no segment, or one outside the repertoire
@@ -457,23 +430,7 @@ module _ {y : Syntax} {s : List ℕ} {from : ℕ} {x : State} {h l b : List ℕ}
   pub halted : (h′ l′ b′ : List ℕ) (r : Advanced) {f : Refusal} → r ≡ Halt f → AdvancedIs w r h′ l′ b′ → answerFrom y s from ≡ refused (f .number) (f .place)
   halted h′ l′ b′ r q a = subst (λ (r : Advanced). AdvancedIs w r h′ l′ b′) q a
 
--- ---- the verdict by what was begun
-
-unmarked : (n : Option Una) (a : Answer) → numbers (concluded n a) ≡ walked a
-unmarked n (read start) = refl
-unmarked n (read (idle u ms)) = refl
-unmarked n (read (busy u ms o)) = refl
-unmarked n (read (done u ms z)) = refl
-unmarked n (refused k p) = refl
-
-pub begun-refused : (s : List ℕ) {f : Refusal} {r : Begun} → r ≡ begunOf s → r ≡ Refuses f → numbers (verdictOf s) ≡ f .number ∷ f .place ∷ []
-begun-refused s e d = ap (λ (b : Begun). numbers (verdictBy s b)) (sym e ∙ d)
-
-pub begun-ready : (s : List ℕ) {b : Opening} {r : Begun} → r ≡ begunOf s → r ≡ Begins b
-    → numbers (verdictOf s) ≡ walked (walk (b .syntax) start (chain (b .syntax .service) false (drop (b .at) s)) (b .at))
-begun-ready s {b} e d =
-    ap (λ (b : Begun). numbers (verdictBy s b)) (sym e ∙ d)
-    ∙ unmarked (unaAt s) (walk (b .syntax) start (chain (b .syntax .service) false (drop (b .at) s)) (b .at))
+-- ---- what was begun
 
 pub begun-fits : (s : List ℕ) {b : Opening} {r : Begun} → r ≡ begunOf s → r ≡ Begins b → T (fit (b .syntax .service)) × (length s ≤ 65535)
 begun-fits s {b} e d =

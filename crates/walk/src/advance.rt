@@ -18,7 +18,7 @@ use turns::state::Step;
 use turns::state::look;
 use turns::state::turn;
 
-// One segment further: the segment at `at` is looked at, read and stepped over.
+// The segment at `at` is looked at, read and stepped over.
 pub fn advance(
     s: &[u8],
     at: usize,
