@@ -173,9 +173,6 @@ module _ {ρ : ℕ} {x : List ℕ} {v a w b : ℕ} {o q : Bool} (f : WordOf ρ x
           shows = λ h. absurd (let z : ⊥ = omega arith in z);
         }
 
-pub name-same : (ρ : ℕ) {x z : List ℕ} {h e : ℕ} → x ≡ z → NameOf (content ρ x) h e → NameOf (content ρ z) h e
-name-same ρ {x} {z} {h} {e} d w = subst (λ (y : List ℕ). NameOf (content ρ y) h e) d w
-
 -- ---- the references
 
 named-is : (names : List ℕ) (k h e : ℕ) → isNamed names k h e ≡ true → Named names k h e
