@@ -30,7 +30,7 @@ use Rattle.grammar.specs.RuleLaws.{check-holds}
 use Rattle.grammar.specs.PlacingLaws.{same-eq, regroup}
 use Rattle.spans.specs.Span.{other}
 use Rattle.spans.specs.SpanLaws.{Parts as RunParts, parted-so}
-use Rattle.judge.specs.FindingLaws.{totals-placed}
+use Rattle.judge.specs.TotalsLaws.{totals-placed}
 use Rattle.groups.specs.StandLaws.{list-join, print-append, well-append, well-parts}
 use Rattle.groups.specs.Parts.{scopeH, bodyIn}
 use Rattle.groups.specs.Calls.{given, serviceIn, messageIn}

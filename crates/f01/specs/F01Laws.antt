@@ -1,5 +1,5 @@
 -- What the code makes of the AUTACK and of the interchange that it refers to is what the definition of F01 says.
-use Prim.Native.Nat.{ℕ, _+_, _≤_}
+use Prim.Native.Nat.{ℕ, _≤_}
 use native.Mathlib.Omega.{arith}
 use mathlib.Core.Path.{_≡_, refl, ap, _∙_, sym, subst}
 use mathlib.Core.List.{List}
@@ -20,29 +20,28 @@ use Rattle.syntax.specs.declared.reading.Span.the-variants.{Part, Absent}
 use Rattle.syntax.specs.declared.opening.Start.{Start}
 use Rattle.syntax.specs.declared.opening.Begun.{Begun}
 use Rattle.syntax.specs.declared.opening.Begun.the-variants.{Ready as Begins, Refused as Refuses}
-use Rattle.grammar.specs.Lists.{Snoc, nil, _▷_, _+++_, joined, list}
+use Rattle.grammar.specs.Lists.{Snoc, nil, _▷_, joined, list}
 use Rattle.grammar.specs.Segments.{Unb, Unz, Usx, seg, text, reference, Asked}
-use Rattle.grammar.specs.Interchange.{Leaf, Header, Message, message, done, idle, shown, showHeader, showMessage, showBody}
+use Rattle.grammar.specs.Interchange.{Leaf, Header, Message, done, idle, shown, showHeader, showMessage, showBody}
 use Rattle.grammar.specs.Valid.{Interchange, interchange, openingIn}
-use Rattle.grammar.specs.Verdict.{Verdict, accepted, refusedWith, verdictOf, verdictBy, unaAt, read}
-use Rattle.grammar.specs.Named.{Placed, placed}
+use Rattle.grammar.specs.Verdict.{Verdict, accepted, verdictOf, verdictBy, unaAt, read}
+use Rattle.grammar.specs.Named.{Placed}
 use Rattle.walk.specs.Layout.{headsAt}
-use Rattle.walk.specs.RunLaws.{answerFrom}
+use Rattle.walk.specs.RunLaws.{answerFrom, verdict-by}
 use Rattle.walk.specs.declared.sections.Layout.{Layout}
-use Rattle.judge.specs.FindingLaws.{verdict-by}
 use Rattle.spans.specs.Span.{Span, span, spanAt}
 use Rattle.spans.specs.Spanning.{WholeBy, SpanIs}
 use Rattle.spans.specs.declared.span.Run.{Run as Spanned}
 use Rattle.spans.specs.declared.span.Spanned.{Spanned as SpanAnswer}
 use Rattle.spans.specs.declared.span.Spanned.the-variants.{Run as Spans, Missing as NoSpan, Refused as NotSpanned}
-use Rattle.groups.specs.Stand.{Row, Stand}
+use Rattle.groups.specs.Stand.{Row}
 use Rattle.groups.specs.StandLaws.{stand-front, stand-asked}
 use Rattle.groups.specs.Groups.{Chosen, chosen, nameAt, rangeOf}
 use Rattle.groups.specs.Parts.{bodyIn}
 use Rattle.groups.specs.PartsLaws.{body-row, body-tied}
-use Rattle.groups.specs.Links.{Tie, tie, tieIn, linkFrom}
-use Rattle.groups.specs.LinksLaws.{There, tie-there, tie-none}
-use Rattle.groups.specs.Calls.{Answered, refusedAs, orMissing, answeredBy, then, serviceIn, messageIn, Holds}
+use Rattle.groups.specs.Links.{Tie, tieIn, linkFrom}
+use Rattle.groups.specs.LinksLaws.{tie-there, tie-none}
+use Rattle.groups.specs.Calls.{refusedAs, orMissing, answeredBy, then, serviceIn, messageIn, Holds}
 use Rattle.groups.specs.CallsLaws.{begins, none-some}
 use Rattle.groups.specs.declared.links.Places.{Places}
 use Rattle.groups.specs.declared.links.Linked.{Linked}

@@ -30,12 +30,11 @@ use Rattle.grammar.specs.PlacingLaws.{regroup}
 use Rattle.grammar.specs.PairLaws.{few-headers, few-tails}
 use Rattle.grammar.specs.Places.{wide, headersIn, trailersIn}
 use Rattle.grammar.specs.Named.{placed, placedIn}
-use Rattle.walk.specs.RunLaws.{answerFrom}
+use Rattle.walk.specs.RunLaws.{answerFrom, verdict-by}
 use Rattle.walk.specs.declared.sections.Layout.{Layout}
-use Rattle.judge.specs.Finding.{noLayout, FoundIs, WholeBy, SeeksBy}
-use Rattle.judge.specs.FindingLaws.{verdict-by}
-use Rattle.judge.specs.declared.find.Found.{Found}
-use Rattle.judge.specs.declared.find.Found.the-variants.{Message as There, Missing, Refused as NotRead}
+use Rattle.finding.specs.Finding.{FoundIs, WholeBy, SeeksBy}
+use Rattle.finding.specs.declared.Found.{Found}
+use Rattle.finding.specs.declared.Found.the-variants.{Message as There, Missing, Refused as NotRead}
 use Rattle.groups.specs.Stand.{Stand}
 use Rattle.groups.specs.StandLaws.{stand-front, stand-back}
 use Rattle.groups.specs.Calls.{serviceIn, messageIn, Holds, NamedIs}
@@ -128,7 +127,7 @@ module _ (s m : List ℕ) {g : Begun} where
 
     pub named-missing : (t rows : List ℕ) {r : Found} → r ≡ Missing → FoundIs (x .syntax) s (x .at) m r rows → NamedIs s m NoneSuch t rows
     named-missing t rows j w =
-        let q : WholeBy false (x .syntax) s (x .at) m noLayout rows = found-as rows j w in
+        let q : WholeBy Missing (x .syntax) s (x .at) m rows = found-as rows j w in
         let i : Interchange = interchange (unaAt s) (q .0) (q .1) (q .2) in
         let v : verdictOf s ≡ accepted i = verdict-by s e d (q .3 .0) in
         let b = begins s i x (sym e ∙ d) v in
@@ -137,11 +136,11 @@ module _ (s m : List ℕ) {g : Begun} where
     pub named-here : (t rows : List ℕ) {c : Layout} {r : Found} → Table (x .syntax) t → r ≡ There c → FoundIs (x .syntax) s (x .at) m r rows
         → NamedIs s m (Here (record { syntax = x .syntax; layout = c })) t rows
     named-here t rows {c} w j v =
-        let q : WholeBy true (x .syntax) s (x .at) m c rows = found-as rows j v in
+        let q : WholeBy (There c) (x .syntax) s (x .at) m rows = found-as rows j v in
         (w, by (q .0) (q .1) (q .2) (q .3 .0) (q .3 .1))
       where
         by : (u : Leaf) (ms : Snoc Message) (z : Leaf) → answerFrom (x .syntax) s (x .at) ≡ read (done u ms z)
-            → SeeksBy true (x .syntax .service) s (x .at) (done u ms z) m c rows → Holds s m (x .syntax) c rows
+            → SeeksBy (There c) (x .syntax .service) s (x .at) (done u ms z) m rows → Holds s m (x .syntax) c rows
         by u ms z a k =
             let i : Interchange = interchange (unaAt s) u ms z in
             let v : verdictOf s ≡ accepted i = verdict-by s e d a in

@@ -2,8 +2,8 @@
 ghost use mathlib.Core.Path.{_≡_};
 ghost use lib.ListN.{length};
 ghost use Rattle.groups.specs.Calls.{NamedIs};
-use judge::find::Found;
-use judge::find::find;
+use finding::Found;
+use finding::find;
 use syntax::Refusal;
 use syntax::Syntax;
 use syntax::opening::Begun;

@@ -4,7 +4,7 @@
 ghost use mathlib.Core.Path.{_≡_};
 ghost use Rattle.grammar.specs.Verdict.{verdictOf, numbers, totalsOf, totalNumbers};
 ghost use Rattle.judge.specs.Told.{told};
-ghost use Rattle.judge.specs.Finding.{toldTotals};
+ghost use Rattle.judge.specs.Totals.{toldTotals};
 ghost use Rattle.ranges.specs.Ranges.{scope1Of, scope2Of};
 ghost use Rattle.f01.specs.F01.{f01Of};
 ghost use Rattle.ranges.specs.Told.{partNumbers, toldParts, runNumbers, toldRun};

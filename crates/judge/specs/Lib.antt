@@ -1,4 +1,4 @@
 pub mod Told
-pub mod Finding
-pub mod FindingLaws
 pub mod ToldLaws
+pub mod Totals
+pub mod TotalsLaws

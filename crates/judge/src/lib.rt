@@ -1,4 +1,3 @@
-// The judge: the verdict on an interchange, the message that a call names, and its totals.
-pub mod find;
+// The judge: the verdict on an interchange, and the totals of a message in it.
 pub mod run;
 pub mod totals;

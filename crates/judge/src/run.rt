@@ -9,59 +9,21 @@ ghost use Rattle.syntax.specs.Repertoire.{Table};
 ghost use Rattle.syntax.specs.Reader.{chain};
 ghost use Rattle.grammar.specs.Interchange.{start};
 ghost use Rattle.grammar.specs.Verdict.{verdictOf, numbers, walk};
-ghost use Rattle.judge.specs.Told.{refusedAs, verdictAs, walkedAs, told};
-ghost use Rattle.walk.specs.RunLaws.{unreadAs, isDone, Fresh};
-use message::kept::fresh_message;
+ghost use Rattle.judge.specs.Told.{verdictAs, walkedAs, told};
+ghost use Rattle.walk.specs.RunLaws.{Fresh};
 use syntax::Refusal;
 use syntax::Syntax;
 use syntax::opening::Begun;
 use syntax::opening::begin;
 use syntax::repertoire::OUTSIDE;
 use syntax::repertoire::classes;
-use turns::state::Phase;
-use turns::state::State;
-use turns::state::Stretch;
 use walk::sections::Reached;
 use walk::sections::next_section;
+use walk::sections::unread;
 
 pub enum Verdict {
     Accepted,
     Refused(Refusal),
-}
-
-// Before UNB: nothing read.
-pub fn unread() -> State
-    ensures { λ r. ⌜ r ≡ unreadAs ⌝ }
-{
-    let m = fresh_message(false);
-    State {
-        phase: Phase::Start,
-        count: 0,
-        slot: 0,
-        unb: Stretch { start: 0, end: 0 },
-        unh: Stretch { start: 0, end: 0 },
-        message: m,
-    }
-}
-
-pub fn is_done(p: Phase) -> bool
-    ensures { λ r. ⌜ r ≡ isDone p ⌝ }
-{
-    match p {
-        Phase::Done => true,
-        Phase::Start => false,
-        Phase::Idle => false,
-        Phase::Busy => false,
-    }
-}
-
-fn refused(number: u8, place: usize) -> Verdict
-    ensures { λ r. ⌜ r ≡ refusedAs number place ⌝ }
-{
-    Verdict::Refused(Refusal {
-        number: number,
-        place: place,
-    })
 }
 
 // Every section from `from` on: UNB, the messages, UNZ; the first bad segment decides. `names` has room for a message in each 8 octets.
@@ -82,11 +44,7 @@ fn run(
     let mut rows = [0usize; 18];
     let mut st = unread();
     let mut at = from;
-    while at < s.len() {
-        let p = st.phase;
-        if is_done(p) {
-            return refused(7, at);
-        }
+    loop {
         match next_section(
             s,
             at,
@@ -99,9 +57,8 @@ fn run(
             slots,
             &mut rows,
         ) {
-            Reached::Stop(f) => {
-                return Verdict::Refused(f);
-            }
+            Reached::Stop(f) => return Verdict::Refused(f),
+            Reached::Over => return Verdict::Accepted,
             Reached::On(a) => {
                 let x = a.state;
                 st = x;
@@ -109,11 +66,6 @@ fn run(
             }
         }
     }
-    let p = st.phase;
-    if is_done(p) {
-        return Verdict::Accepted;
-    }
-    refused(7, at)
 }
 
 // A small interchange has few messages, and small tables for them: to clear large ones would take longer than to judge it.

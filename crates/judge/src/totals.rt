@@ -1,9 +1,9 @@
 // The loads of a message, and their grams.
 ghost use mathlib.Core.Path.{_≡_};
 ghost use Rattle.grammar.specs.Verdict.{totalsOf, totalNumbers};
-ghost use Rattle.judge.specs.Finding.{totalsAs, toldTotals, totalledBy};
-use crate::find::Found;
-use crate::find::find;
+ghost use Rattle.judge.specs.Totals.{totalsAs, toldTotals, totalledBy};
+use finding::Found;
+use finding::find;
 use syntax::Refusal;
 use syntax::opening::Begun;
 use syntax::opening::begin;

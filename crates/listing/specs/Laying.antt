@@ -13,7 +13,6 @@ use Rattle.walk.specs.declared.sections.Layout.{Layout}
 use Rattle.groups.specs.Stand.{Stand}
 use Rattle.groups.specs.Groups.{nameAt}
 use Rattle.writing.specs.Laid.{Laid}
-use Rattle.writing.specs.Written.{refusedAs}
 use Rattle.writing.specs.declared.Written.{Written}
 use Rattle.writing.specs.declared.Written.the-variants.{Length, Refused}
 use Rattle.lines.specs.Words.{messageLine}
@@ -33,14 +32,6 @@ messagesRead σ p start = []
 messagesRead σ p (idle u ms) = messagesOf σ p u ms
 messagesRead σ p (busy u ms o) = messagesOf σ p u ms
 messagesRead σ p (done u ms z) = messagesOf σ p u ms
-
-abbrev pub earlyAs : ℕ → Written
-earlyAs i = refusedAs 7 i
-
--- behind the last section, at i: whether UNZ was read, and the length of the text
-abbrev pub endedAs : Bool → ℕ → ℕ → Written
-endedAs true n i = Length n
-endedAs false n i = earlyAs i
 
 -- the whole interchange was read from p on, and its text is laid; or it is refused
 abbrev pub LaysAll : Syntax → List ℕ → ℕ → List ℕ → Written → List ℕ → Type 0

@@ -1,8 +1,8 @@
 -- Laws of the walk that lays the report: a section more, the end; and of the call.
 use Prim.Native.Nat.{ℕ, _+_, _*_, _≤_, _<_}
 use native.Mathlib.Omega.{arith}
-use mathlib.Core.Bool.{Bool, true, false, cond}
-use mathlib.Core.List.{List, [], _++_, append-nil}
+use mathlib.Core.Bool.{Bool, true, false}
+use mathlib.Core.List.{List, _++_, append-nil}
 use mathlib.Core.Path.{_≡_, refl, ap, sym, _∙_, subst}
 use lib.Dec.{T}
 use lib.ListN.{length}
@@ -17,20 +17,17 @@ use Rattle.syntax.specs.declared.opening.Begun.{Begun}
 use Rattle.syntax.specs.declared.opening.Begun.the-variants.{Ready as Begins, Refused as Refuses}
 use Rattle.grammar.specs.Lists.{Snoc, nil, _▷_, _+++_, joined}
 use Rattle.grammar.specs.Segments.{Unb, Unz, seg, text, Asked}
-use Rattle.grammar.specs.Interchange.{Leaf, Message, message, Reading, start, idle, busy, done, shown, showOpen, showMessage}
+use Rattle.grammar.specs.Interchange.{Leaf, Message, message, Reading, idle, done, shown, showOpen, showMessage}
 use Rattle.grammar.specs.Places.{wide}
 use Rattle.grammar.specs.PlacingLaws.{regroup}
 use Rattle.grammar.specs.Running.{Good}
 use Rattle.grammar.specs.Valid.{Interchange, interchange, openingIn}
-use Rattle.grammar.specs.Verdict.{read, refused, accepted, refusedWith, verdictOf, verdictBy, unaAt}
-use Rattle.message.specs.Summary.{startS, stateOf}
-use Rattle.turns.specs.Held.{stateIn}
+use Rattle.grammar.specs.Verdict.{read, accepted, refusedWith, verdictOf, verdictBy, unaAt}
 use Rattle.turns.specs.declared.state.State.{State}
-use Rattle.walk.specs.RunLaws.{Fresh, answerFrom, Walking, walking-start, unreadAs, unread-idle, isDone, walking-short, walking-read}
+use Rattle.walk.specs.RunLaws.{Fresh, answerFrom, Walking, ReadAll, unreadAs, verdict-by}
 use Rattle.walk.specs.Sections.{Stays, begins, ends, breaks, SectionBy, Passing}
-use Rattle.walk.specs.SectionLaws.{Looping}
+use Rattle.walk.specs.SectionLaws.{Looping, looping-start, looping-on, unread-start}
 use Rattle.walk.specs.declared.sections.Section.{Section}
-use Rattle.judge.specs.FindingLaws.{verdict-by}
 use Rattle.groups.specs.Stand.{Stand}
 use Rattle.groups.specs.StandLaws.{stand-front, stand-back, stand-asked}
 use Rattle.walk.specs.declared.sections.Layout.{Layout}
@@ -44,7 +41,7 @@ use Rattle.writing.specs.declared.Written.the-variants.{Length, Refused}
 use Rattle.lines.specs.Words.{acceptedLine, refusalLine, messageLine}
 use Rattle.listing.specs.Listing.{messageOf, acceptedOf, listingBy, listingOf, Lists}
 use Rattle.lines.specs.Seals.{Near, sealsAt}
-use Rattle.listing.specs.Laying.{sectionAt, messagesRead, earlyAs, endedAs, LaysAll}
+use Rattle.listing.specs.Laying.{sectionAt, messagesRead, LaysAll}
 use Rattle.listing.specs.LayingLaws.{near-laid, section-lines}
 
 -- ---- the lines of a section
@@ -82,26 +79,11 @@ pub record Reporting (y : Syntax) (s : List ℕ) (from : ℕ) (x : State) (h l b
   pub same : length out ≡ length out₀
   pub laid : Stand (y .service) s from (shown (looping .walks .tree)) → Laid out₀ p₀ (messagesRead (y .service) from (looping .walks .tree)) p out
 
--- nothing was read yet
-none-read : {y : Syntax} {s : List ℕ} {p : ℕ} {x : State} {h l b : List ℕ} {i : ℕ} (w : Walking y s p x h l b i) → x ≡ unreadAs → [] ≡ messagesRead (y .service) p (w .tree)
-none-read {y} {s} {p} {x} {h} {l} w e = by (w .tree) (w .same ∙ ap (λ (x : State). stateIn (y .service .release) s x h l) e)
-  where
-    by : (z : Reading) → stateOf z ≡ startS → [] ≡ messagesRead (y .service) p z
-    by start q = refl
-    by (idle u ms) q = let k : _≡_ {A = ℕ} 0 1 = cc in absurd (omega arith)
-    by (busy u ms o) q = let k : _≡_ {A = ℕ} 0 1 = cc in absurd (omega arith)
-    by (done u ms z) q = let k : _≡_ {A = ℕ} 0 1 = cc in absurd (omega arith)
-
 pub reporting-start : {y : Syntax} {s : List ℕ} {from : ℕ} {x : State} {h l b m rows out : List ℕ} {p : ℕ} → Fresh y s l b → (length m ≡ 40) × (length h ≡ 36) × (length rows ≡ 18)
     → x ≡ unreadAs → Reporting y s from x h l b from m rows l b out p out p
-reporting-start f n e =
-    let w = walking-start f (n .1) e in
-    record {
-      looping = record { walks = w; between = unread-idle e; marks = n .0; room = n .2; names = refl; slots = refl };
-      near = omega arith;
-      same = refl;
-      laid = λ v. laid-same (none-read w e) laid-none;
-    }
+reporting-start {y} {from = from} f n e =
+    let g = looping-start f n e in
+    record { looping = g; near = omega arith; same = refl; laid = λ v. laid-same (sym (ap (messagesRead (y .service) from) (unread-start (g .walks) e))) laid-none }
 
 module _ {y : Syntax} {s : List ℕ} {from : ℕ} {x : State} {h l b : List ℕ} {i : ℕ} (w : Walking y s from x h l b i) {c : Section} {h′ l′ b′ rows : List ℕ} (g : Passing w c h′ l′ b′ rows)
   where
@@ -150,7 +132,7 @@ pub reporting-on : {y : Syntax} {s : List ℕ} {from : ℕ} {x : State} {h l b :
     → Laid out p (sectionAt (y .service) s rows′ (c .layout) (c .closed)) r out′ → r ≤ p + 1312000
     → Reporting y s from (c .state) h′ l′ b′ (c .next) m′ rows′ l₀ b₀ out₀ p₀ out′ r
 reporting-on g f v n a d e k = record {
-  looping = record { walks = v .walks; between = v .between; marks = n; room = v .long; names = a ∙ g .looping .names; slots = d ∙ g .looping .slots };
+  looping = looping-on (g .looping) v n a d;
   near = omega (arith, g .near, k, v .far);
   same = laid-length e ∙ g .same;
   laid = lines-on (g .looping .walks) v f (g .laid) e;
@@ -158,19 +140,16 @@ reporting-on g f v n a d e k = record {
 
 -- ---- the end of the walk
 
-pub lays-early : (y : Syntax) (s : List ℕ) (p : ℕ) (out out′ : List ℕ) {r : Written} {i : ℕ} → r ≡ earlyAs i → answerFrom y s p ≡ refused 7 i → LaysAll y s p out r out′
-lays-early y s p out out′ e q = subst (λ (r : Written). LaysAll y s p out r out′) (sym e) q
-
 -- the reference of the UNB that stands at p
 unb-named : (σ : Service) → T (fit σ) → (s : List ℕ) (p : ℕ) (u : Leaf) (ms : Snoc Message) (z : Leaf) → Stand σ s p (shown (done u ms z)) → nameAt σ s p 5 ≡ text u 5 0
 unb-named σ f s p u ms z w =
     ap (λ (a : Asked). a .text 5 0)
     (stand-asked σ s p f (seg Unb u) (stand-front σ s p (nil ▷ seg Unb u) (joined showMessage ms) (stand-front σ s p (shown (idle u ms)) (nil ▷ seg Unz z) w)))
 
-lays-told : {y : Syntax} {s : List ℕ} {from : ℕ} {x : State} {h l b : List ℕ} {i : ℕ} {m rows l₀ b₀ out out₀ : List ℕ} {p₀ : ℕ} {out′ : List ℕ} {p : ℕ}
+-- all was read
+pub lays-told : {y : Syntax} {s : List ℕ} {from : ℕ} {x : State} {h l b : List ℕ} {i : ℕ} {m rows l₀ b₀ out out₀ : List ℕ} {p₀ : ℕ} {out′ : List ℕ} {p : ℕ}
     (g : Reporting y s from x h l b i m rows l₀ b₀ out₀ p₀ out′ p) → Laid out 0 (acceptedLine (nameAt (y .service) s from 5)) p₀ out₀ → T (fit (y .service))
-    → (answerFrom y s from ≡ read (g .looping .walks .tree)) × ((u : Leaf) × (ms : Snoc Message) × (z : Leaf) × (g .looping .walks .tree ≡ done u ms z))
-    → LaysAll y s from out (Length p) out′
+    → ReadAll (g .looping .walks) → LaysAll y s from out (Length p) out′
 lays-told {y} {s} {from} g k f a =
     let t = a .1 in
     let e = t .3 in (
@@ -186,23 +165,6 @@ lays-told {y} {s} {from} g k f a =
             (laid-more k (g .laid (subst (λ (r : Reading). Stand (y .service) s from (shown r)) (sym e) w))),
       ),
     )
-
--- behind the last section: the text, or the input ended early
-module _ (n i : ℕ) {c d : Bool} {r : Written} (e : d ≡ c) where
-  pub ended-done : d ≡ true → r ≡ Length n → r ≡ endedAs c n i
-  ended-done t q = rw (← e, t) q
-
-  pub ended-early : d ≡ false → r ≡ earlyAs i → r ≡ endedAs c n i
-  ended-early t q = rw (← e, t) q
-
-pub lays-ended : {y : Syntax} {s : List ℕ} {from : ℕ} {x : State} {h l b : List ℕ} {i : ℕ} {m rows l₀ b₀ out out₀ : List ℕ} {p₀ : ℕ} {out′ : List ℕ} {p : ℕ}
-    (g : Reporting y s from x h l b i m rows l₀ b₀ out₀ p₀ out′ p) → Laid out 0 (acceptedLine (nameAt (y .service) s from 5)) p₀ out₀ → T (fit (y .service)) → length s ≤ i
-    → {r : Written} → r ≡ endedAs (isDone (x .phase)) p i → LaysAll y s from out r out′
-lays-ended {y} {s} {from} {x} {i = i} {out = out} {out′ = out′} {p = p} g k f n {r} e = by (isDone (x .phase)) refl e
-  where
-    by : (c : Bool) → isDone (x .phase) ≡ c → r ≡ endedAs c p i → LaysAll y s from out r out′
-    by true d e = subst (λ (r : Written). LaysAll y s from out r out′) (sym e) (lays-told g k f (walking-read (g .looping .walks) n d))
-    by false d e = lays-early y s from out out′ e (walking-short (g .looping .walks) n d)
 
 -- ---- the call: a text is measured, refused where it is too long, and then laid
 

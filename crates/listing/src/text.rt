@@ -8,14 +8,12 @@ ghost use Rattle.syntax.specs.Service.{fit};
 ghost use Rattle.syntax.specs.Opening.{begunOf};
 ghost use Rattle.syntax.specs.Repertoire.{Table};
 ghost use Rattle.syntax.specs.declared.opening.Begun.the-variants.{Ready as Begins};
-ghost use Rattle.walk.specs.RunLaws.{isDone, Fresh};
+ghost use Rattle.walk.specs.RunLaws.{Fresh};
 ghost use Rattle.writing.specs.Laid.{Laid};
 ghost use Rattle.lines.specs.Words.{refusalLine};
 ghost use Rattle.listing.specs.Listing.{listingOf, Lists};
 ghost use Rattle.lines.specs.Seals.{Near};
-ghost use Rattle.listing.specs.Laying.{sectionAt, earlyAs, endedAs, LaysAll};
-use judge::run::is_done;
-use judge::run::unread;
+ghost use Rattle.listing.specs.Laying.{sectionAt, LaysAll};
 use lines::accepted_line;
 use lines::message_line;
 use lines::refusal_line;
@@ -25,21 +23,12 @@ use syntax::Syntax;
 use syntax::opening::Begun;
 use syntax::opening::begin;
 use syntax::repertoire::table;
-use turns::state::State;
 use walk::sections::Layout;
 use walk::sections::Reached;
 use walk::sections::next_section;
+use walk::sections::unread;
 use writing::Written;
 use writing::refused;
-
-fn early(at: usize) -> Written
-    ensures { λ r. ⌜ r ≡ earlyAs at ⌝ }
-{
-    Written::Refused(Refusal {
-        number: 7,
-        place: at,
-    })
-}
 
 // A section more: a message that it closed has its line and those of its seals; UNB and UNZ have none.
 fn put_section(
@@ -64,17 +53,6 @@ fn put_section(
     at
 }
 
-// Behind the last section, at `at`: the length `p` of the text, where UNZ was read.
-fn ended(st: State, at: usize, p: usize) -> Written
-    ensures { λ r. ⌜ r ≡ endedAs (isDone (st .phase)) p at ⌝ }
-{
-    let f = st.phase;
-    if is_done(f) {
-        return Written::Length(p);
-    }
-    early(at)
-}
-
 // Every section from `from` on, with the lines of what was read; or why the interchange is refused.
 fn lay_among(
     s: &[u8],
@@ -96,15 +74,10 @@ fn lay_among(
     let mut p = accepted_line(&mut *out, s, from, t, y);
     let mut st = unread();
     let mut at = from;
-    while at < s.len() {
-        let f = st.phase;
-        if is_done(f) {
-            return early(at);
-        }
+    loop {
         match next_section(s, at, t, y, st, marks, heads, names, slots, rows) {
-            Reached::Stop(f) => {
-                return Written::Refused(f);
-            }
+            Reached::Stop(f) => return Written::Refused(f),
+            Reached::Over => return Written::Length(p),
             Reached::On(a) => {
                 p = put_section(&mut *out, p, s, t, y, a.closed, a.layout, rows);
                 st = a.state;
@@ -112,7 +85,6 @@ fn lay_among(
             }
         }
     }
-    ended(st, at, p)
 }
 
 fn lay_small(s: &[u8], from: usize, t: &[u8; 256], y: Syntax, out: &mut [u8]) -> Written

@@ -2,7 +2,7 @@
 use Prim.Native.Nat.{ℕ, zero, suc, _+_, _-_, _*_, _/_, _%_, _≤_, _<_}
 use native.Mathlib.Omega.{arith}
 use mathlib.Core.Bool.{Bool, true, false, cond}
-use mathlib.Core.List.{List, [], _∷_, _++_, append-nil, append-assoc}
+use mathlib.Core.List.{List, [], _∷_, _++_, append-nil}
 use mathlib.Core.Path.{_≡_, refl, ap, sym, _∙_, subst}
 use lib.ListN.{length, length-append}
 use lib.Seq.{slice}
@@ -10,10 +10,7 @@ use Rattle.syntax.specs.CuttingLaws.{slice-take}
 use borrow.Author.Tests.{lt-ltb, le-ltb}
 use Rattle.syntax.specs.Octets.{same}
 use Rattle.syntax.specs.Content.{content}
-use Rattle.walk.specs.SectionLaws.{plain-content}
-use Rattle.syntax.specs.Service.{fit}
 use Rattle.syntax.specs.Opening.{begunOf}
-use Rattle.syntax.specs.Tree.{printS}
 use Rattle.syntax.specs.declared.Refusal.{Refusal}
 use Rattle.syntax.specs.declared.Service.{Service}
 use Rattle.syntax.specs.declared.Syntax.{Syntax}
@@ -21,29 +18,24 @@ use Rattle.syntax.specs.declared.opening.Start.{Start}
 use Rattle.syntax.specs.declared.opening.Begun.{Begun}
 use Rattle.syntax.specs.declared.opening.Begun.the-variants.{Ready as Begins, Refused as Refuses}
 use Rattle.grammar.specs.Lists.{Snoc, nil, _▷_, size, sum}
-use Rattle.grammar.specs.Segments.{Unt, seg}
-use Rattle.grammar.specs.Interchange.{Leaf, Open, Message, message, Reading, start, idle, busy, done, shown, showOpen, showMessage}
+use Rattle.grammar.specs.Interchange.{Leaf, Open, Message, message, Reading, idle, done, shown, showMessage}
 use Rattle.grammar.specs.Places.{wide}
 use Rattle.grammar.specs.Valid.{Interchange, interchange, openingIn}
-use Rattle.grammar.specs.Verdict.{Verdict, read, refused, accepted, refusedWith, verdictOf, verdictBy, unaAt, loadsM}
-use Rattle.message.specs.Summary.{startS, stateOf}
-use Rattle.turns.specs.Held.{stateIn}
+use Rattle.grammar.specs.Verdict.{Verdict, read, refused, accepted, verdictOf, verdictBy, unaAt, loadsM}
 use Rattle.turns.specs.declared.state.State.{State}
-use Rattle.walk.specs.RunLaws.{Fresh, answerFrom, Walking, walking-start, unreadAs, unread-idle}
+use Rattle.walk.specs.RunLaws.{Fresh, answerFrom, Walking, ReadAll, unreadAs, verdict-by}
 use Rattle.walk.specs.Sections.{Laid as LaidOut, Stays, begins, ends, breaks, SectionBy, Passing}
-use Rattle.walk.specs.SectionLaws.{Looping}
+use Rattle.walk.specs.SectionLaws.{plain-content, Looping, looping-start, looping-on, unread-start}
 use Rattle.walk.specs.declared.sections.Layout.{Layout}
 use Rattle.walk.specs.declared.sections.Section.{Section}
-use Rattle.judge.specs.FindingLaws.{verdict-by}
 use Rattle.groups.specs.CallsLaws.{begins as begun-so}
-use Rattle.groups.specs.Calls.{serviceIn}
 use Rattle.writing.specs.Laid.{Laid}
-use Rattle.writing.specs.LaidLaws.{laid-same, laid-length, laid-all, laid-part, sets-joined, laid-more, laid-none}
+use Rattle.writing.specs.LaidLaws.{laid-same, laid-length, laid-part, laid-more, laid-none}
 use Rattle.writing.specs.Written.{Text, text, noText, refusedAs, Writes}
 use Rattle.writing.specs.WrittenLaws.{writes-none, writes-long, writes-full, writes-done}
 use Rattle.writing.specs.declared.Written.{Written}
 use Rattle.writing.specs.declared.Written.the-variants.{Length, Refused}
-use Rattle.register.specs.Register.{highest, entryOf, entriesOf, registerIn, registerBy, registerOf, entryAt, sectionAt, entriesRead, LaysAll, checkRefused, checkedAs}
+use Rattle.register.specs.Register.{highest, entryOf, entriesOf, registerBy, registerOf, entryAt, sectionAt, entriesRead, LaysAll, checkRefused, checkedAs}
 use Rattle.register.specs.declared.register.Checked.the-variants.{Same, Refused as Differs}
 
 -- ---- lengths
@@ -123,25 +115,11 @@ pub record Registering (y : Syntax) (s : List ℕ) (from : ℕ) (x : State) (h l
   pub same : length out ≡ length out₀
   pub laid : Laid out₀ 4 (entriesRead (y .service) from (looping .walks .tree)) p out
 
-none-read : {y : Syntax} {s : List ℕ} {p : ℕ} {x : State} {h l b : List ℕ} {i : ℕ} (w : Walking y s p x h l b i) → x ≡ unreadAs → [] ≡ entriesRead (y .service) p (w .tree)
-none-read {y} {s} {p} {x} {h} {l} w e = by (w .tree) (w .same ∙ ap (λ (x : State). stateIn (y .service .release) s x h l) e)
-  where
-    by : (z : Reading) → stateOf z ≡ startS → [] ≡ entriesRead (y .service) p z
-    by start q = refl
-    by (idle u ms) q = let k : _≡_ {A = ℕ} 0 1 = cc in absurd (omega arith)
-    by (busy u ms o) q = let k : _≡_ {A = ℕ} 0 1 = cc in absurd (omega arith)
-    by (done u ms z) q = let k : _≡_ {A = ℕ} 0 1 = cc in absurd (omega arith)
-
 pub registering-start : {y : Syntax} {s : List ℕ} {from : ℕ} {x : State} {h l b m rows out : List ℕ} → Fresh y s l b → (length m ≡ 40) × (length h ≡ 36) × (length rows ≡ 18)
     → x ≡ unreadAs → Registering y s from x h l b from m rows l b out out 4
-registering-start f n e =
-    let w = walking-start f (n .1) e in
-    record {
-      looping = record { walks = w; between = unread-idle e; marks = n .0; room = n .2; names = refl; slots = refl };
-      near = omega arith;
-      same = refl;
-      laid = laid-same (none-read w e) laid-none;
-    }
+registering-start {y} {from = from} f n e =
+    let g = looping-start f n e in
+    record { looping = g; near = omega arith; same = refl; laid = laid-same (sym (ap (entriesRead (y .service) from) (unread-start (g .walks) e))) laid-none }
 
 stays-read : (σ : Service) (p : ℕ) {x z : Reading} → Stays x z → entriesRead σ p x ≡ entriesRead σ p z
 stays-read σ p (begins u) = refl
@@ -181,19 +159,16 @@ pub registering-on : {y : Syntax} {s : List ℕ} {from : ℕ} {x : State} {h l b
     → Laid out p (sectionAt (c .layout) (c .closed)) r out′ → r ≤ p + 20
     → Registering y s from (c .state) h′ l′ b′ (c .next) m′ rows′ l₀ b₀ out₀ out′ r
 registering-on g v n a d e k = record {
-  looping = record { walks = v .walks; between = v .between; marks = n; room = v .long; names = a ∙ g .looping .names; slots = d ∙ g .looping .slots };
+  looping = looping-on (g .looping) v n a d;
   near = omega (arith, g .near, k, v .far);
   same = laid-length e ∙ g .same;
   laid = entries-on (g .looping .walks) v (g .laid) e;
 }
 
-pub lays-early : (y : Syntax) (s : List ℕ) (p : ℕ) (out out′ : List ℕ) {r : Written} {i : ℕ} → r ≡ refusedAs 7 i → answerFrom y s p ≡ refused 7 i → LaysAll y s p out r out′
-lays-early y s p out out′ e q = subst (λ (r : Written). LaysAll y s p out r out′) (sym e) q
-
+-- all was read
 pub lays-told : {y : Syntax} {s : List ℕ} {from : ℕ} {x : State} {h l b : List ℕ} {i : ℕ} {m rows l₀ b₀ out₀ out′ : List ℕ} {p : ℕ}
     (g : Registering y s from x h l b i m rows l₀ b₀ out₀ out′ p)
-    → (answerFrom y s from ≡ read (g .looping .walks .tree)) × ((u : Leaf) × (ms : Snoc Message) × (z : Leaf) × (g .looping .walks .tree ≡ done u ms z))
-    → LaysAll y s from out₀ (Length p) out′
+    → ReadAll (g .looping .walks) → LaysAll y s from out₀ (Length p) out′
 lays-told {y} {s} {from} g a =
     let t = a .1 in
     let e = t .3 in

@@ -8,15 +8,13 @@ ghost use Rattle.syntax.specs.Opening.{begunOf};
 ghost use Rattle.syntax.specs.Repertoire.{Table};
 ghost use Rattle.syntax.specs.declared.opening.Begun.the-variants.{Ready as Begins};
 ghost use Rattle.walk.specs.RunLaws.{Fresh};
-ghost use Rattle.writing.specs.Written.{Writes, refusedAs};
+ghost use Rattle.writing.specs.Written.{Writes};
 ghost use Rattle.writing.specs.Laid.{Laid};
 ghost use Rattle.writing.specs.declared.Written.the-variants.{Length};
 ghost use Rattle.register.specs.Register.{registerOf, LaysAll, checkRefused, checkedAs, told, checkNumbers};
 ghost use Rattle.register.specs.RegisterLaws.{Whole, registerAt};
 use crate::entries::put_four;
 use crate::entries::put_section;
-use judge::run::is_done;
-use judge::run::unread;
 use syntax::Refusal;
 use syntax::Syntax;
 use syntax::content::content_is;
@@ -26,21 +24,13 @@ use syntax::opening::begin;
 use syntax::repertoire::table;
 use walk::sections::Reached;
 use walk::sections::next_section;
+use walk::sections::unread;
 use writing::Written;
 use writing::refused;
 
 pub enum Checked {
     Same,
     Refused(Refusal),
-}
-
-fn early(at: usize) -> Written
-    ensures { λ r. ⌜ r ≡ refusedAs 7 at ⌝ }
-{
-    Written::Refused(Refusal {
-        number: 7,
-        place: at,
-    })
 }
 
 // Every section from `from` on, with the entries of what was read behind the 4 octets of the count; or why the interchange is refused.
@@ -64,15 +54,10 @@ fn lay_among(
     let mut p: usize = 4;
     let mut st = unread();
     let mut at = from;
-    while at < s.len() {
-        let f = st.phase;
-        if is_done(f) {
-            return early(at);
-        }
+    loop {
         match next_section(s, at, t, y, st, marks, heads, names, slots, rows) {
-            Reached::Stop(f) => {
-                return Written::Refused(f);
-            }
+            Reached::Stop(f) => return Written::Refused(f),
+            Reached::Over => return Written::Length(p),
             Reached::On(a) => {
                 p = put_section(&mut *out, p, a.closed, a.layout);
                 let x = a.state;
@@ -81,11 +66,6 @@ fn lay_among(
             }
         }
     }
-    let f = st.phase;
-    if !is_done(f) {
-        return early(at);
-    }
-    Written::Length(p)
 }
 
 fn lay_small(s: &[u8], from: usize, t: &[u8; 256], y: Syntax, out: &mut [u8]) -> Written

@@ -75,14 +75,6 @@ toldAs (Inside x) = Spans x
 toldAs (Behind x) = Spans x
 toldAs Broken = Missing
 
-abbrev pub earlyAs : ℕ → Spanned
-earlyAs i = Refused (record { number = 7; place = i })
-
--- behind the last section, at i: whether UNZ was read, and what is kept
-abbrev pub endedAs : Bool → Sofar → ℕ → Spanned
-endedAs true k i = toldAs k
-endedAs false k i = earlyAs i
-
 -- the whole interchange was read from p on, and this is its run
 abbrev pub WholeBy : Syntax → List ℕ → ℕ → Option Span → Type 0
 WholeBy y s p q = (u : Leaf) × (ms : Snoc Message) × (z : Leaf) × ((answerFrom y s p ≡ read (done u ms z)) × (spanAt (y .service) p u ms ≡ q))

@@ -12,19 +12,17 @@ use Rattle.syntax.specs.declared.Service.{Service}
 use Rattle.syntax.specs.declared.Syntax.{Syntax}
 use Rattle.grammar.specs.Lists.{Snoc, nil, _▷_, _+++_, joined, check, every}
 use Rattle.grammar.specs.Segments.{Unb, Unt, seg}
-use Rattle.grammar.specs.Interchange.{Leaf, Open, msg, Message, message, Reading, start, idle, busy, done, shown, showOpen, showMessage}
+use Rattle.grammar.specs.Interchange.{Leaf, Open, msg, Message, message, Reading, start, idle, done, shown, showOpen, showMessage}
 use Rattle.grammar.specs.Places.{wide}
 use Rattle.grammar.specs.PlacesLaws.{wide-join}
 use Rattle.grammar.specs.TestLaws.{is-true}
-use Rattle.grammar.specs.Verdict.{read, refused}
-use Rattle.message.specs.Summary.{startS, stateOf}
-use Rattle.turns.specs.Held.{stateIn}
-use Rattle.walk.specs.RunLaws.{isDone, Fresh, answerFrom, Walking, walking-start, walking-short, walking-read, unreadAs, unread-idle}
+use Rattle.grammar.specs.Verdict.{read}
+use Rattle.walk.specs.RunLaws.{Fresh, answerFrom, Walking, ReadAll, unreadAs}
 use Rattle.walk.specs.Sections.{autoO, Stays, begins, ends, breaks, SectionBy, Passing}
-use Rattle.walk.specs.SectionLaws.{Looping}
+use Rattle.walk.specs.SectionLaws.{Looping, looping-start, looping-on, unread-start}
 use Rattle.spans.specs.Span.{autoM, Parted, parted, joinedBy, partedOf, other, runRight, Span, span, spanBy}
 use Rattle.spans.specs.SpanLaws.{PartsOf, parts}
-use Rattle.spans.specs.Spanning.{sofarBy, sofarAt, stepOf, sectionOf, startOf, endOf, toldAs, earlyAs, endedAs, WholeBy, SpanIs}
+use Rattle.spans.specs.Spanning.{sofarBy, sofarAt, stepOf, sectionOf, startOf, endOf, toldAs, WholeBy, SpanIs}
 use Rattle.walk.specs.declared.sections.Section.{Section}
 use Rattle.turns.specs.declared.state.State.{State}
 use Rattle.spans.specs.declared.span.Run.{Run}
@@ -223,34 +221,22 @@ pub record Spanning (y : Syntax) (s : List ℕ) (from : ℕ) (x : State) (h l b 
   pub within : endOf k ≤ length s
 
 -- nothing was read yet
-keeps-start : {y : Syntax} {s : List ℕ} {p : ℕ} {x : State} {h l b : List ℕ} {i : ℕ} (w : Walking y s p x h l b i) → x ≡ unreadAs → Before ≡ sofarAt (y .service) p (w .tree)
-keeps-start {y} {s} {p} {x} {h} {l} w e = by (w .tree) (w .same ∙ ap (λ (x : State). stateIn (y .service .release) s x h l) e)
-  where
-    by : (z : Reading) → stateOf z ≡ startS → Before ≡ sofarAt (y .service) p z
-    by start q = refl
-    by (idle u ms) q = let k : _≡_ {A = ℕ} 0 1 = cc in absurd (omega arith)
-    by (busy u ms o) q = let k : _≡_ {A = ℕ} 0 1 = cc in absurd (omega arith)
-    by (done u ms z) q = let k : _≡_ {A = ℕ} 0 1 = cc in absurd (omega arith)
-
 pub spanning-start : {y : Syntax} {s : List ℕ} {from : ℕ} {x : State} {h l b m rows : List ℕ} → Fresh y s l b → (length m ≡ 40) × (length h ≡ 36) × (length rows ≡ 18) → x ≡ unreadAs
     → Spanning y s from x h l b from m rows l b Before
-spanning-start f n e =
-    let w = walking-start f (n .1) e in
-    record { looping = record { walks = w; between = unread-idle e; marks = n .0; room = n .2; names = refl; slots = refl }; keeps = keeps-start w e; within = omega arith }
+spanning-start {y} {from = from} f n e =
+    let g = looping-start f n e in
+    record { looping = g; keeps = sym (ap (sofarAt (y .service) from) (unread-start (g .walks) e)); within = omega arith }
 
 pub spanning-on : {y : Syntax} {s : List ℕ} {from : ℕ} {x : State} {h l b : List ℕ} {i : ℕ} {m rows l₀ b₀ : List ℕ} {k : Sofar} (g : Spanning y s from x h l b i m rows l₀ b₀ k)
     {c : Section} {h′ l′ b′ m′ rows′ : List ℕ} {k′ : Sofar} → Passing (g .looping .walks) c h′ l′ b′ rows′ → length m′ ≡ 40 → length l′ ≡ length l → length b′ ≡ length b
     → k′ ≡ sectionOf k (c .closed) (c .layout) → Spanning y s from (c .state) h′ l′ b′ (c .next) m′ rows′ l₀ b₀ k′
 spanning-on {s = s} {k = k} g p n a d e = record {
-  looping = record { walks = p .walks; between = p .between; marks = n; room = p .long; names = a ∙ g .looping .names; slots = d ∙ g .looping .slots };
+  looping = looping-on (g .looping) p n a d;
   keeps = e ∙ keeps-on (g .looping .walks) p k (g .keeps);
   within = subst (λ (k : Sofar). endOf k ≤ length s) (sym e) (keeps-within (g .looping .walks) p k (g .within));
 }
 
 -- ---- the end
-
-pub span-early : (y : Syntax) (s : List ℕ) (p : ℕ) {f : Spanned} {i : ℕ} → f ≡ earlyAs i → answerFrom y s p ≡ refused 7 i → SpanIs y s p f
-span-early y s p e q = subst (λ (f : Spanned). SpanIs y s p f) (sym e) q
 
 module _ (y : Syntax) (s : List ℕ) (p : ℕ) (u : Leaf) (ms : Snoc Message) (z : Leaf) (a : answerFrom y s p ≡ read (done u ms z)) where
   tells : {k : Sofar} → k ≡ sofarBy (y .service) p u (partedOf ms) → WholeBy y s p (spanOf k)
@@ -266,26 +252,9 @@ module _ (y : Syntax) (s : List ℕ) (p : ℕ) (u : Leaf) (ms : Snoc Message) (z
   span-of Broken q n = tells q
 
 -- all was read
-span-told : {y : Syntax} {s : List ℕ} {p : ℕ} {x : State} {h l b : List ℕ} {i : ℕ} (w : Walking y s p x h l b i) (k : Sofar) {f : Spanned} → f ≡ toldAs k
-    → (answerFrom y s p ≡ read (w .tree)) × ((u : Leaf) × (ms : Snoc Message) × (z : Leaf) × (w .tree ≡ done u ms z))
-    → k ≡ sofarAt (y .service) p (w .tree) → endOf k ≤ length s → SpanIs y s p f
-span-told {y} {s} {p} w k g a q n =
+pub span-told : {y : Syntax} {s : List ℕ} {from : ℕ} {x : State} {h l b : List ℕ} {i : ℕ} {m rows l₀ b₀ : List ℕ} {k : Sofar} (g : Spanning y s from x h l b i m rows l₀ b₀ k)
+    → ReadAll (g .looping .walks) → {f : Spanned} → f ≡ toldAs k → SpanIs y s from f
+span-told {y} {s} {from} {k = k} g a e =
     let t = a .1 in
-    let e = t .3 in
-    subst (λ (f : Spanned). SpanIs y s p f) (sym g) (span-of y s p (t .0) (t .1) (t .2) (a .0 ∙ ap read e) k (q ∙ ap (sofarAt (y .service) p) e) n)
-
--- behind the last section: the run, or the input ended early
-module _ (k : Sofar) (i : ℕ) {c d : Bool} {r : Spanned} (e : d ≡ c) where
-  pub ended-done : d ≡ true → r ≡ toldAs k → r ≡ endedAs c k i
-  ended-done t q = rw (← e, t) q
-
-  pub ended-early : d ≡ false → r ≡ earlyAs i → r ≡ endedAs c k i
-  ended-early t q = rw (← e, t) q
-
-pub span-ended : {y : Syntax} {s : List ℕ} {from : ℕ} {x : State} {h l b : List ℕ} {i : ℕ} {m rows l₀ b₀ : List ℕ} {k : Sofar} (g : Spanning y s from x h l b i m rows l₀ b₀ k) → length s ≤ i
-    → {f : Spanned} → f ≡ endedAs (isDone (x .phase)) k i → SpanIs y s from f
-span-ended {y} {s} {from} {x} {i = i} {k = k} g n {f} e = by (isDone (x .phase)) refl e
-  where
-    by : (c : Bool) → isDone (x .phase) ≡ c → f ≡ endedAs c k i → SpanIs y s from f
-    by true d e = span-told (g .looping .walks) k e (walking-read (g .looping .walks) n d) (g .keeps) (g .within)
-    by false d e = span-early y s from e (walking-short (g .looping .walks) n d)
+    subst (λ (f : Spanned). SpanIs y s from f) (sym e)
+    (span-of y s from (t .0) (t .1) (t .2) (a .0 ∙ ap read (t .3)) k (g .keeps ∙ ap (sofarAt (y .service) from) (t .3)) (g .within))

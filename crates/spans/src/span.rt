@@ -5,16 +5,14 @@ ghost use lib.Dec.{T};
 ghost use lib.ListN.{length};
 ghost use Rattle.syntax.specs.Service.{fit};
 ghost use Rattle.syntax.specs.Repertoire.{Table};
-ghost use Rattle.walk.specs.RunLaws.{isDone, Fresh};
-ghost use Rattle.spans.specs.Spanning.{stepOf, sectionOf, toldAs, earlyAs, endedAs, SpanIs};
-use judge::run::is_done;
-use judge::run::unread;
+ghost use Rattle.walk.specs.RunLaws.{Fresh};
+ghost use Rattle.spans.specs.Spanning.{stepOf, sectionOf, toldAs, SpanIs};
 use syntax::Refusal;
 use syntax::Syntax;
-use turns::state::State;
 use walk::sections::Layout;
 use walk::sections::Reached;
 use walk::sections::next_section;
+use walk::sections::unread;
 
 // From the UNH of the first message to behind the UNT of the last.
 pub struct Run {
@@ -91,26 +89,6 @@ fn told(k: Sofar) -> Spanned
     }
 }
 
-fn early(at: usize) -> Spanned
-    ensures { λ r. ⌜ r ≡ earlyAs at ⌝ }
-{
-    Spanned::Refused(Refusal {
-        number: 7,
-        place: at,
-    })
-}
-
-// Behind the last section, at `at`: the run, where UNZ was read.
-fn ended(st: State, at: usize, k: Sofar) -> Spanned
-    ensures { λ r. ⌜ r ≡ endedAs (isDone (st .phase)) k at ⌝ }
-{
-    let p = st.phase;
-    if is_done(p) {
-        return told(k);
-    }
-    early(at)
-}
-
 // Every section from `from` on, with what is known of the run.
 fn span_among(
     s: &[u8],
@@ -131,15 +109,10 @@ fn span_among(
     let mut st = unread();
     let mut at = from;
     let mut k = Sofar::Before;
-    while at < s.len() {
-        let p = st.phase;
-        if is_done(p) {
-            return early(at);
-        }
+    loop {
         match next_section(s, at, t, y, st, marks, heads, names, slots, rows) {
-            Reached::Stop(f) => {
-                return Spanned::Refused(f);
-            }
+            Reached::Stop(f) => return Spanned::Refused(f),
+            Reached::Over => return told(k),
             Reached::On(a) => {
                 k = after_section(k, a.closed, a.layout);
                 st = a.state;
@@ -147,7 +120,6 @@ fn span_among(
             }
         }
     }
-    ended(st, at, k)
 }
 
 fn span_small(s: &[u8], from: usize, t: &[u8; 256], y: Syntax) -> Spanned

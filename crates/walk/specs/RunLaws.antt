@@ -37,7 +37,7 @@ use Rattle.grammar.specs.Running.{Passed, Good}
 use Rattle.grammar.specs.RunningLaws.{good-start, passed-good}
 use Rattle.grammar.specs.WalkLaws.{step-passed}
 use Rattle.grammar.specs.StartLaws.{start-read}
-use Rattle.grammar.specs.Verdict.{Answer, read, refused, tests, decided, then, atEnd, unless-done, walk}
+use Rattle.grammar.specs.Verdict.{Answer, read, refused, tests, decided, then, atEnd, unless-done, walk, concluded, verdictOf, verdictBy, unaAt}
 use Rattle.elements.specs.Kinds.{kindOf}
 use Rattle.elements.specs.Octets.{askedAt}
 use Rattle.references.specs.Refs.{refsIn, Indexed}
@@ -120,6 +120,10 @@ pub record Walking (y : Syntax) (s : List ℕ) (from : ℕ) (x : State) (h l b :
   pub first : x .phase ≡ Start → x .count ≡ 0
   pub goes : walk y tree (chain (y .service) false (drop i s)) i ≡ answerFrom y s from
   pub placed : i ≡ from + wide (y .service) (shown tree)
+
+-- all was read: the answer is the reading, and it ends with UNZ
+abbrev pub ReadAll : {y : Syntax} {s : List ℕ} {from : ℕ} {x : State} {h l b : List ℕ} {i : ℕ} → Walking y s from x h l b i → Type 0
+ReadAll {y = y} {s = s} {from = from} w = (answerFrom y s from ≡ read (w .tree)) × ((u : Leaf) × (ms : Snoc Message) × (z : Leaf) × (w .tree ≡ done u ms z))
 
 -- what a turn of the walk asks: a place with octets left, before UNZ
 pub record Going (y : Syntax) (s : List ℕ) (x : State) (h l b : List ℕ) (i : ℕ) (m : List ℕ) : Type 0 where
@@ -299,12 +303,10 @@ module _ {y : Syntax} {s : List ℕ} {from : ℕ} {x : State} {h l b : List ℕ}
   stands e = ap over (w .same) ∙ over-in (y .service .release) s x h l ∙ e
 
   -- the whole was read
-  pub walking-read : length s ≤ i → isDone (x .phase) ≡ true
-      → (answerFrom y s from ≡ read (w .tree)) × ((u : Leaf) × (ms : Snoc Message) × (z : Leaf) × (w .tree ≡ done u ms z))
+  pub walking-read : length s ≤ i → isDone (x .phase) ≡ true → ReadAll w
   walking-read k e = by (w .tree) (stands e) refl
     where
-      by : (t : Reading) → over (stateOf t) ≡ true → w .tree ≡ t
-          → (answerFrom y s from ≡ read (w .tree)) × ((u : Leaf) × (ms : Snoc Message) × (z : Leaf) × (w .tree ≡ done u ms z))
+      by : (t : Reading) → over (stateOf t) ≡ true → w .tree ≡ t → ReadAll w
       by start a d = absurd (false≢true a)
       by (idle u ms) a d = absurd (false≢true a)
       by (busy u ms o) a d = absurd (false≢true a)
@@ -436,6 +438,10 @@ pub begun-fits : (s : List ℕ) {b : Opening} {r : Begun} → r ≡ begunOf s �
 begun-fits s {b} e d =
     let a = start-read s b (sym e ∙ d) in
     (a .fits, leb→le (length s) 65535 (and-right (leb 1 (length s)) (leb (length s) 65535) (a .lengths)))
+
+-- what the verdict is, by the walk from UNB on
+pub verdict-by : (s : List ℕ) {b : Opening} {r : Begun} {a : Answer} → r ≡ begunOf s → r ≡ Begins b → answerFrom (b .syntax) s (b .at) ≡ a → verdictOf s ≡ concluded (unaAt s) a
+verdict-by s {b} e d q = ap (verdictBy s) (sym e ∙ d) ∙ ap (concluded (unaAt s)) q
 
 -- ---- empty tables
 

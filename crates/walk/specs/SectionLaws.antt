@@ -2,9 +2,9 @@
 use Prim.Native.Nat.{ℕ, suc, _+_, _-_, _≤_, _<_}
 use native.Mathlib.Omega.{arith}
 use mathlib.Core.Path.{_≡_, refl, ap, sym, _∙_, subst}
-use mathlib.Core.Bool.{Bool, true, false, cond, not, _&&_, false≢true}
+use mathlib.Core.Bool.{Bool, true, false, cond, false≢true}
 use mathlib.Core.List.{List, [], _∷_}
-use mathlib.Core.Option.{Option, some}
+use mathlib.Core.Option.{some}
 use lib.Dec.{T, eqb}
 use borrow.Author.Tests.{ne-eqb}
 use lib.ListN.{length, take, drop, getD}
@@ -12,17 +12,17 @@ use lib.Seq.{slice, drop-cons}
 use Rattle.syntax.specs.Octets.{octets, same}
 use Rattle.syntax.specs.CuttingLaws.{slice-take}
 use Rattle.syntax.specs.Service.{fit}
-use Rattle.syntax.specs.Content.{releases, contentFrom, content}
+use Rattle.syntax.specs.Content.{contentFrom, content}
 use Rattle.syntax.specs.Tree.{Segment, printS}
 use Rattle.syntax.specs.declared.Service.{Service}
 use Rattle.syntax.specs.declared.Syntax.{Syntax}
 use Rattle.syntax.specs.declared.Refusal.{Refusal}
-use Rattle.grammar.specs.Lists.{Snoc, nil, _▷_, _+++_, size, sum, each, joined}
+use Rattle.grammar.specs.Lists.{Snoc, nil, _▷_, _+++_, size, sum, joined}
 use Rattle.grammar.specs.ListsLaws.{each-size}
 use Rattle.grammar.specs.Segments as segments
-use Rattle.grammar.specs.Segments.{Named, Free, kindIn, tags, seg, elementsOf, text, reference}
+use Rattle.grammar.specs.Segments.{Named, Free, kindIn, tags, seg, elementsOf, reference}
 use Rattle.grammar.specs.Interchange.{Leaf, Body, plain, ack, Open, msg, Message, message, Reading, start, idle, busy, done, showHeader, showBody, showTrailer, showOpen, showMessage, shown}
-use Rattle.grammar.specs.Rules.{refH, refM, refO}
+use Rattle.grammar.specs.Rules.{refH, refO}
 use Rattle.grammar.specs.Placing.{place}
 use Rattle.grammar.specs.PlacingLaws.{tag-named}
 use Rattle.grammar.specs.Places.{wide, headersIn, trailersIn, Where}
@@ -35,21 +35,21 @@ use Rattle.elements.specs.Octets.{textAt}
 use Rattle.elements.specs.declared.Kind.{Kind}
 use Rattle.elements.specs.declared.Kind.the-variants.{Ust, Qty, Cnt, Other}
 use Rattle.message.specs.Heads.{headRefs, headFlags, posOr}
-use Rattle.message.specs.Summary.{Summary, StateS, startS, idleS, busyS, doneS, stateOf, summaryOf, keptOf, groupOf, sumsOf, freeAt}
-use Rattle.message.specs.Steps.{summaryIn, Sought}
+use Rattle.message.specs.Summary.{Summary, startS, idleS, busyS, doneS, stateOf, summaryOf, keptOf, groupOf, sumsOf, freeAt}
+use Rattle.message.specs.Steps.{Sought}
 use Rattle.message.specs.declared.Group.{Group}
 use Rattle.message.specs.declared.Group.the-variants.{Opened as Fresh}
 use Rattle.message.specs.declared.Message.{Message as Kept}
 use Rattle.turns.specs.Held.{phased, stateIn}
 use Rattle.walk.specs.Layout.{spotsOf, spotStep, rowStep, RowRoom, Rows}
 use Rattle.walk.specs.LayoutLaws.{place-on, spots-on, spots-open, rows-on, rows-open, room-on}
-use Rattle.walk.specs.RunLaws.{isDone, isBusy, answerFrom, Walking, Onward, long-print}
-use Rattle.walk.specs.Sections.{nameableIn, laidOut, autoO, Stays, begins, ends, breaks, Laid, Within, UntBy, AtUnt, SectionBy, Passing, SectionIs, UntIs, Starting}
+use Rattle.walk.specs.RunLaws.{unreadAs, isBusy, Fresh as Empty, answerFrom, Walking, ReadAll, Onward, long-print, walking-start, unread-idle}
+use Rattle.walk.specs.Sections.{nameableIn, laidOut, autoO, Stays, begins, ends, breaks, Within, UntBy, AtUnt, SectionBy, Passing, SectionIs, UntIs, Between, ReachedIs}
 use Rattle.walk.specs.declared.layout.Spots.{Spots}
 use Rattle.walk.specs.declared.sections.Layout.{Layout}
 use Rattle.walk.specs.declared.sections.Section.{Section}
 use Rattle.walk.specs.declared.sections.Reached.{Reached}
-use Rattle.walk.specs.declared.sections.Reached.the-variants.{On, Stop}
+use Rattle.walk.specs.declared.sections.Reached.the-variants.{On, Over, Stop}
 use Rattle.turns.specs.declared.state.Phase.{Phase}
 use Rattle.turns.specs.declared.state.Phase.the-variants.{Start, Idle, Busy, Done}
 use Rattle.turns.specs.declared.state.State.{State}
@@ -446,6 +446,7 @@ module _ {y : Syntax} {s : List ℕ} {from : ℕ} {x : State} {h l b : List ℕ}
 
   pub section-closed : (r : Reached) → UntIs y s from i u ms r h′ l′ b′ rows → SectionIs w r h′ l′ b′ rows
   section-closed (On c) q = passing c q
+  section-closed Over q = absurd q
   section-closed (Stop f) q = q
 
 -- ---- a walk over sections: what holds at its head, with the marks m, the rows, and the lengths of l and b kept
@@ -458,17 +459,50 @@ pub record Looping (y : Syntax) (s : List ℕ) (from : ℕ) (x : State) (h l b :
   pub names : length l ≡ length l₀
   pub slots : length b ≡ length b₀
 
-module _ {y : Syntax} {s : List ℕ} {from : ℕ} {x : State} {h l b : List ℕ} {i : ℕ} {m rows l₀ b₀ : List ℕ} (g : Looping y s from x h l b i m rows l₀ b₀) where
-  pub starting : T (fit (y .service)) → i < length s → isDone (x .phase) ≡ false → Starting y s x h l b i rows m
-  starting f k d = record { fits = f; left = k; before = d; between = by (isBusy (x .phase)) refl; from = from; walks = g .walks; room = g .room; marks = g .marks }
-    where
-      by : (c : Bool) → isBusy (x .phase) ≡ c → isBusy (x .phase) ≡ false
-      by true e = let n = g .between e in absurd (omega (arith, n, k))
-      by false e = e
+-- before UNB
+pub unread-start : {y : Syntax} {s : List ℕ} {from : ℕ} {x : State} {h l b : List ℕ} {i : ℕ} (w : Walking y s from x h l b i) → x ≡ unreadAs → w .tree ≡ start
+unread-start {y} {s} {from} {x} {h} {l} w e = by (w .tree) (w .same ∙ ap (λ (x : State). stateIn (y .service .release) s x h l) e)
+  where
+    by : (z : Reading) → stateOf z ≡ startS → z ≡ start
+    by start q = refl
+    by (idle u ms) q = let k : _≡_ {A = ℕ} 0 1 = cc in absurd (omega arith)
+    by (busy u ms o) q = let k : _≡_ {A = ℕ} 0 1 = cc in absurd (omega arith)
+    by (done u ms z) q = let k : _≡_ {A = ℕ} 0 1 = cc in absurd (omega arith)
+
+pub looping-start : {y : Syntax} {s : List ℕ} {from : ℕ} {x : State} {h l b m rows : List ℕ} → Empty y s l b → (length m ≡ 40) × (length h ≡ 36) × (length rows ≡ 18) → x ≡ unreadAs
+    → Looping y s from x h l b from m rows l b
+looping-start f n e = record { walks = walking-start f (n .1) e; between = unread-idle e; marks = n .0; room = n .2; names = refl; slots = refl }
+
+-- a section further
+abbrev pub looping-on : {y : Syntax} {s : List ℕ} {from : ℕ} {x : State} {h l b : List ℕ} {i : ℕ} {m rows l₀ b₀ : List ℕ} (g : Looping y s from x h l b i m rows l₀ b₀)
+    {c : Section} {h′ l′ b′ m′ rows′ : List ℕ} → Passing (g .walks) c h′ l′ b′ rows′ → length m′ ≡ 40 → length l′ ≡ length l → length b′ ≡ length b
+    → Looping y s from (c .state) h′ l′ b′ (c .next) m′ rows′ l₀ b₀
+looping-on g p n a d = record { walks = p .walks; between = p .between; marks = n; room = p .long; names = a ∙ g .names; slots = d ∙ g .slots }
+
+-- all that a section, or the end, needs
+pub between-so : {y : Syntax} {s : List ℕ} {from : ℕ} {x : State} {h l b : List ℕ} {i : ℕ} {m rows l₀ b₀ : List ℕ} → Looping y s from x h l b i m rows l₀ b₀ → T (fit (y .service))
+    → Between y s x h l b i rows m
+between-so {from = from} g f = record { fits = f; between = g .between; from = from; walks = g .walks; room = g .room; marks = g .marks }
 
 module _ {y : Syntax} {s : List ℕ} {from : ℕ} {x : State} {h l b : List ℕ} {i : ℕ} (w : Walking y s from x h l b i) (h′ l′ b′ rows : List ℕ) where
-  pub passed : (r : Reached) {c : Section} → r ≡ On c → SectionIs w r h′ l′ b′ rows → Passing w c h′ l′ b′ rows
-  passed r q a = subst (λ (r : Reached). SectionIs w r h′ l′ b′ rows) q a
+  reached-as : (r : Reached) {v : Reached} → r ≡ v → ReachedIs w r h′ l′ b′ rows → ReachedIs w v h′ l′ b′ rows
+  reached-as r q a = subst (λ (r : Reached). ReachedIs w r h′ l′ b′ rows) q a
 
-  pub stopped : (r : Reached) {f : Refusal} → r ≡ Stop f → SectionIs w r h′ l′ b′ rows → answerFrom y s from ≡ refused (f .number) (f .place)
-  stopped r q a = subst (λ (r : Reached). SectionIs w r h′ l′ b′ rows) q a
+  pub passed : (r : Reached) {c : Section} → r ≡ On c → ReachedIs w r h′ l′ b′ rows → Passing w c h′ l′ b′ rows
+  passed r q a = reached-as r q a .1
+
+  -- a section starts before the end, and brings the walk nearer to it
+  pub starts : (r : Reached) {c : Section} → r ≡ On c → ReachedIs w r h′ l′ b′ rows → i < length s
+  starts r q a = reached-as r q a .0
+
+  pub nearer : (r : Reached) {c : Section} → r ≡ On c → ReachedIs w r h′ l′ b′ rows → length s - c .next < length s - i
+  nearer r {c} q a =
+      let n = starts r q a in
+      let f = passed r q a .far in
+      omega (arith, n, f)
+
+  pub read-all : (r : Reached) → r ≡ Over → ReachedIs w r h′ l′ b′ rows → ReadAll w
+  read-all r q a = reached-as r q a
+
+  pub stopped : (r : Reached) {f : Refusal} → r ≡ Stop f → ReachedIs w r h′ l′ b′ rows → answerFrom y s from ≡ refused (f .number) (f .place)
+  stopped r q a = reached-as r q a

@@ -4,8 +4,10 @@ use native.Mathlib.Omega.{arith}
 use mathlib.Core.Path.{_≡_, refl, ap, sym, _∙_, subst}
 use mathlib.Core.Bool.{Bool, true, false, false≢true}
 use mathlib.Core.List.{List}
+use lib.Dec.{T}
 use lib.ListN.{length, take}
 use lib.Seq.{take-all}
+use Rattle.syntax.specs.Service.{fit}
 use Rattle.syntax.specs.declared.Syntax.{Syntax}
 use Rattle.message.specs.declared.Group.{Group}
 use Rattle.message.specs.declared.Group.the-variants.{Opened as Fresh}
@@ -14,14 +16,14 @@ use Rattle.turns.specs.declared.state.Phase.the-variants.{Start, Idle, Busy, Do
 use Rattle.turns.specs.declared.state.State.{State}
 use Rattle.turns.specs.declared.state.Ahead.{Ahead}
 use Rattle.walk.specs.Layout.{spotStep, rowStep, RowRoom}
-use Rattle.walk.specs.RunLaws.{isDone, isBusy, Walking, Onward, Going, going, onward-far}
-use Rattle.walk.specs.Sections.{laidOut, Starting, AtUnt, Passing, SectionIs}
+use Rattle.walk.specs.RunLaws.{isDone, isBusy, Walking, Onward, Going, going, onward-far, walking-read, walking-short, walking-over}
+use Rattle.walk.specs.Sections.{laidOut, misplacedAs, endedAs, Starting, AtUnt, Passing, SectionIs, Between, ReachedIs}
 use Rattle.walk.specs.SectionLaws.{Since, row-room, within-on, within-close, section-open, section-other, section-closed}
 use Rattle.walk.specs.declared.layout.Spots.{Spots}
 use Rattle.walk.specs.declared.sections.Layout.{Layout}
 use Rattle.walk.specs.declared.sections.Section.{Section}
 use Rattle.walk.specs.declared.sections.Reached.{Reached}
-use Rattle.walk.specs.declared.sections.Reached.the-variants.{On}
+use Rattle.walk.specs.declared.sections.Reached.the-variants.{On, Over, Stop}
 
 -- nothing of the section was read, or the message that its first segment opened is still open
 pub data SoFar (y : Syntax) (s : List ℕ) (x₀ : State) (h₀ l₀ b₀ : List ℕ) (i₀ : ℕ) : State → List ℕ → List ℕ → List ℕ → ℕ → Spots → List ℕ → Type 0 where
@@ -138,11 +140,44 @@ module _ {y : Syntax} {s : List ℕ} {x₀ : State} {h₀ l₀ b₀ : List ℕ} 
 whole : (s : List ℕ) → take (length s - 0) s ≡ s
 whole s = take-all (length s - 0) s (omega arith)
 
-pub starting-whole : {y : Syntax} {s : List ℕ} {x : State} {h l b : List ℕ} {i : ℕ} {rows m : List ℕ} → Starting y s x h l b i rows m
+starting : {y : Syntax} {s : List ℕ} {x : State} {h l b : List ℕ} {i : ℕ} {rows m : List ℕ} → Between y s x h l b i rows m → i < length s → isDone (x .phase) ≡ false
+    → Starting y s x h l b i rows m
+starting {s = s} {x = x} {i = i} g k d =
+    record { fits = g .fits; left = k; before = d; between = by (isBusy (x .phase)) refl; from = g .from; walks = g .walks; room = g .room; marks = g .marks }
+  where
+    by : (c : Bool) → isBusy (x .phase) ≡ c → isBusy (x .phase) ≡ false
+    by true e = let n = g .between e in absurd (omega (arith, n, k))
+    by false e = e
+
+pub starting-whole : {y : Syntax} {s : List ℕ} {x : State} {h l b : List ℕ} {i : ℕ} {rows m : List ℕ} → Between y s x h l b i rows m → i < length s → isDone (x .phase) ≡ false
     → Starting y (take (length s - 0) s) x h l b i rows m
-starting-whole {y} {s} {x} {h} {l} {b} {i} {rows} {m} g = subst (λ (z : List ℕ). Starting y z x h l b i rows m) (sym (whole s)) g
+starting-whole {y} {s} {x} {h} {l} {b} {i} {rows} {m} g k d = subst (λ (z : List ℕ). Starting y z x h l b i rows m) (sym (whole s)) (starting g k d)
 
 module _ (y : Syntax) (s : List ℕ) (x : State) (h l b : List ℕ) (i : ℕ) (r : Reached) (h′ l′ b′ rows : List ℕ) where
-  pub section-whole : ((from : ℕ) (w : Walking y (take (length s - 0) s) from x h l b i) → SectionIs w r h′ l′ b′ rows)
-      → (from : ℕ) (w : Walking y s from x h l b i) → SectionIs w r h′ l′ b′ rows
-  section-whole f = subst (λ (z : List ℕ). (from : ℕ) (w : Walking y z from x h l b i) → SectionIs w r h′ l′ b′ rows) (whole s) f
+  -- a section that is reached
+  pub section-whole : i < length s → ((from : ℕ) (w : Walking y (take (length s - 0) s) from x h l b i) → SectionIs w r h′ l′ b′ rows)
+      → (from : ℕ) (w : Walking y s from x h l b i) → ReachedIs w r h′ l′ b′ rows
+  section-whole k f from w = by r (subst (λ (z : List ℕ). (from : ℕ) (w : Walking y z from x h l b i) → SectionIs w r h′ l′ b′ rows) (whole s) f from w)
+    where
+      by : (r : Reached) → SectionIs w r h′ l′ b′ rows → ReachedIs w r h′ l′ b′ rows
+      by (On c) q = (k, q)
+      by Over q = absurd q
+      by (Stop f) q = q
+
+-- ---- the end
+
+pub ended-short : {d : Bool} {r : Reached} {i : ℕ} → d ≡ false → r ≡ misplacedAs i → r ≡ endedAs d i
+ended-short {i = i} e q = q ∙ sym (ap (λ (d : Bool). endedAs d i) e)
+
+module _ (y : Syntax) (s : List ℕ) (x : State) (h l b : List ℕ) (i : ℕ) (r : Reached) (h′ l′ b′ rows : List ℕ) where
+  -- the octets are over
+  pub section-ended : length s ≤ i → {d : Bool} → d ≡ isDone (x .phase) → r ≡ endedAs d i → (from : ℕ) (w : Walking y s from x h l b i) → ReachedIs w r h′ l′ b′ rows
+  section-ended k {d} e q from w = subst (λ (r : Reached). ReachedIs w r h′ l′ b′ rows) (sym q) (by d e)
+    where
+      by : (d : Bool) → d ≡ isDone (x .phase) → ReachedIs w (endedAs d i) h′ l′ b′ rows
+      by true e = walking-read w k (sym e)
+      by false e = walking-short w k (sym e)
+
+  -- octets behind UNZ
+  pub section-behind : T (fit (y .service)) → i < length s → isDone (x .phase) ≡ true → r ≡ misplacedAs i → (from : ℕ) (w : Walking y s from x h l b i) → ReachedIs w r h′ l′ b′ rows
+  section-behind f k e q from w = subst (λ (r : Reached). ReachedIs w r h′ l′ b′ rows) (sym q) (walking-over w f k e)

@@ -19,12 +19,12 @@ use Rattle.grammar.specs.Rules.{auto, refO}
 use Rattle.grammar.specs.Verdict.{loadsM, refused}
 use Rattle.grammar.specs.Places.{wide, headersIn, trailersIn}
 use Rattle.walk.specs.Layout.{headsAt, bodyAt, tailAt, spotsOf, Rows}
-use Rattle.walk.specs.RunLaws.{isDone, isBusy, answerFrom, Walking}
+use Rattle.walk.specs.RunLaws.{isDone, isBusy, answerFrom, Walking, ReadAll}
 use Rattle.walk.specs.declared.layout.Spots.{Spots}
 use Rattle.walk.specs.declared.sections.Layout.{Layout}
 use Rattle.walk.specs.declared.sections.Section.{Section}
 use Rattle.walk.specs.declared.sections.Reached.{Reached}
-use Rattle.walk.specs.declared.sections.Reached.the-variants.{On, Stop}
+use Rattle.walk.specs.declared.sections.Reached.the-variants.{On, Over, Stop}
 use Rattle.turns.specs.declared.state.State.{State}
 
 -- how many headers a trailer at `a` chooses from: all n, none where no UST stands there
@@ -46,6 +46,15 @@ laidOut x q at next = record {
   grams = x .message .sums .grams;
   reference = x .unh;
 }
+
+-- "7: .. or something behind UNZ": octets that stand there, or the end where UNZ is missing
+abbrev pub misplacedAs : ℕ → Reached
+misplacedAs i = Stop (record { number = 7; place = i })
+
+-- behind the last octet, by whether UNZ was read
+abbrev pub endedAs : Bool → ℕ → Reached
+endedAs true i = Over
+endedAs false i = misplacedAs i
 
 abbrev pub autoO : Open → Bool
 autoO (msg h hs b ts) = auto h
@@ -95,6 +104,7 @@ pub record AtUnt (y : Syntax) (s : List ℕ) (from p : ℕ) (u : Leaf) (ms : Sno
 
 abbrev pub UntIs : (y : Syntax) → List ℕ → ℕ → ℕ → Leaf → Snoc Message → Reached → List ℕ → List ℕ → List ℕ → List ℕ → Type 0
 UntIs y s from p u ms (On c) h l b rows = AtUnt y s from p u ms c h l b rows
+UntIs y s from p u ms Over h l b rows = ⊥
 UntIs y s from p u ms (Stop f) h l b rows = answerFrom y s from ≡ refused (f .number) (f .place)
 
 -- ---- a section
@@ -132,4 +142,21 @@ pub record Passing {y : Syntax} {s : List ℕ} {from : ℕ} {x : State} {h l b :
 
 abbrev pub SectionIs : {y : Syntax} {s : List ℕ} {from : ℕ} {x : State} {h l b : List ℕ} {i : ℕ} → Walking y s from x h l b i → Reached → List ℕ → List ℕ → List ℕ → List ℕ → Type 0
 SectionIs w (On c) h′ l′ b′ rows = Passing w c h′ l′ b′ rows
+SectionIs w Over h′ l′ b′ rows = ⊥
 SectionIs {y = y} {s = s} {from = from} w (Stop f) h′ l′ b′ rows = answerFrom y s from ≡ refused (f .number) (f .place)
+
+-- ---- a section, or the end
+
+-- between messages, before UNB or behind UNZ; a message is open only where the octets are over
+pub record Between (y : Syntax) (s : List ℕ) (x : State) (h l b : List ℕ) (i : ℕ) (rows m : List ℕ) : Type 0 where
+  pub fits : T (fit (y .service))
+  pub between : isBusy (x .phase) ≡ true → length s ≤ i
+  pub from : ℕ
+  pub walks : Walking y s from x h l b i
+  pub room : length rows ≡ 18
+  pub marks : length m ≡ 40
+
+abbrev pub ReachedIs : {y : Syntax} {s : List ℕ} {from : ℕ} {x : State} {h l b : List ℕ} {i : ℕ} → Walking y s from x h l b i → Reached → List ℕ → List ℕ → List ℕ → List ℕ → Type 0
+ReachedIs {s = s} {i = i} w (On c) h′ l′ b′ rows = (i < length s) × Passing w c h′ l′ b′ rows
+ReachedIs w Over h′ l′ b′ rows = ReadAll w
+ReachedIs {y = y} {s = s} {from = from} w (Stop f) h′ l′ b′ rows = answerFrom y s from ≡ refused (f .number) (f .place)

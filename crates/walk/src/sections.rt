@@ -7,13 +7,14 @@ ghost use Rattle.syntax.specs.Octets.{same};
 ghost use Rattle.syntax.specs.Repertoire.{Table};
 ghost use Rattle.elements.specs.Octets.{textAt};
 ghost use Rattle.message.specs.Heads.{headRef, headFlag};
-ghost use Rattle.walk.specs.RunLaws.{isBusy, Walking};
-ghost use Rattle.walk.specs.Sections.{nameableIn, laidOut, Starting, SectionIs};
+ghost use Rattle.walk.specs.RunLaws.{unreadAs, isDone, isBusy, Walking};
+ghost use Rattle.walk.specs.Sections.{nameableIn, laidOut, misplacedAs, endedAs, Starting, SectionIs, Between, ReachedIs};
 use crate::advance::advance;
 use crate::layout::Spots;
 use crate::layout::opened;
 use crate::layout::spotted;
 use message::heads::is_free;
+use message::kept::fresh_message;
 use syntax::Refusal;
 use syntax::Syntax;
 use syntax::content::content_is;
@@ -49,9 +50,38 @@ pub struct Section {
     pub closed: bool,
 }
 
+// Over: UNZ was read, and nothing stands behind it.
 pub enum Reached {
     On(Section),
+    Over,
     Stop(Refusal),
+}
+
+// Before UNB: nothing read.
+pub fn unread() -> State
+    ensures { λ r. ⌜ r ≡ unreadAs ⌝ }
+{
+    let m = fresh_message(false);
+    State {
+        phase: Phase::Start,
+        count: 0,
+        slot: 0,
+        unb: Stretch { start: 0, end: 0 },
+        unh: Stretch { start: 0, end: 0 },
+        message: m,
+    }
+}
+
+// Whether UNZ was read.
+fn is_done(p: Phase) -> bool
+    ensures { λ r. ⌜ r ≡ isDone p ⌝ }
+{
+    match p {
+        Phase::Done => true,
+        Phase::Start => false,
+        Phase::Idle => false,
+        Phase::Busy => false,
+    }
 }
 
 // Whether a message is open.
@@ -163,9 +193,7 @@ fn section_in(
             i += 1;
         }
         match advance(s, at, t, y, st, marks, heads, names, slots, found) {
-            Advanced::Stop(f) => {
-                return Reached::Stop(f);
-            }
+            Advanced::Stop(f) => return Reached::Stop(f),
             Advanced::On(a) => {
                 let z = a.state;
                 let p = z.phase;
@@ -185,14 +213,34 @@ fn section_in(
     Reached::On(passed(st, at, false, l))
 }
 
-// What stands at `from`, between messages or before UNB: UNB, a whole message, or UNZ. The octets go on as a slice of this call's own: of a lent one
-// the compiler reads place and length again behind each store.
+// Octets behind UNZ, or none where UNZ is missing: 7.
+fn misplaced(at: usize) -> Reached
+    ensures { λ r. ⌜ r ≡ misplacedAs at ⌝ }
+{
+    Reached::Stop(Refusal {
+        number: 7,
+        place: at,
+    })
+}
+
+// Behind the last octet, at `at`: all was read if UNZ was.
+fn ended(done: bool, at: usize) -> Reached
+    ensures { λ r. ⌜ r ≡ endedAs done at ⌝ }
+{
+    if done {
+        return Reached::Over;
+    }
+    misplaced(at)
+}
+
+// What stands at `from`, between messages or before UNB: UNB, a whole message, or UNZ; or the end. The octets go on as a slice of this call's own: of a
+// lent one the compiler reads place and length again behind each store.
 pub fn next_section(
     s: &[u8],
     from: usize,
     t: &[u8; 256],
     y: Syntax,
-    begun: State,
+    st: State,
     marks: &mut [usize],
     heads: &mut [usize; 36],
     names: &mut [u64],
@@ -200,21 +248,18 @@ pub fn next_section(
     rows: &mut [usize; 18],
 ) -> Reached
     requires { ⌜ Table y (now t) ⌝ }
-    requires { ⌜ Starting y (now s) begun (now heads) (now names) (now slots) from (now rows) (now marks) ⌝ }
-    ensures { λ r. ⌜ ((b : ℕ) (w : Walking y (now (s .entry)) b begun (now (heads .entry)) (now (names .entry)) (now (slots .entry)) from) → SectionIs w r (now (heads .exit)) (now (names .exit)) (now (slots .exit)) (now (rows .exit))) ⌝ }
+    requires { ⌜ Between y (now s) st (now heads) (now names) (now slots) from (now rows) (now marks) ⌝ }
+    ensures { λ r. ⌜ ((b : ℕ) (w : Walking y (now (s .entry)) b st (now (heads .entry)) (now (names .entry)) (now (slots .entry)) from) → ReachedIs w r (now (heads .exit)) (now (names .exit)) (now (slots .exit)) (now (rows .exit))) ⌝ }
     ensures { λ r. ⌜ length (now (marks .exit)) ≡ 40 ⌝ }
 {
     let n = s.len();
-    section_in(
-        &s[0..n],
-        from,
-        t,
-        y,
-        begun,
-        marks,
-        heads,
-        names,
-        slots,
-        rows,
-    )
+    let p = st.phase;
+    let done = is_done(p);
+    if n <= from {
+        return ended(done, from);
+    }
+    if done {
+        return misplaced(from);
+    }
+    section_in(&s[0..n], from, t, y, st, marks, heads, names, slots, rows)
 }

@@ -1,5 +1,5 @@
 use mathlib.Core.Path.{sym, ap}
-use Rattle.judge.specs.Finding.{toldTotals}
+use Rattle.judge.specs.Totals.{toldTotals}
 use borrow.Author.Needs.{needs}
 use Rattle.gurandepi.proofs.totals_answer.Statement.{statement}
 use Rattle.gurandepi.proofs.totals_answer.Tie as tie

@@ -6,7 +6,7 @@ use Rattle.groups.proofs.calls.message_named.Statement.{statement}
 use Rattle.groups.proofs.calls.message_named.Tie as tie
 use Rattle.groups.proofs.calls.message_named.Reads as reads
 use Rattle.groups.proofs.calls.message_named.Lts as lts
-use Rattle.judge.proofs.find.find.Reads as find-reads
+use Rattle.finding.proofs.find.Reads as find-reads
 use Rattle.syntax.proofs.opening.begin.Reads as begin-reads
 use Rattle.syntax.proofs.repertoire.table.Reads as table-reads
 

@@ -1,13 +1,13 @@
 use mathlib.Core.Path.{refl, _∙_}
 use Rattle.walk.specs.RunLaws.{begun-fits}
 use Rattle.grammar.specs.Verdict.{totalsOf}
-use Rattle.judge.specs.FindingLaws.{totals-refused, totals-found, totals-promised}
+use Rattle.judge.specs.TotalsLaws.{totals-refused, totals-found, totals-promised}
 use borrow.Author.Needs.{needs}
 use Rattle.judge.proofs.totals.message_totals.Statement.{statement}
 use Rattle.judge.proofs.totals.message_totals.Tie as tie
 use Rattle.judge.proofs.totals.message_totals.Reads as reads
 use Rattle.judge.proofs.totals.message_totals.Lts as lts
-use Rattle.judge.proofs.find.find.Reads as find-reads
+use Rattle.finding.proofs.find.Reads as find-reads
 use Rattle.judge.proofs.totals.totalled.Reads as totalled-reads
 use Rattle.syntax.proofs.opening.begin.Reads as begin-reads
 use Rattle.syntax.proofs.repertoire.table.Reads as table-reads

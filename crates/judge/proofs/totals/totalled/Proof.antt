@@ -1,5 +1,5 @@
 use mathlib.Core.Path.{sym, ap}
-use Rattle.judge.specs.Finding.{totalledBy}
+use Rattle.judge.specs.Totals.{totalledBy}
 use borrow.Author.Needs.{needs}
 use Rattle.judge.proofs.totals.totalled.Statement.{statement}
 use Rattle.judge.proofs.totals.totalled.Tie as tie

@@ -1,20 +1,17 @@
 use Prim.Native.Nat.{_-_}
-use native.Mathlib.Omega.{arith}
 use mathlib.Core.Path.{sym, _∙_}
 use borrow.Author.Needs.{needs}
 use lib.ListN.{length}
-use Rattle.walk.specs.RunLaws.{walking-over}
-use Rattle.walk.specs.SectionLaws.{starting, passed, stopped}
-use Rattle.spans.specs.SpanningLaws.{Spanning, spanning-start, spanning-on, span-early, span-ended}
+use Rattle.walk.specs.SectionLaws.{between-so, passed, nearer, read-all, stopped}
+use Rattle.spans.specs.SpanningLaws.{Spanning, spanning-start, spanning-on, span-told}
 use Rattle.spans.proofs.span.span_among.Statement.{statement}
 use Rattle.spans.proofs.span.span_among.Tie as tie
 use Rattle.spans.proofs.span.span_among.Reads as reads
 use Rattle.spans.proofs.span.span_among.Lts as lts
-use Rattle.judge.proofs.run.is_done.Reads as is-done-reads
-use Rattle.judge.proofs.run.unread.Reads as unread-reads
 use Rattle.spans.proofs.span.after_section.Reads as after-section-reads
-use Rattle.spans.proofs.span.early.Reads as early-reads
+use Rattle.spans.proofs.span.told.Reads as told-reads
 use Rattle.walk.proofs.sections.next_section.Reads as next-section-reads
+use Rattle.walk.proofs.sections.unread.Reads as unread-reads
 
 abbrev Inv-loop : tie.InvT-loop
 Inv-loop s from t y names₀ slots₀ marks₀ heads₀ rows₀ st₀ at₀ k₀ names slots marks heads rows st at k = Spanning y s from st heads names slots at marks rows names₀ slots₀ k
@@ -22,74 +19,77 @@ Inv-loop s from t y names₀ slots₀ marks₀ heads₀ rows₀ st₀ at₀ k₀
 abbrev μ-loop : tie.MeasureT-loop
 μ-loop s from t y names₀ slots₀ marks₀ heads₀ rows₀ st₀ at₀ k₀ names slots marks heads rows st at k = length s - at
 
+-- src/span.rt:109:9
 unread-requires : tie.Need-unread-requires Inv-loop μ-loop
 unread-requires c κs = search needs
 
+-- src/span.rt:112:5
 loop-holds : tie.Need-loop-holds Inv-loop μ-loop
 loop-holds c = spanning-start (c .before .before .before .before .before .pre .1 .0) (c .before .before .before .before .before .pre .1 .1) (c .unread .ensures)
 
-is-done-requires : tie.Need-is-done-requires Inv-loop μ-loop
-is-done-requires c κs = search needs
-
-early-requires : tie.Need-early-requires Inv-loop μ-loop
-early-requires c κs = search needs
-
-same-length : tie.Need-same-length Inv-loop μ-loop
-same-length c = search needs
-
-same-length-2 : tie.Need-same-length-2 Inv-loop μ-loop
-same-length-2 c = search needs
-
-same-length-3 : tie.Need-same-length-3 Inv-loop μ-loop
-same-length-3 c = c .before .before .before .before .loop .inv .looping .marks ∙ sym (c .before .before .before .before .before .before .before .before .before .before .pre .1 .1 .0)
-
-returns : tie.Need-returns Inv-loop μ-loop
-returns c = span-early (c .before .before .before .before .before .before .before .before .before .before .args .y) (c .before .before .before .before .before .before .before .before .before .before .args .s .now) (c .before .before .before .before .before .before .before .before .before .before .args .from) (c .early .ensures) (walking-over (c .before .before .before .before .loop .inv .looping .walks) (c .before .before .before .before .before .before .before .before .before .before .pre .1 .0 .fits) (c .before .before .before .loop-test .taken) (sym (c .before .before .is-done .ensures) ∙ c .before .if1 .taken))
-
+-- src/span.rt:113:15
 next-section-requires : tie.Need-next-section-requires Inv-loop μ-loop
-next-section-requires c κs = (c .before .before .before .before .before .before .before .before .before .before .before .before .before .before .pre .0, starting (c .before .before .before .before .before .before .before .before .loop .inv .looping) (c .before .before .before .before .before .before .before .before .before .before .before .before .before .before .pre .1 .0 .fits) (c .before .before .before .before .before .before .before .loop-test .taken) (sym (c .before .before .before .before .before .before .is-done .ensures) ∙ c .before .before .before .before .before .if1 .left))
+next-section-requires c κs = (c .before .before .before .before .before .before .before .before .before .before .before .pre .0, between-so (c .before .before .before .before .before .loop .inv .looping) (c .before .before .before .before .before .before .before .before .before .before .before .pre .1 .0 .fits))
 
+-- src/span.rt:114:27
 enum-known-f : tie.Need-enum-known-f Inv-loop μ-loop
 enum-known-f c = search needs
 
+-- src/span.rt:114:33
+same-length : tie.Need-same-length Inv-loop μ-loop
+same-length c = search needs
+
+-- src/span.rt:114:33
+same-length-2 : tie.Need-same-length-2 Inv-loop μ-loop
+same-length-2 c = search needs
+
+-- src/span.rt:114:33
+same-length-3 : tie.Need-same-length-3 Inv-loop μ-loop
+same-length-3 c = c .before .before .before .before .before .before .before .before .before .next-section .ensures .1 ∙ sym (c .before .before .before .before .before .before .before .before .before .before .before .before .before .before .before .before .before .before .before .before .before .pre .1 .1 .0)
+
+-- src/span.rt:114:33
+returns : tie.Need-returns Inv-loop μ-loop
+returns c = stopped (c .before .before .before .before .before .before .before .before .before .before .before .before .before .before .before .loop .inv .looping .walks) (c .before .before .before .before .before .before .before .before .before .next-section .last .1 .1 .1 .1 .1 .1 .0) (c .before .before .before .before .before .before .before .before .before .next-section .last .1 .1 .1 .1 .1 .1 .1 .0) (c .before .before .before .before .before .before .before .before .before .next-section .last .1 .1 .1 .1 .1 .1 .1 .1 .0) (c .before .before .before .before .before .before .before .before .before .next-section .last .1 .1 .1 .1 .1 .1 .1 .1 .1 .0) _ (c .before .f .given .1) (c .before .before .before .before .before .before .before .before .before .next-section .ensures .0 _ (c .before .before .before .before .before .before .before .before .before .before .before .before .before .before .before .loop .inv .looping .walks))
+
+-- src/span.rt:115:30
+enum-told : tie.Need-enum-told Inv-loop μ-loop
+enum-told c = search needs
+
+-- src/span.rt:115:30
+told-requires : tie.Need-told-requires Inv-loop μ-loop
+told-requires c κs = search needs
+
+-- src/span.rt:115:30
 same-length-4 : tie.Need-same-length-4 Inv-loop μ-loop
 same-length-4 c = search needs
 
+-- src/span.rt:115:30
 same-length-5 : tie.Need-same-length-5 Inv-loop μ-loop
 same-length-5 c = search needs
 
+-- src/span.rt:115:30
 same-length-6 : tie.Need-same-length-6 Inv-loop μ-loop
-same-length-6 c = c .before .before .before .before .before .before .before .before .before .next-section .ensures .1 ∙ sym (c .before .before .before .before .before .before .before .before .before .before .before .before .before .before .before .before .before .before .before .before .before .before .before .before .pre .1 .1 .0)
+same-length-6 c = c .before .before .before .before .before .before .before .before .before .next-section .ensures .1 ∙ sym (c .before .before .before .before .before .before .before .before .before .before .before .before .before .before .before .before .before .before .before .before .before .pre .1 .1 .0)
 
+-- src/span.rt:115:30
 returns-2 : tie.Need-returns-2 Inv-loop μ-loop
-returns-2 c = stopped (c .before .before .before .before .before .before .before .before .before .before .before .before .before .before .before .before .before .before .loop .inv .looping .walks) (c .before .before .before .before .before .before .before .before .before .next-section .last .1 .1 .1 .1 .1 .1 .0) (c .before .before .before .before .before .before .before .before .before .next-section .last .1 .1 .1 .1 .1 .1 .1 .0) (c .before .before .before .before .before .before .before .before .before .next-section .last .1 .1 .1 .1 .1 .1 .1 .1 .0) (c .before .before .before .before .before .before .before .before .before .next-section .last .1 .1 .1 .1 .1 .1 .1 .1 .1 .0) _ (c .before .f .given .1) (c .before .before .before .before .before .before .before .before .before .next-section .ensures .0 _ (c .before .before .before .before .before .before .before .before .before .before .before .before .before .before .before .before .before .before .loop .inv .looping .walks))
+returns-2 c = span-told (c .before .before .before .before .before .before .before .before .before .before .before .before .before .before .before .loop .inv) (read-all (c .before .before .before .before .before .before .before .before .before .before .before .before .before .before .before .loop .inv .looping .walks) (c .before .before .before .before .before .before .before .before .before .next-section .last .1 .1 .1 .1 .1 .1 .0) (c .before .before .before .before .before .before .before .before .before .next-section .last .1 .1 .1 .1 .1 .1 .1 .0) (c .before .before .before .before .before .before .before .before .before .next-section .last .1 .1 .1 .1 .1 .1 .1 .1 .0) (c .before .before .before .before .before .before .before .before .before .next-section .last .1 .1 .1 .1 .1 .1 .1 .1 .1 .0) _ (c .before .enum-told .given .1) (c .before .before .before .before .before .before .before .before .before .next-section .ensures .0 _ (c .before .before .before .before .before .before .before .before .before .before .before .before .before .before .before .loop .inv .looping .walks))) (c .told .ensures)
 
+-- src/span.rt:116:25
 enum-known-a : tie.Need-enum-known-a Inv-loop μ-loop
 enum-known-a c = search needs
 
+-- src/span.rt:117:17
 after-section-requires : tie.Need-after-section-requires Inv-loop μ-loop
 after-section-requires c κs = search needs
 
+-- src/span.rt:112:5
 loop-less : tie.Need-loop-less Inv-loop μ-loop
-loop-less c = let p = passed (c .before .before .before .before .before .before .before .before .before .before .before .before .before .before .before .before .before .before .before .before .loop .inv .looping .walks) (c .before .before .before .before .before .before .before .before .before .before .before .next-section .last .1 .1 .1 .1 .1 .1 .0) (c .before .before .before .before .before .before .before .before .before .before .before .next-section .last .1 .1 .1 .1 .1 .1 .1 .0) (c .before .before .before .before .before .before .before .before .before .before .before .next-section .last .1 .1 .1 .1 .1 .1 .1 .1 .0) (c .before .before .before .before .before .before .before .before .before .before .before .next-section .last .1 .1 .1 .1 .1 .1 .1 .1 .1 .0) _ (c .before .before .before .a .given .1) (c .before .before .before .before .before .before .before .before .before .before .before .next-section .ensures .0 _ (c .before .before .before .before .before .before .before .before .before .before .before .before .before .before .before .before .before .before .before .before .loop .inv .looping .walks)) .far in let k = c .before .before .before .before .before .before .before .before .before .before .before .before .before .before .before .before .before .before .before .loop-test .taken in omega (arith, p, k)
+loop-less c = nearer (c .before .before .before .before .before .before .before .before .before .before .before .before .before .before .before .before .before .loop .inv .looping .walks) (c .before .before .before .before .before .before .before .before .before .before .before .next-section .last .1 .1 .1 .1 .1 .1 .0) (c .before .before .before .before .before .before .before .before .before .before .before .next-section .last .1 .1 .1 .1 .1 .1 .1 .0) (c .before .before .before .before .before .before .before .before .before .before .before .next-section .last .1 .1 .1 .1 .1 .1 .1 .1 .0) (c .before .before .before .before .before .before .before .before .before .before .before .next-section .last .1 .1 .1 .1 .1 .1 .1 .1 .1 .0) _ (c .before .before .before .a .given .1) (c .before .before .before .before .before .before .before .before .before .before .before .next-section .ensures .0 _ (c .before .before .before .before .before .before .before .before .before .before .before .before .before .before .before .before .before .loop .inv .looping .walks))
 
+-- src/span.rt:112:5
 loop-again : tie.Need-loop-again Inv-loop μ-loop
-loop-again c = spanning-on (c .before .before .before .before .before .before .before .before .before .before .before .before .before .before .before .before .before .before .before .before .loop .inv) (passed (c .before .before .before .before .before .before .before .before .before .before .before .before .before .before .before .before .before .before .before .before .loop .inv .looping .walks) (c .before .before .before .before .before .before .before .before .before .before .before .next-section .last .1 .1 .1 .1 .1 .1 .0) (c .before .before .before .before .before .before .before .before .before .before .before .next-section .last .1 .1 .1 .1 .1 .1 .1 .0) (c .before .before .before .before .before .before .before .before .before .before .before .next-section .last .1 .1 .1 .1 .1 .1 .1 .1 .0) (c .before .before .before .before .before .before .before .before .before .before .before .next-section .last .1 .1 .1 .1 .1 .1 .1 .1 .1 .0) _ (c .before .before .before .a .given .1) (c .before .before .before .before .before .before .before .before .before .before .before .next-section .ensures .0 _ (c .before .before .before .before .before .before .before .before .before .before .before .before .before .before .before .before .before .before .before .before .loop .inv .looping .walks))) (c .before .before .before .before .before .before .before .before .before .before .before .next-section .ensures .1) (c .before .before .before .before .before .before .before .before .before .before .before .next-section .kept .1 .1 .1 .1 .1 .1 .1 .0) (c .before .before .before .before .before .before .before .before .before .before .before .next-section .kept .1 .1 .1 .1 .1 .1 .1 .1 .0) (c .before .after-section .ensures)
-
-ended-requires : tie.Need-ended-requires Inv-loop μ-loop
-ended-requires c κs = search needs
-
-same-length-7 : tie.Need-same-length-7 Inv-loop μ-loop
-same-length-7 c = search needs
-
-same-length-8 : tie.Need-same-length-8 Inv-loop μ-loop
-same-length-8 c = search needs
-
-same-length-9 : tie.Need-same-length-9 Inv-loop μ-loop
-same-length-9 c = c .before .before .loop .inv .looping .marks ∙ sym (c .before .before .before .before .before .before .before .before .pre .1 .1 .0)
-
-returns-3 : tie.Need-returns-3 Inv-loop μ-loop
-returns-3 c = span-ended (c .before .before .loop .inv) (c .before .loop-test .left) (c .ended .ensures)
+loop-again c = spanning-on (c .before .before .before .before .before .before .before .before .before .before .before .before .before .before .before .before .before .loop .inv) (passed (c .before .before .before .before .before .before .before .before .before .before .before .before .before .before .before .before .before .loop .inv .looping .walks) (c .before .before .before .before .before .before .before .before .before .before .before .next-section .last .1 .1 .1 .1 .1 .1 .0) (c .before .before .before .before .before .before .before .before .before .before .before .next-section .last .1 .1 .1 .1 .1 .1 .1 .0) (c .before .before .before .before .before .before .before .before .before .before .before .next-section .last .1 .1 .1 .1 .1 .1 .1 .1 .0) (c .before .before .before .before .before .before .before .before .before .before .before .next-section .last .1 .1 .1 .1 .1 .1 .1 .1 .1 .0) _ (c .before .before .before .a .given .1) (c .before .before .before .before .before .before .before .before .before .before .before .next-section .ensures .0 _ (c .before .before .before .before .before .before .before .before .before .before .before .before .before .before .before .before .before .loop .inv .looping .walks))) (c .before .before .before .before .before .before .before .before .before .before .before .next-section .ensures .1) (c .before .before .before .before .before .before .before .before .before .before .before .next-section .kept .1 .1 .1 .1 .1 .1 .1 .0) (c .before .before .before .before .before .before .before .before .before .before .before .next-section .kept .1 .1 .1 .1 .1 .1 .1 .1 .0) (c .before .after-section .ensures)
 
 pub span-among-spec : {M : Type 1} → statement M
 span-among-spec =
@@ -99,14 +99,14 @@ span-among-spec =
     μ-loop
     unread-requires
     loop-holds
-    is-done-requires
-    early-requires
+    next-section-requires
+    enum-known-f
     same-length
     same-length-2
     same-length-3
     returns
-    next-section-requires
-    enum-known-f
+    enum-told
+    told-requires
     same-length-4
     same-length-5
     same-length-6
@@ -114,9 +114,4 @@ span-among-spec =
     enum-known-a
     after-section-requires
     loop-less
-    loop-again
-    ended-requires
-    same-length-7
-    same-length-8
-    same-length-9
-    returns-3)
+    loop-again)

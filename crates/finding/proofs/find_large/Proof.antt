@@ -2,11 +2,11 @@ use native.Mathlib.Omega.{arith}
 use mathlib.Core.Path.{refl}
 use Rattle.walk.specs.RunLaws.{fresh-tables}
 use borrow.Author.Needs.{needs}
-use Rattle.judge.proofs.find.find_large.Statement.{statement}
-use Rattle.judge.proofs.find.find_large.Tie as tie
-use Rattle.judge.proofs.find.find_large.Reads as reads
-use Rattle.judge.proofs.find.find_large.Lts as lts
-use Rattle.judge.proofs.find.find_among.Reads as find-among-reads
+use Rattle.finding.proofs.find_large.Statement.{statement}
+use Rattle.finding.proofs.find_large.Tie as tie
+use Rattle.finding.proofs.find_large.Reads as reads
+use Rattle.finding.proofs.find_large.Lts as lts
+use Rattle.finding.proofs.find_among.Reads as find-among-reads
 
 -- src/find.rt:192:9
 slice-aggregate-find-among : tie.Need-slice-aggregate-find-among

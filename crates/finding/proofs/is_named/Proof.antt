@@ -1,9 +1,9 @@
-use Rattle.judge.specs.FindingLaws.{named-closed, named-open}
+use Rattle.finding.specs.FindingLaws.{named-closed, named-open}
 use borrow.Author.Needs.{needs}
-use Rattle.judge.proofs.find.is_named.Statement.{statement}
-use Rattle.judge.proofs.find.is_named.Tie as tie
-use Rattle.judge.proofs.find.is_named.Reads as reads
-use Rattle.judge.proofs.find.is_named.Lts as lts
+use Rattle.finding.proofs.is_named.Statement.{statement}
+use Rattle.finding.proofs.is_named.Tie as tie
+use Rattle.finding.proofs.is_named.Reads as reads
+use Rattle.finding.proofs.is_named.Lts as lts
 use Rattle.syntax.proofs.content.content_is.Reads as content-is-reads
 use Rattle.syntax.proofs.content.part.Reads as part-reads
 

@@ -1,10 +1,10 @@
 use Prim.Native.Nat.{_-_}
 use borrow.Author.Needs.{needs}
-use Rattle.judge.specs.FindingLaws.{Keeping, keeping-start, keeping-on, keeping-end}
-use Rattle.judge.proofs.find.keep.Statement.{statement}
-use Rattle.judge.proofs.find.keep.Tie as tie
-use Rattle.judge.proofs.find.keep.Reads as reads
-use Rattle.judge.proofs.find.keep.Lts as lts
+use Rattle.finding.specs.FindingLaws.{Keeping, keeping-start, keeping-on, keeping-end}
+use Rattle.finding.proofs.keep.Statement.{statement}
+use Rattle.finding.proofs.keep.Tie as tie
+use Rattle.finding.proofs.keep.Reads as reads
+use Rattle.finding.proofs.keep.Lts as lts
 
 abbrev Inv-loop : tie.InvT-loop
 Inv-loop rows₀ here i₀ rows i = Keeping rows₀ here rows i

@@ -6,42 +6,21 @@ ghost use lib.ListN.{length};
 ghost use Rattle.syntax.specs.Service.{fit};
 ghost use Rattle.syntax.specs.Repertoire.{Table};
 ghost use Rattle.walk.specs.RunLaws.{Fresh};
-ghost use Rattle.judge.specs.Finding.{noLayout, namedBy, earlyAs, FoundIs};
-use crate::run::is_done;
-use crate::run::unread;
+ghost use Rattle.finding.specs.Finding.{namedBy, FoundIs};
 use syntax::Refusal;
 use syntax::Syntax;
 use syntax::content::content_is;
 use syntax::content::part;
-use turns::state::Stretch;
 use walk::sections::Layout;
 use walk::sections::Reached;
 use walk::sections::next_section;
+use walk::sections::unread;
 
 // The message's layout; or that no message has that 0062; or why the interchange is refused.
 pub enum Found {
     Message(Layout),
     Missing,
     Refused(Refusal),
-}
-
-fn no_layout() -> Layout
-    ensures { λ r. ⌜ r ≡ noLayout ⌝ }
-{
-    Layout {
-        unh: 0,
-        heads: 0,
-        body: 0,
-        tail: 0,
-        unt: 0,
-        end: 0,
-        headers: 0,
-        trailers: 0,
-        auto: false,
-        loads: 0,
-        grams: 0,
-        reference: Stretch { start: 0, end: 0 },
-    }
 }
 
 // Where the groups of the message found start: the rows are kept.
@@ -67,15 +46,6 @@ fn is_named(s: &[u8], release: u8, closed: bool, c: Layout, reference: &[u8]) ->
     false
 }
 
-fn early(at: usize) -> Found
-    ensures { λ r. ⌜ r ≡ earlyAs at ⌝ }
-{
-    Found::Refused(Refusal {
-        number: 7,
-        place: at,
-    })
-}
-
 // Every section from `from` on; of the message with the 0062 `reference` the layout, and in `rows` where its groups start.
 fn find_among(
     s: &[u8],
@@ -97,24 +67,17 @@ fn find_among(
 {
     let mut st = unread();
     let mut at = from;
-    let mut found = false;
-    let mut c = no_layout();
+    let mut found = Found::Missing;
     let v = y.service;
-    while at < s.len() {
-        let p = st.phase;
-        if is_done(p) {
-            return early(at);
-        }
+    loop {
         match next_section(s, at, t, y, st, marks, heads, names, slots, here) {
-            Reached::Stop(f) => {
-                return Found::Refused(f);
-            }
+            Reached::Stop(f) => return Found::Refused(f),
+            Reached::Over => return found,
             Reached::On(a) => {
                 let l = a.layout;
                 if is_named(s, v.release, a.closed, l, reference) {
                     keep(rows, here);
-                    found = true;
-                    c = l;
+                    found = Found::Message(l);
                 }
                 let x = a.state;
                 st = x;
@@ -122,14 +85,6 @@ fn find_among(
             }
         }
     }
-    let p = st.phase;
-    if !is_done(p) {
-        return early(at);
-    }
-    if found {
-        return Found::Message(c);
-    }
-    Found::Missing
 }
 
 fn find_small(

@@ -1,6 +1,6 @@
 use borrow.Author.Needs.{needs}
-use Rattle.judge.proofs.run.unread.Statement.{statement}
-use Rattle.judge.proofs.run.unread.Tie as tie
+use Rattle.walk.proofs.sections.unread.Statement.{statement}
+use Rattle.walk.proofs.sections.unread.Tie as tie
 
 fresh-message-requires : tie.Need-fresh-message-requires
 fresh-message-requires c κs = search needs

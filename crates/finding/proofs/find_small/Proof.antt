@@ -2,11 +2,11 @@ use native.Mathlib.Omega.{arith}
 use mathlib.Core.Path.{refl}
 use Rattle.walk.specs.RunLaws.{fresh-tables}
 use borrow.Author.Needs.{needs}
-use Rattle.judge.proofs.find.find_small.Statement.{statement}
-use Rattle.judge.proofs.find.find_small.Tie as tie
-use Rattle.judge.proofs.find.find_small.Reads as reads
-use Rattle.judge.proofs.find.find_small.Lts as lts
-use Rattle.judge.proofs.find.find_among.Reads as find-among-reads
+use Rattle.finding.proofs.find_small.Statement.{statement}
+use Rattle.finding.proofs.find_small.Tie as tie
+use Rattle.finding.proofs.find_small.Reads as reads
+use Rattle.finding.proofs.find_small.Lts as lts
+use Rattle.finding.proofs.find_among.Reads as find-among-reads
 
 -- src/find.rt:159:9
 slice-aggregate-find-among : tie.Need-slice-aggregate-find-among

@@ -1,0 +1,24 @@
+-- The totals of the message that a call names.
+use Prim.Native.Nat.{ℕ}
+use mathlib.Core.List.{List, [], _∷_}
+use Rattle.grammar.specs.Verdict.{Totals as Totalled, totalled, refusedTotals}
+use Rattle.finding.specs.declared.Found.{Found}
+use Rattle.finding.specs.declared.Found.the-variants.{Message as Here, Missing, Refused as NotRead}
+use Rattle.judge.specs.declared.totals.Totals.{Totals}
+use Rattle.judge.specs.declared.totals.Totals.the-variants.{Of, Refused}
+
+-- of the message found; 13 where there is none
+abbrev pub totalledBy : Found → Totals
+totalledBy (Here c) = Of (record { loads = c .loads; grams = c .grams })
+totalledBy Missing = Refused (record { number = 13; place = 0 })
+totalledBy (NotRead f) = Refused f
+
+-- the totals as the call answers them: loads and grams, or the refusal's number and place
+abbrev pub totalsAs : Totalled → Totals
+totalsAs (totalled loads grams) = Of (record { loads = loads; grams = grams })
+totalsAs (refusedTotals number place) = Refused (record { number = number; place = place })
+
+-- the paper's number and place, then loads and grams; 0 where there is none
+abbrev pub toldTotals : Totals → List ℕ
+toldTotals (Of x) = 0 ∷ 0 ∷ x .loads ∷ x .grams ∷ []
+toldTotals (Refused f) = f .number ∷ f .place ∷ 0 ∷ 0 ∷ []

@@ -1,0 +1,60 @@
+-- Laws of the totals of the message that a call names.
+use Prim.Native.Nat.{ℕ, _+_}
+use mathlib.Core.Path.{_≡_, refl, ap, sym, _∙_}
+use mathlib.Core.Bool.{Bool, true, false, cond}
+use mathlib.Core.List.{List}
+use mathlib.Core.Option.{Option, some}
+use Rattle.syntax.specs.Octets.{same}
+use Rattle.syntax.specs.Opening.{begunOf}
+use Rattle.syntax.specs.declared.Refusal.{Refusal}
+use Rattle.syntax.specs.declared.Service.{Service}
+use Rattle.syntax.specs.declared.opening.Start.{Start as Opening}
+use Rattle.syntax.specs.declared.opening.Begun.{Begun}
+use Rattle.syntax.specs.declared.opening.Begun.the-variants.{Ready as Begins, Refused as Refuses}
+use Rattle.grammar.specs.Lists.{Snoc, nil, _▷_, size, sum}
+use Rattle.grammar.specs.Interchange.{Leaf, Message, idle, shown}
+use Rattle.grammar.specs.Rules.{refM}
+use Rattle.grammar.specs.Places.{wide}
+use Rattle.grammar.specs.Named.{Placed, placed, placedIn, totalsAt}
+use Rattle.grammar.specs.Verdict.{Verdict, verdictBy, loadsM, Totals, totalled, refusedTotals, totalsIn, totalsBy, totalsOf, totalNumbers}
+use Rattle.walk.specs.RunLaws.{verdict-by}
+use Rattle.finding.specs.Finding.{FoundIs}
+use Rattle.finding.specs.declared.Found.{Found}
+use Rattle.finding.specs.declared.Found.the-variants.{Message as Here, Missing, Refused as NotRead}
+use Rattle.judge.specs.Totals.{totalledBy, totalsAs, toldTotals}
+use Rattle.judge.specs.declared.totals.Totals.{Totals as Totalled}
+use Rattle.judge.specs.declared.totals.Totals.the-variants.{Refused}
+
+-- the totals are those of the message where it stands
+pub totals-placed : (σ : Service) (p : ℕ) (u : Leaf) (ms : Snoc Message) (r : List ℕ) → totalsIn ms r ≡ totalsAt (placedIn σ p u ms r)
+totals-placed σ p u nil r = refl
+totals-placed σ p u (ms ▷ m) r = by (same (refM m) r) (totals-placed σ p u ms r)
+  where
+    by : (b : Bool) → totalsIn ms r ≡ totalsAt (placedIn σ p u ms r)
+        → cond b (totalled (size (loadsM m)) (sum (loadsM m))) (totalsIn ms r) ≡ totalsAt (cond b (some (placed m (p + wide σ (shown (idle u ms))))) (placedIn σ p u ms r))
+    by true e = refl
+    by false e = e
+
+module _ (s r : List ℕ) where
+  pub totals-refused : {f : Refusal} {g : Begun} → g ≡ begunOf s → g ≡ Refuses f → Refused f ≡ totalsAs (totalsOf s r)
+  totals-refused {f} e d = ap (λ (b : Begun). totalsAs (totalsBy (verdictBy s b) r)) (sym d ∙ e)
+
+  pub totals-found : {b : Opening} {g : Begun} (f : Found) (rows : List ℕ) → g ≡ begunOf s → g ≡ Begins b → FoundIs (b .syntax) s (b .at) r f rows
+      → totalledBy f ≡ totalsAs (totalsOf s r)
+  totals-found {b} (NotRead g) rows e d q = sym (ap (λ (v : Verdict). totalsAs (totalsBy v r)) (verdict-by s e d q))
+  totals-found {b} Missing rows e d q =
+      sym (ap (λ (v : Verdict). totalsAs (totalsBy v r)) (verdict-by s e d (q .3 .0))
+      ∙ ap totalsAs (totals-placed (b .syntax .service) (b .at) (q .0) (q .1) r) ∙ ap (λ (o : Option Placed). totalsAs (totalsAt o)) (q .3 .1))
+  totals-found {b} (Here c) rows e d q =
+      let k = q .3 .1 in
+      sym (ap (λ (v : Verdict). totalsAs (totalsBy v r)) (verdict-by s e d (q .3 .0))
+      ∙ ap totalsAs (totals-placed (b .syntax .service) (b .at) (q .0) (q .1) r) ∙ ap (λ (o : Option Placed). totalsAs (totalsAt o)) (k .3 .0)
+      ∙ rw (k .3 .1 .loads, k .3 .1 .grams))
+
+-- what the call promises: the answer, and with it the numbers
+pub totals-promised : {a : Totalled} (t : Totals) → a ≡ totalsAs t → (a ≡ totalsAs t) × (toldTotals a ≡ totalNumbers t)
+totals-promised t e = (e, ap toldTotals e ∙ by t)
+  where
+    by : (t : Totals) → toldTotals (totalsAs t) ≡ totalNumbers t
+    by (totalled loads grams) = refl
+    by (refusedTotals number place) = refl
