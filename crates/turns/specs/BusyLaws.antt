@@ -28,7 +28,7 @@ use Rattle.message.specs.Steps.{AnswerM, toM, badM, ustM, stepM, summaryIn, Roo
 use Rattle.message.specs.StepsLaws.{ust-digits, moved-to, roomy-small, roomy-grown}
 use Rattle.message.specs.ItemsLaws.{cnt-tag, not-true, not-false}
 use Rattle.turns.specs.WalkingLaws.{free-load, at-7, at-8, stop}
-use Rattle.turns.specs.Held.{phased, stateIn, openSize, Held, Ready, decidedFrom, StepIs}
+use Rattle.turns.specs.Held.{phased, stateIn, afterOther, openSize, Held, Ready, decidedFrom, StepIs}
 use Rattle.elements.specs.declared.Kind.{Kind}
 use Rattle.elements.specs.declared.Kind.the-variants.{Unb, Unh, Unt, Unz, Ush, Usa, Usc, Usr, Ust, Usb, Usx, Usy, Reserved, Qty, Cnt, Other}
 use Rattle.message.specs.declared.Group.{Group}
@@ -216,15 +216,12 @@ module _ (S : Summary) (a : Asked) where
 
 -- ---- the step in an open message
 
--- UNB's 0020, the open message, and the state with this one in its place
+-- UNB's 0020, and the open message
 abbrev unbIn : ℕ → List ℕ → State → List ℕ
 unbIn ρ s st = content ρ (slice (st .unb .start) (st .unb .end) s)
 
 abbrev openIn : ℕ → List ℕ → State → List ℕ → Summary
 openIn ρ s st h = summaryIn ρ s (st .message) (st .unh .start) (st .unh .end) h
-
-abbrev pub withMessage : State → Message → State
-withMessage st z = record { phase = Busy; count = st .count; slot = st .slot; unb = st .unb; unh = st .unh; message = z }
 
 -- the answers on the segment at p, of the rules and of what its kind does
 abbrev pub decidedAt : Syntax → List ℕ → State → List ℕ → List ℕ → ℕ → AnswerS
@@ -240,7 +237,7 @@ refused-by U RS p (badM k) n ρ s h l b i u w g = (g, refl)
 
 module _ (ρ : ℕ) (s : List ℕ) (st : State) (h l b : List ℕ) (p q : ℕ) (g : Held ρ s st h l b p) (e : st .phase ≡ Busy) (d : p + 4 ≤ q) where
   held-on : {z : Message} {h′ : List ℕ} → Roomy z h′ → length h′ ≡ 36 → z .segments ≡ suc (st .message .segments) →
-      Held ρ s (withMessage st z) h′ l b q
+      Held ρ s (afterOther st Busy (st .count) z) h′ l b q
   held-on {z} f o n = record {
     indexed = g .indexed;
     roomy = f;
@@ -256,7 +253,7 @@ module _ (ρ : ℕ) (s : List ℕ) (st : State) (h l b : List ℕ) (p q : ℕ) (
 
   read-by : (A : AnswerM) (z : Message) (h′ : List ℕ) → length h′ ≡ 36 → GrowsM (st .message .segments) A → MovedIs A (To z) ρ s (st .unh .start) (st .unh .end) h′ →
       StepIs (fromM (unbIn ρ s st) (refsIn l (st .count)) p A)
-      (On (withMessage st z)) ρ s h′ l b q
+      (On (afterOther st Busy (st .count) z)) ρ s h′ l b q
   read-by (toM S) z h′ o n f = (
     ap (busyS (unbIn ρ s st) (refsIn l (st .count))) (f .0),
     held-on (f .1) o (ap (λ (T : Summary). T .m .segments) (f .0) ∙ n),
@@ -316,15 +313,15 @@ module _ {y : Syntax} {s : List ℕ} {st : State} {h l b : List ℕ} {p q : ℕ}
                 (refused-by (unbIn (y .service .release) s st) (refsIn l (st .count)) p (movedAt y s st h p k) i (y .service .release) s h′ l b q (st .unh .start) (st .unh .end)
                 (subst (λ (z : Moved). MovedIs (movedAt y s st h p k) z (y .service .release) s (st .unh .start) (st .unh .end) h′) e moved-here)))
 
-            pub busy-on : {z : Message} → x′ ≡ To z → length h′ ≡ 36 →
-                StepIs (decidedAt y s st h l p)
-                (On (withMessage st z)) (y .service .release) s h′ l b q
-            busy-on {z} e o =
-                subst (λ (A : AnswerS). StepIs A (On (withMessage st z)) (y .service .release) s h′ l b q) (sym decided-is)
+            pub busy-on : {z : Message} → x′ ≡ To z → length h′ ≡ 36 → {v : State} → v ≡ afterOther st Busy (st .count) z →
+                StepIs (decidedAt y s st h l p) (On v) (y .service .release) s h′ l b q
+            busy-on {z} e o {v} d =
+                subst (λ (A : AnswerS). StepIs A (On v) (y .service .release) s h′ l b q) (sym decided-is)
+                (subst (λ (w : State). StepIs (fromM (unbIn (y .service .release) s st) (refsIn l (st .count)) p (movedAt y s st h p k)) (On w) (y .service .release) s h′ l b q) (sym d)
                 (read-by (y .service .release) s st h l b p q (g .held) busy (g .ends)
                 (movedAt y s st h p k) z h′ o
                 (step-grows (openIn (y .service .release) s st h) (askedAt (y .service) s p) k (busy-passed .0))
-                (subst (λ (i : Moved). MovedIs (movedAt y s st h p k) i (y .service .release) s (st .unh .start) (st .unh .end) h′) e moved-here))
+                (subst (λ (i : Moved). MovedIs (movedAt y s st h p k) i (y .service .release) s (st .unh .start) (st .unh .end) h′) e moved-here)))
 
 -- ---- a segment by its kind; one that has no place outside a message
 

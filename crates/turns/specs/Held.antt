@@ -1,12 +1,14 @@
 -- The walk as the code has it: what a look at a segment tells, the state that is kept, and a step.
 use Prim.Native.Nat.{ℕ, _+_, _*_, _≤_}
 use mathlib.Core.Path.{_≡_}
-use mathlib.Core.Bool.{true}
+use mathlib.Core.Bool.{Bool, true}
 use mathlib.Core.List.{List, [], _∷_}
 use lib.ListN.{length, drop}
 use lib.Seq.{slice}
+use Rattle.syntax.specs.Octets.{same}
 use Rattle.syntax.specs.Content.{content}
 use Rattle.syntax.specs.Cutting.{cutAt, tagOf}
+use Rattle.syntax.specs.declared.Service.{Service}
 use Rattle.syntax.specs.declared.Syntax.{Syntax}
 use Rattle.syntax.specs.declared.cutting.Cut.{Cut}
 use Rattle.syntax.specs.declared.cutting.Cut.the-variants.{Ends, Spoilt, Open}
@@ -22,12 +24,14 @@ use Rattle.elements.specs.Kinds.{kindOf}
 use Rattle.message.specs.Summary.{Summary, StateS, startS, idleS, busyS, doneS, orderS, refsS, countsS, scopeS, nextS, AnswerS, readS, refusedS, decidedS}
 use Rattle.message.specs.Steps.{summaryIn, Roomy}
 use Rattle.references.specs.Refs.{refAt, refsIn, Indexed, Offered}
-use Rattle.elements.specs.Fields.{Fields}
+use Rattle.elements.specs.Octets.{textAt}
+use Rattle.elements.specs.Fields.{Fields, startIn, endIn}
 use Rattle.elements.specs.Formed.{looked}
 use Rattle.elements.specs.declared.fields.Shape.{Shape}
 use Rattle.message.specs.declared.Message.{Message}
 use Rattle.turns.specs.declared.state.Phase.{Phase}
 use Rattle.turns.specs.declared.state.Phase.the-variants.{Start, Idle, Busy, Done}
+use Rattle.turns.specs.declared.state.Stretch.{Stretch}
 use Rattle.turns.specs.declared.state.State.{State}
 use Rattle.turns.specs.declared.state.Step.{Step}
 use Rattle.turns.specs.declared.state.Step.the-variants.{On, Stop}
@@ -80,6 +84,26 @@ abbrev pub stateIn : ℕ → List ℕ → State → List ℕ → List ℕ → St
 stateIn ρ s x h l =
     phased (x .phase) (content ρ (slice (x .unb .start) (x .unb .end) s)) (refsIn l (x .count))
     (summaryIn ρ s (x .message) (x .unh .start) (x .unh .end) h)
+
+-- where the element at position p stands, by the marks
+abbrev pub stretchIn : List ℕ → ℕ → Stretch
+stretchIn m p = record { start = startIn m p 0; end = endIn m p 0 }
+
+-- "References are compared by content": the second element of UNT or UNZ at p, and the 0062 or 0020 that was kept
+abbrev pub repeatedRef : Service → List ℕ → ℕ → Stretch → Bool
+repeatedRef σ s p w = same (textAt σ s p 2 0) (content (σ .release) (slice (w .start) (w .end) s))
+
+-- after UNB, whose 0020 stands at u: between messages, none so far
+abbrev pub afterUnb : State → Stretch → State
+afterUnb x u = record { phase = Idle; count = 0; slot = x .slot; unb = u; unh = x .unh; message = x .message }
+
+-- after UNH, whose 0062 stands at w and is offered slot i: in the message m that it begins
+abbrev pub afterUnh : State → ℕ → Stretch → Message → State
+afterUnh x i w m = record { phase = Busy; count = x .count; slot = i; unb = x .unb; unh = w; message = m }
+
+-- after any other segment: the references stay
+abbrev pub afterOther : State → Phase → ℕ → Message → State
+afterOther x p n m = record { phase = p; count = n; slot = x .slot; unb = x .unb; unh = x .unh; message = m }
 
 -- the segments of the message now open
 abbrev pub openSize : Phase → Message → ℕ

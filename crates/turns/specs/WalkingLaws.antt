@@ -34,12 +34,13 @@ use Rattle.message.specs.Heads.{headFlags}
 use Rattle.message.specs.Summary.{Summary, StateS, startS, idleS, busyS, atStart, atIdle, atBusy, mayCome, allNamed, evenAll, totalRight, numberIn, orderK, refsK, countsK, scopeK, nextK, orderS, refsS, countsS, scopeS, nextS, opened, fresh, AnswerS, readS, refusedS, decidedS}
 use Rattle.message.specs.Steps.{summaryIn, Roomy}
 use Rattle.message.specs.StepsLaws.{marked-between, closed-range, unt-digits, unz-digits}
-use Rattle.turns.specs.Held.{phased, stateIn, openSize, Held, decidedFrom, StepIs, Ready}
+use Rattle.turns.specs.Held.{phased, stateIn, stretchIn, repeatedRef, afterUnb, afterUnh, afterOther, openSize, Held, decidedFrom, StepIs, Ready}
 use Rattle.message.specs.ItemsLaws.{not-true, not-false}
 use Rattle.elements.specs.declared.fields.Shape.{Shape}
 use Rattle.message.specs.declared.Message.{Message}
 use Rattle.turns.specs.declared.state.Phase.{Phase}
 use Rattle.turns.specs.declared.state.Phase.the-variants.{Start, Idle, Busy, Done}
+use Rattle.turns.specs.declared.state.Stretch.{Stretch}
 use Rattle.turns.specs.declared.state.State.{State}
 use Rattle.turns.specs.declared.state.Step.{Step}
 use Rattle.turns.specs.declared.state.Step.the-variants.{On, Stop}
@@ -110,14 +111,14 @@ module _ (v : Version) (S : StateS) (a : Asked) (p : ℕ) where
       decidedFrom v S a p ≡ readS (nextS S a)
   at-end = six-on p (orderS S a) (formed v a) (refsS S a) (countsS S a) (scopeS S a) (loadRight a) (nextS S a)
 
-module _ {A : AnswerS} {r : Step} (ρ : ℕ) (s h l b : List ℕ) (i : ℕ) where
-  pub stop : {n p : ℕ} → A ≡ refusedS n p → r ≡ Stop (record { number = n; place = p }) → StepIs A r ρ s h l b i
-  stop {n} {p} e d =
+module _ {A : AnswerS} (ρ : ℕ) (s h l b : List ℕ) (i : ℕ) where
+  pub stop : {r : Step} {n p : ℕ} → A ≡ refusedS n p → r ≡ Stop (record { number = n; place = p }) → StepIs A r ρ s h l b i
+  stop {r} {n} {p} e d =
       subst (λ (x : AnswerS). StepIs x r ρ s h l b i) (sym e) (subst (λ (x : Step). StepIs (refusedS n p) x ρ s h l b i) (sym d) (refl, refl))
 
-  go : {S : StateS} {x : State} → A ≡ readS S → r ≡ On x → stateIn ρ s x h l ≡ S → Held ρ s x h l b i → StepIs A r ρ s h l b i
-  go {S} {x} e d q w =
-      subst (λ (x : AnswerS). StepIs x r ρ s h l b i) (sym e) (subst (λ (x : Step). StepIs (readS S) x ρ s h l b i) (sym d) (q, w))
+  go : {S : StateS} {x z : State} → A ≡ readS S → z ≡ x → stateIn ρ s x h l ≡ S → Held ρ s x h l b i → StepIs A (On z) ρ s h l b i
+  go {S} {x} {z} e d q w =
+      subst (λ (A : AnswerS). StepIs A (On z) ρ s h l b i) (sym e) (subst (λ (x : State). StepIs (readS S) (On x) ρ s h l b i) (sym d) (q, w))
 
 -- ---- the references so far
 
@@ -204,9 +205,9 @@ module _ (y : Syntax) (s : List ℕ) (st : State) (h l b : List ℕ) (at next : 
   Left l′ r = StepIs (decidedFrom (y .version) (stateIn (y .service .release) s st h l) (askedAt (y .service) s at) at) r (y .service .release) s h l′ b next
 
   -- the octets of a field between two of the marks
-  between : Marked (y .service) s at marks → (p : ℕ) {i j : ℕ} → 1 ≤ p → p ≤ 5 → i ≡ startIn marks p 0 → j ≡ endIn marks p 0 →
-      slice i j s ≡ partOf s (componentAt (y .service) s at p 0)
-  between g p u v e d = marked-between g {p = p} {c = 0} u v (least 2) e d
+  between : Marked (y .service) s at marks → (p : ℕ) {w : Stretch} → 1 ≤ p → p ≤ 5 → w ≡ stretchIn marks p →
+      slice (w .start) (w .end) s ≡ partOf s (componentAt (y .service) s at p 0)
+  between g p u v e = marked-between g {p = p} {c = 0} u v (least 2) (ap (λ (w : Stretch). w .start) e) (ap (λ (w : Stretch). w .end) e)
 
   module _ (g : Ready y s st h l b at next Unb f marks) (ph : (st .phase ≡ Start) × (st .count ≡ 0)) {q : Bool} (e : q ≡ formed (y .version) ask) where
     unb-here : here ≡ startS
@@ -218,11 +219,8 @@ module _ (y : Syntax) (s : List ℕ) (st : State) (h l b : List ℕ) (at next : 
     pub unb-bad : not q ≡ true → {r : Step} → r ≡ Stop (record { number = 8; place = at }) → Told r
     unb-bad n d = stop (y .service .release) s h l b next (at-8 (y .version) here ask at unb-order (sym e ∙ not-true q n)) d
 
-    module _ {i j : ℕ} (u : i ≡ startIn marks 5 0) (w : j ≡ endIn marks 5 0) where
-      abbrev unb-state : State
-      unb-state = record { phase = Idle; count = 0; slot = st .slot; unb = record { start = i; end = j }; unh = st .unh; message = st .message }
-
-      unb-held : Held (y .service .release) s unb-state h l b next
+    module _ {z : Stretch} (u : z ≡ stretchIn marks 5) where
+      unb-held : Held (y .service .release) s (afterUnb st z) h l b next
       unb-held = record {
         indexed = subst (λ (n : ℕ). Indexed l b n) (ph .1) (g .held .indexed);
         roomy = g .held .roomy;
@@ -234,17 +232,17 @@ module _ (y : Syntax) (s : List ℕ) (st : State) (h l b : List ℕ) (at next : 
         offered = λ c. idle-shut c;
       }
 
-      unb-is : stateIn (y .service .release) s unb-state h l ≡ nextS here ask
+      unb-is : stateIn (y .service .release) s (afterUnb st z) h l ≡ nextS here ask
       unb-is =
-          ap (λ (t : List ℕ). idleS (content (y .service .release) t) nil) (between (g .noted refl .marks) 5 (omega arith) (omega arith) u w)
+          ap (λ (t : List ℕ). idleS (content (y .service .release) t) nil) (between (g .noted refl .marks) 5 (omega arith) (omega arith) u)
           ∙ sym (by (λ (x : StateS) (k : Kind). nextK x k ask) unb-here (g .kind))
 
-      pub unb-read : not q ≡ false → Told (On unb-state)
-      unb-read n =
+      pub unb-read : not q ≡ false → {x : State} → x ≡ afterUnb st z → Told (On x)
+      unb-read n d =
           go (y .service .release) s h l b next
           (at-end (y .version) here ask at unb-order (sym e ∙ not-false q n) (by (λ (x : StateS) (k : Kind). refsK x k ask) unb-here (g .kind))
           (by (λ (x : StateS) (k : Kind). countsK x k ask) unb-here (g .kind)) (by (λ (x : StateS) (k : Kind). scopeK x k ask) unb-here (g .kind)) (unb-load ask (g .kind)))
-          refl unb-is unb-held
+          d unb-is unb-held
 
   idle-here : st .phase ≡ Idle → here ≡ idleS unbs refs
   idle-here ph = ap (λ (z : Phase). phased z unbs refs kept) ph
@@ -281,14 +279,11 @@ module _ (y : Syntax) (s : List ℕ) (st : State) (h l b : List ℕ) (at next : 
 
       module _ {l′ : List ℕ} {k : ℕ} (o : Fitting l b (st .count) (content (y .service .release) x) k l′) {z : List ℕ} (name : z ≡ partOf s (componentAt (y .service) s at 2 0))
           {c : Bool} (auto : c ≡ same (content (y .service .release) z) (octets "AUTACK")) {m : Message} (new : m ≡ fresh c)
-          {i j : ℕ} (u : i ≡ startIn marks 1 0) (w : j ≡ endIn marks 1 0) where
-        abbrev unh-state : State
-        unh-state = record { phase = Busy; count = st .count; slot = k; unb = st .unb; unh = record { start = i; end = j }; message = m }
+          {w : Stretch} (u : w ≡ stretchIn marks 1) where
+        unh-part : slice (w .start) (w .end) s ≡ x
+        unh-part = between (g .noted refl .marks) 1 (omega arith) (omega arith) u ∙ sym field
 
-        unh-part : slice i j s ≡ x
-        unh-part = between (g .noted refl .marks) 1 (omega arith) (omega arith) u w ∙ sym field
-
-        unh-held : Held (y .service .release) s unh-state h l′ b next
+        unh-held : Held (y .service .release) s (afterUnh st k w m) h l′ b next
         unh-held =
             let one : m .segments ≡ 1 = ap (λ (x : Message). x .segments) new in
             let t = idle-taken g ph in
@@ -307,20 +302,20 @@ module _ (y : Syntax) (s : List ℕ) (st : State) (h l b : List ℕ) (at next : 
               offered = λ _ r. (o .next r .0 ∙ sym (ap (content (y .service .release)) unh-part), o .next r .1);
             }
 
-        unh-is : stateIn (y .service .release) s unh-state h l′ ≡ nextS here ask
+        unh-is : stateIn (y .service .release) s (afterUnh st k w m) h l′ ≡ nextS here ask
         unh-is =
             ap (λ (x : Summary). busyS unbs (refsIn l′ (st .count)) x)
-            (fresh-summary (y .service .release) s h i j ask new (auto ∙ ap (λ (t : List ℕ). same (content (y .service .release) t) (octets "AUTACK")) name)
-            (ap (content (y .service .release)) (between (g .noted refl .marks) 1 (omega arith) (omega arith) u w)))
+            (fresh-summary (y .service .release) s h (w .start) (w .end) ask new (auto ∙ ap (λ (t : List ℕ). same (content (y .service .release) t) (octets "AUTACK")) name)
+            (ap (content (y .service .release)) (between (g .noted refl .marks) 1 (omega arith) (omega arith) u)))
             ∙ ap (λ (rs : Snoc (List ℕ)). busyS unbs rs (opened ask)) (o .same)
             ∙ sym (by (λ (x : StateS) (k : Kind). nextK x k ask) (idle-here ph) (g .kind))
 
-        pub unh-read : Left l′ (On unh-state)
-        unh-read =
+        pub unh-read : {x : State} → x ≡ afterUnh st k w m → Left l′ (On x)
+        unh-read d =
             go (y .service .release) s h l′ b next
             (at-end (y .version) here ask at unh-order (sym e ∙ not-false q n) (unh-refs (o .new))
             (by (λ (x : StateS) (k : Kind). countsK x k ask) (idle-here ph) (g .kind)) (by (λ (x : StateS) (k : Kind). scopeK x k ask) (idle-here ph) (g .kind)) (unh-load ask (g .kind)))
-            refl unh-is unh-held
+            d unh-is unh-held
 
   module _ (g : Ready y s st h l b at next Unz f marks) (ph : st .phase ≡ Idle) where
     unz-order : orderS here ask ≡ any refs
@@ -340,13 +335,9 @@ module _ (y : Syntax) (s : List ℕ) (st : State) (h l b : List ℕ) (at next : 
         pub unz-six : inRange (digits 1 6) (textAt (y .service) s at 1 0) ≡ true
         unz-six = unz-digits (y .version) ask (ap (λ (k : Kind). formedBy (y .version) k ask) (g .kind) ∙ sym (formed-by (y .version) ask) ∙ sym e ∙ not-false q n)
 
-        module _ {x z : List ℕ} (field : x ≡ partOf s (componentAt (y .service) s at 2 0)) (part : z ≡ slice (st .unb .start) (st .unb .end) s) {a : Bool}
-            (is : a ≡ same (content (y .service .release) x) (content (y .service .release) z)) where
+        module _ {a : Bool} (is : a ≡ repeatedRef (y .service) s at (st .unb)) where
           unz-refs : refsS here ask ≡ a
-          unz-refs =
-              by (λ (z : StateS) (k : Kind). refsK z k ask) (idle-here ph) (g .kind)
-              ∙ sym (is ∙ ap (λ (t : List ℕ). same (content (y .service .release) t) (content (y .service .release) z)) field
-              ∙ ap (λ (t : List ℕ). same (ask .text 2 0) (content (y .service .release) t)) part)
+          unz-refs = by (λ (z : StateS) (k : Kind). refsK z k ask) (idle-here ph) (g .kind) ∙ sym is
 
           pub unz-other : not a ≡ true → {r : Step} → r ≡ Stop (record { number = 9; place = at }) → Told r
           unz-other v d = stop (y .service .release) s h l b next (at-9 (y .version) here ask at unz-may (sym e ∙ not-false q n) (unz-refs ∙ not-true a v)) d
@@ -361,10 +352,7 @@ module _ (y : Syntax) (s : List ℕ) (st : State) (h l b : List ℕ) (at next : 
                 (at-10 (y .version) here ask at unz-may (sym e ∙ not-false q n) (unz-refs ∙ not-false a v)
                 (unz-counts ∙ ne-eqb (numberIn ask 1) (size refs) (λ i. c (number ∙ i ∙ size-refs l (st .count) ∙ sym count)))) d
 
-            abbrev unz-state : State
-            unz-state = record { phase = Done; count = st .count; slot = st .slot; unb = st .unb; unh = st .unh; message = st .message }
-
-            unz-held : Held (y .service .release) s unz-state h l b next
+            unz-held : Held (y .service .release) s (afterOther st Done (st .count) (st .message)) h l b next
             unz-held =
                 let t = idle-taken g ph in
                 let taken : 8 * st .count + 4 * 0 ≤ next = omega (arith, t) in
@@ -379,13 +367,13 @@ module _ (y : Syntax) (s : List ℕ) (st : State) (h l b : List ℕ) (at next : 
                   offered = λ c. done-shut c;
                 }
 
-            pub unz-read : k ≡ w → Told (On unz-state)
-            unz-read c =
+            pub unz-read : k ≡ w → {x : State} → x ≡ afterOther st Done (st .count) (st .message) → Told (On x)
+            unz-read c d =
                 go (y .service .release) s h l b next
                 (at-end (y .version) here ask at unz-may (sym e ∙ not-false q n) (unz-refs ∙ not-false a v)
                 (unz-counts ∙ eq-eqb (numberIn ask 1) (size refs) (sym number ∙ c ∙ count ∙ sym (size-refs l (st .count))))
                 (by (λ (x : StateS) (k : Kind). scopeK x k ask) (idle-here ph) (g .kind)) (unz-load ask (g .kind)))
-                refl (sym (by (λ (x : StateS) (k : Kind). nextK x k ask) (idle-here ph) (g .kind))) unz-held
+                d (sym (by (λ (x : StateS) (k : Kind). nextK x k ask) (idle-here ph) (g .kind))) unz-held
 
   busy-here : st .phase ≡ Busy → here ≡ busyS unbs refs kept
   busy-here ph = ap (λ (z : Phase). phased z unbs refs kept) ph
@@ -439,8 +427,7 @@ module _ (y : Syntax) (s : List ℕ) (st : State) (h l b : List ℕ) (at next : 
           pub unt-six : inRange (digits 1 6) (textAt (y .service) s at 1 0) ≡ true
           unt-six = unt-digits (y .version) ask (ap (λ (k : Kind). formedBy (y .version) k ask) (g .kind) ∙ sym (formed-by (y .version) ask) ∙ sym e ∙ not-false q n)
 
-          module _ {a : Bool}
-              (is : a ≡ (same (textAt (y .service) s at 2 0) (content (y .service .release) (slice (st .unh .start) (st .unh .end) s)) && allNamed (headFlags h (st .message .headers)))) where
+          module _ {a : Bool} (is : a ≡ (repeatedRef (y .service) s at (st .unh) && allNamed (headFlags h (st .message .headers)))) where
             unt-refs : refsS here ask ≡ a
             unt-refs = by (λ (z : StateS) (k : Kind). refsK z k ask) (busy-here ph) (g .kind) ∙ sym is
 
@@ -460,11 +447,8 @@ module _ (y : Syntax) (s : List ℕ) (st : State) (h l b : List ℕ) (at next : 
                   stop (y .service .release) s h l b next
                   (at-10 (y .version) here ask at unt-may (sym e ∙ not-false q n) (unt-refs ∙ not-false a v) (unt-counts ∙ not-true c w)) d
 
-              abbrev unt-state : State
-              unt-state = record { phase = Idle; count = st .count + 1; slot = st .slot; unb = st .unb; unh = st .unh; message = st .message }
-
               module _ (w : not c ≡ false) (b′ : List ℕ) (chain : Indexed l b′ (st .count + 1)) where
-                unt-held : Held (y .service .release) s unt-state h l b′ next
+                unt-held : Held (y .service .release) s (afterOther st Idle (st .count + 1) (st .message)) h l b′ next
                 unt-held =
                     let t = unt-taken in
                     let i = g .held .begun in
@@ -485,15 +469,16 @@ module _ (y : Syntax) (s : List ℕ) (st : State) (h l b : List ℕ) (at next : 
                 unt-more : refsIn l (st .count + 1) ≡ refsIn l (st .count) ▷ content (y .service .release) (slice (st .unh .start) (st .unh .end) s)
                 unt-more = ap (refsIn l) (add-one (st .count)) ∙ ap (λ (t : List ℕ). refsIn l (st .count) ▷ t) (g .held .offered ph unt-room .0)
 
-                unt-is : stateIn (y .service .release) s unt-state h l ≡ nextS here ask
+                unt-is : stateIn (y .service .release) s (afterOther st Idle (st .count + 1) (st .message)) h l ≡ nextS here ask
                 unt-is = ap (λ (x : Snoc (List ℕ)). idleS unbs x) unt-more ∙ sym (by (λ (x : StateS) (k : Kind). nextK x k ask) (busy-here ph) (g .kind))
 
-                pub unt-read : StepIs (decidedFrom (y .version) (stateIn (y .service .release) s st h l) (askedAt (y .service) s at) at) (On unt-state) (y .service .release) s h l b′ next
-                unt-read =
+                pub unt-read : {x : State} → x ≡ afterOther st Idle (st .count + 1) (st .message) →
+                    StepIs (decidedFrom (y .version) (stateIn (y .service .release) s st h l) (askedAt (y .service) s at) at) (On x) (y .service .release) s h l b′ next
+                unt-read d =
                     go (y .service .release) s h l b′ next
                     (at-end (y .version) here ask at unt-may (sym e ∙ not-false q n) (unt-refs ∙ not-false a v) (unt-counts ∙ not-false c w)
                     (by (λ (x : StateS) (k : Kind). scopeK x k ask) (busy-here ph) (g .kind)) (unt-load ask (g .kind)))
-                    refl unt-is unt-held
+                    d unt-is unt-held
 
 -- ---- UNT's numbers and references, one test after the other
 
@@ -508,15 +493,12 @@ module _ {v k n w : ℕ} (e : n ≡ v) (d : w ≡ k) where
     pub counts-even : {t u : Bool} → not a ≡ false → t ≡ u → t ≡ (eqb v k && (p && u))
     counts-even i j = and-go (sym (eq-eqb v k (sym e ∙ h ∙ d))) refl (and-go even (not-false a i) j)
 
-module _ (y : Syntax) (s : List ℕ) (at : ℕ) {x z z′ : List ℕ} (field : x ≡ partOf s (componentAt (y .service) s at 2 0)) (part : z ≡ z′) {a : Bool}
-    (is : a ≡ same (content (y .service .release) x) (content (y .service .release) z)) where
-  ref-same : a ≡ same (textAt (y .service) s at 2 0) (content (y .service .release) z′)
-  ref-same =
-      is ∙ ap (λ (t : List ℕ). same (content (y .service .release) t) (content (y .service .release) z)) field
-      ∙ ap (λ (t : List ℕ). same (textAt (y .service) s at 2 0) (content (y .service .release) t)) part
+pub stretch-is : {a b : ℕ} (m : List ℕ) (p : ℕ) → a ≡ startIn m p 0 → b ≡ endIn m p 0 → _≡_ {A = Stretch} (record { start = a; end = b }) (stretchIn m p)
+stretch-is m p e d = rw (e, d)
 
-  pub ref-other : (b : Bool) → not a ≡ true → false ≡ (same (textAt (y .service) s at 2 0) (content (y .service .release) z′) && b)
-  ref-other b n = and-stop ref-same b (not-true a n)
-
-  pub ref-own : {b q : Bool} → not a ≡ false → q ≡ b → q ≡ (same (textAt (y .service) s at 2 0) (content (y .service .release) z′) && b)
-  ref-own n j = and-go ref-same (not-false a n) j
+-- a reference compared by content
+pub ref-same : (y : Syntax) (s : List ℕ) (at : ℕ) (w : Stretch) {x z : List ℕ} {a : Bool} → x ≡ partOf s (componentAt (y .service) s at 2 0) →
+    z ≡ slice (w .start) (w .end) s → a ≡ same (content (y .service .release) x) (content (y .service .release) z) → a ≡ repeatedRef (y .service) s at w
+ref-same y s at w {x} {z} field part is =
+    is ∙ ap (λ (t : List ℕ). same (content (y .service .release) t) (content (y .service .release) z)) field
+    ∙ ap (λ (t : List ℕ). same (textAt (y .service) s at 2 0) (content (y .service .release) t)) part

@@ -2,17 +2,12 @@
 ghost use mathlib.Core.Path.{_≡_};
 ghost use mathlib.Core.Bool.{true, false, _&&_};
 ghost use mathlib.Core.List.{List};
-ghost use Prim.Native.Nat.{ℕ, _+_, _*_, _≤_, _<_};
+ghost use Prim.Native.Nat.{ℕ, _+_, _≤_, _<_};
 ghost use lib.Dec.{T, eqb};
-ghost use lib.ListN.{length, drop};
+ghost use lib.ListN.{length};
 ghost use lib.Seq.{slice};
-ghost use Rattle.syntax.specs.Octets.{same};
-ghost use Rattle.syntax.specs.Content.{content};
 ghost use Rattle.syntax.specs.Service.{fit};
 ghost use Rattle.syntax.specs.Repertoire.{Table};
-ghost use Rattle.syntax.specs.Cutting.{cutAt, endAt, tagOf};
-ghost use Rattle.syntax.specs.Reader.{chain};
-ghost use Rattle.grammar.specs.Interchange.{start};
 ghost use Rattle.grammar.specs.Elements.{inRange, digits, formed};
 ghost use Rattle.elements.specs.Kinds.{kindOf};
 ghost use Rattle.elements.specs.Octets.{textAt, askedAt};
@@ -20,7 +15,7 @@ ghost use Rattle.elements.specs.Fields.{Marked, Fields, FieldsAs};
 ghost use Rattle.message.specs.Heads.{headFlags};
 ghost use Rattle.message.specs.Summary.{numberIn, evenAll, totalRight, allNamed, mayCome, atBusy};
 ghost use Rattle.message.specs.Steps.{stepM, summaryIn, Roomy, Sought, MovedIs};
-ghost use Rattle.turns.specs.Held.{unseenAs, seenIn, Entered, Sighted, stateIn, Held, Ready, decidedFrom, StepIs};
+ghost use Rattle.turns.specs.Held.{unseenAs, seenIn, Entered, Sighted, stateIn, stretchIn, repeatedRef, afterUnb, afterUnh, afterOther, Ready, decidedFrom, StepIs};
 ghost use Rattle.elements.specs.Formed.{looked};
 ghost use Rattle.turns.specs.declared.state.Phase.the-variants.{Start, Idle, Busy, Done};
 ghost use Rattle.elements.specs.declared.Kind.the-variants.{Unb, Unh, Unt, Unz, Ust};
@@ -69,9 +64,6 @@ use syntax::cutting::Cut;
 use syntax::cutting::Tag;
 use syntax::cutting::scan;
 use syntax::cutting::tag_in;
-use syntax::opening::Begun;
-use syntax::opening::begin;
-use syntax::repertoire::table;
 
 // Where the interchange stands: before UNB, between messages, in one, behind UNZ.
 pub enum Phase {
@@ -224,6 +216,73 @@ fn stopped(number: u8, place: usize) -> Step
     })
 }
 
+// Where the element at position `p` stands.
+fn stretch_in(marks: &[usize], p: usize) -> Stretch
+    requires { ⌜ (length (now marks) ≡ 40) × (1 ≤ p) × (p ≤ 5) ⌝ }
+    ensures { λ r. ⌜ r ≡ stretchIn (now (marks .entry)) p ⌝ }
+{
+    let a = field_start(marks, p, 0);
+    let e = field_end(marks, p, 0);
+    Stretch { start: a, end: e }
+}
+
+// Whether the second element, a reference, has the content of what stands at `w`.
+fn is_repeated(s: &[u8], at: usize, y: Syntax, marks: &[usize], w: Stretch) -> bool
+    requires { ⌜ Marked (y .service) (now s) at (now marks) ⌝ }
+    ensures { λ r. ⌜ r ≡ repeatedRef (y .service) (now (s .entry)) at w ⌝ }
+{
+    let v = y.service;
+    let x = field(s, at, y, marks, 2, 0);
+    same_content(x, v.release, part(s, w.start, w.end), v.release)
+}
+
+// After UNB: between messages, none so far.
+fn after_unb(st: State, u: Stretch) -> State
+    ensures { λ r. ⌜ r ≡ afterUnb st u ⌝ }
+{
+    let m = st.message;
+    let w = st.unh;
+    State {
+        phase: Phase::Idle,
+        count: 0,
+        slot: st.slot,
+        unb: u,
+        unh: w,
+        message: m,
+    }
+}
+
+// After UNH: in the message that it begins.
+fn after_unh(st: State, slot: usize, w: Stretch, m: Message) -> State
+    ensures { λ r. ⌜ r ≡ afterUnh st slot w m ⌝ }
+{
+    let u = st.unb;
+    State {
+        phase: Phase::Busy,
+        count: st.count,
+        slot: slot,
+        unb: u,
+        unh: w,
+        message: m,
+    }
+}
+
+// After any other segment: the references stay.
+fn after_other(st: State, phase: Phase, count: u32, m: Message) -> State
+    ensures { λ r. ⌜ r ≡ afterOther st phase count m ⌝ }
+{
+    let u = st.unb;
+    let w = st.unh;
+    State {
+        phase: phase,
+        count: count,
+        slot: st.slot,
+        unb: u,
+        unh: w,
+        message: m,
+    }
+}
+
 // The first segment, UNB: 8.
 fn on_unb(
     s: &[u8],
@@ -244,19 +303,7 @@ fn on_unb(
     if !unb_formed(s, at, y, marks) {
         return stopped(8, at);
     }
-    let m = st.message;
-    let w = st.unh;
-    Step::On(State {
-        phase: Phase::Idle,
-        count: 0,
-        slot: st.slot,
-        unb: Stretch {
-            start: field_start(marks, 5, 0),
-            end: field_end(marks, 5, 0),
-        },
-        unh: w,
-        message: m,
-    })
+    Step::On(after_unb(st, stretch_in(marks, 5)))
 }
 
 // UNH between messages: 8, then 0062 once in an interchange.
@@ -291,18 +338,7 @@ fn on_unh(
         Found::At(i) => {
             let auto = content_is(field(s, at, y, marks, 2, 0), v.release, b"AUTACK");
             let m = fresh_message(auto);
-            let u = st.unb;
-            Step::On(State {
-                phase: Phase::Busy,
-                count: st.count,
-                slot: i,
-                unb: u,
-                unh: Stretch {
-                    start: field_start(marks, 1, 0),
-                    end: field_end(marks, 1, 0),
-                },
-                message: m,
-            })
+            Step::On(after_unh(st, i, stretch_in(marks, 1), m))
         }
     }
 }
@@ -330,7 +366,6 @@ fn on_unz(
     requires { ⌜ st .phase ≡ Idle ⌝ }
     ensures { λ r. ⌜ StepIs (decidedFrom (y .version) (stateIn (y .service .release) (now (s .entry)) st (now (heads .entry)) (now (names .entry))) (askedAt (y .service) (now (s .entry)) at) at) r (y .service .release) (now (s .entry)) (now (heads .entry)) (now (names .entry)) (now (slots .entry)) next ⌝ }
 {
-    let v = y.service;
     if st.count == 0 {
         return stopped(7, at);
     }
@@ -338,29 +373,14 @@ fn on_unz(
         return stopped(8, at);
     }
     let u = st.unb;
-    let a = u.start;
-    let e = u.end;
-    if !same_content(
-        field(s, at, y, marks, 2, 0),
-        v.release,
-        part(s, a, e),
-        v.release,
-    ) {
+    if !is_repeated(s, at, y, marks, u) {
         return stopped(9, at);
     }
     if number_in(s, at, y, marks, 1) != wide(st.count) {
         return stopped(10, at);
     }
     let m = st.message;
-    let w = st.unh;
-    Step::On(State {
-        phase: Phase::Done,
-        count: st.count,
-        slot: st.slot,
-        unb: u,
-        unh: w,
-        message: m,
-    })
+    Step::On(after_other(st, Phase::Done, st.count, m))
 }
 
 // UNT's numbers: 0074, 0588 and CNT.
@@ -393,20 +413,12 @@ fn refs_right(
     requires { ⌜ Marked (y .service) (now s) at (now marks) ⌝ }
     requires { ⌜ st .message .headers ≤ 9 ⌝ }
     ensures { λ r. ⌜
-        r ≡ (same (textAt (y .service) (now (s .entry)) at 2 0) (content (y .service .release) (slice (st .unh .start) (st .unh .end) (now (s .entry))))
+        r ≡ (repeatedRef (y .service) (now (s .entry)) at (st .unh)
         && allNamed (headFlags (now (heads .entry)) (st .message .headers))) ⌝ }
 {
-    let v = y.service;
     let w = st.unh;
     let m = st.message;
-    let a = w.start;
-    let e = w.end;
-    if !same_content(
-        field(s, at, y, marks, 2, 0),
-        v.release,
-        part(s, a, e),
-        v.release,
-    ) {
+    if !is_repeated(s, at, y, marks, w) {
         return false;
     }
     all_named(heads, m.headers as usize)
@@ -430,7 +442,6 @@ fn on_unt(
     ensures { λ r. ⌜ StepIs (decidedFrom (y .version) (stateIn (y .service .release) (now (s .entry)) st (now (heads .entry)) (now (names .entry))) (askedAt (y .service) (now (s .entry)) at) at) r (y .service .release) (now (s .entry)) (now (heads .entry)) (now (names .entry)) (now (slots .exit)) next ⌝ }
 {
     let m = st.message;
-    let w = st.unh;
     if !may_come(Kind::Unt, m) {
         return stopped(7, at);
     }
@@ -444,15 +455,7 @@ fn on_unt(
         return stopped(10, at);
     }
     note(names, slots, st.count as usize, st.slot);
-    let u = st.unb;
-    Step::On(State {
-        phase: Phase::Idle,
-        count: st.count + 1,
-        slot: st.slot,
-        unb: u,
-        unh: w,
-        message: m,
-    })
+    Step::On(after_other(st, Phase::Idle, st.count + 1, m))
 }
 
 // What a segment does in the open message, by its kind, once it may come and is well formed.
@@ -526,18 +529,7 @@ fn on_busy(
     }
     match step_in(s, at, y, m, k, f, marks, heads, found) {
         Moved::Bad(n) => stopped(n, at),
-        Moved::To(x) => {
-            let u = st.unb;
-            let w = st.unh;
-            Step::On(State {
-                phase: Phase::Busy,
-                count: st.count,
-                slot: st.slot,
-                unb: u,
-                unh: w,
-                message: x,
-            })
-        }
+        Moved::To(x) => Step::On(after_other(st, Phase::Busy, st.count, x)),
     }
 }
 

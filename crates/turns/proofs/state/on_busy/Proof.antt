@@ -39,6 +39,9 @@ stopped-requires-3 c κs = search needs
 enum-known-x : tie.Need-enum-known-x
 enum-known-x c = search needs
 
+after-other-requires : tie.Need-after-other-requires
+after-other-requires c κs = search needs
+
 returns-3 : tie.Need-returns-3
 returns-3 c =
     let g = c .before .before .before .before .before .before .before .before .before .before .before .before .before .before .before in
@@ -46,8 +49,8 @@ returns-3 c =
 
 returns-4 : tie.Need-returns-4
 returns-4 c =
-    let g = c .before .before .before .before .before .before .before .before .before .before .before .before .before .before .before .before in
-    busy-on (g .pre .0) (g .pre .1 .0 .0) (c .before .before .before .before .before .before .before .before .before .before .may-come .ensures) (c .before .before .before .before .before .before .before .before .before .if1 .left) (c .before .before .before .before .before .before .before .before .is-formed .ensures) (c .before .before .before .before .before .before .before .if2 .left) (g .pre .1 .0 .1) (c .before .before .before .before .before .step-in .result) (c .before .before .before .before .before .step-in .last .1 .1 .1 .1 .1 .1 .1 .0) (c .before .before .before .before .before .step-in .ensures .0) (c .before .before .before .x .given .1) (c .before .before .before .before .before .step-in .ensures .1)
+    let g = c .before .before .before .before .before .before .before .before .before .before .before .before .before .before .before in
+    busy-on (g .pre .0) (g .pre .1 .0 .0) (c .before .before .before .before .before .before .before .before .before .may-come .ensures) (c .before .before .before .before .before .before .before .before .if1 .left) (c .before .before .before .before .before .before .before .is-formed .ensures) (c .before .before .before .before .before .before .if2 .left) (g .pre .1 .0 .1) (c .before .before .before .before .step-in .result) (c .before .before .before .before .step-in .last .1 .1 .1 .1 .1 .1 .1 .0) (c .before .before .before .before .step-in .ensures .0) (c .before .before .x .given .1) (c .before .before .before .before .step-in .ensures .1) (c .after-other .ensures)
 
 pub on-busy-spec : {M : Type 1} → statement M
 on-busy-spec =
@@ -63,5 +66,6 @@ on-busy-spec =
     enum-known-n
     stopped-requires-3
     enum-known-x
+    after-other-requires
     returns-3
     returns-4)

@@ -1,7 +1,7 @@
 use mathlib.Core.Path.{refl}
+use Rattle.elements.specs.Octets.{askedAt}
 use Rattle.elements.specs.FormedLaws.{formed-at}
 use Rattle.elements.specs.declared.Kind.the-variants.{Unb}
-use Rattle.elements.specs.Octets.{askedAt}
 use Rattle.turns.specs.WalkingLaws.{unb-bad, unb-read}
 use borrow.Author.Needs.{needs}
 use Rattle.turns.proofs.state.on_unb.Statement.{statement}
@@ -18,16 +18,16 @@ returns c =
     let g = c .before .before .before .before .before .before .before in
     unb-bad (g .args .y) (g .args .s .now) (g .args .st) (g .args .heads .now) (g .args .names .now) (g .args .slots .now) (g .args .at) (g .args .next) (g .args .f) (g .args .marks .now) (g .pre .0) (g .pre .1) (formed-at _ (askedAt (g .args .y .service) (g .args .s .now) (g .args .at)) (g .pre .0 .kind) Unb refl (c .before .before .unb-formed .ensures)) (c .before .if1 .taken) (c .stopped .ensures)
 
-field-start-requires : tie.Need-field-start-requires
-field-start-requires c κs = search needs
+stretch-in-requires : tie.Need-stretch-in-requires
+stretch-in-requires c κs = search needs
 
-field-end-requires : tie.Need-field-end-requires
-field-end-requires c κs = search needs
+after-unb-requires : tie.Need-after-unb-requires
+after-unb-requires c κs = search needs
 
 returns-2 : tie.Need-returns-2
 returns-2 c =
-    let g = c .before .before .before .before .before .before .before .before .before .before in
-    unb-read (g .args .y) (g .args .s .now) (g .args .st) (g .args .heads .now) (g .args .names .now) (g .args .slots .now) (g .args .at) (g .args .next) (g .args .f) (g .args .marks .now) (g .pre .0) (g .pre .1) (formed-at _ (askedAt (g .args .y .service) (g .args .s .now) (g .args .at)) (g .pre .0 .kind) Unb refl (c .before .before .before .before .before .unb-formed .ensures)) (c .before .field-start .ensures) (c .field-end .ensures) (c .before .before .before .before .if1 .left)
+    let g = c .before .before .before .before .before .before .before .before in
+    unb-read (g .args .y) (g .args .s .now) (g .args .st) (g .args .heads .now) (g .args .names .now) (g .args .slots .now) (g .args .at) (g .args .next) (g .args .f) (g .args .marks .now) (g .pre .0) (g .pre .1) (formed-at _ (askedAt (g .args .y .service) (g .args .s .now) (g .args .at)) (g .pre .0 .kind) Unb refl (c .before .before .before .unb-formed .ensures)) (c .before .stretch-in .ensures) (c .before .before .if1 .left) (c .after-unb .ensures)
 
 pub on-unb-spec : {M : Type 1} → statement M
 on-unb-spec =
@@ -36,6 +36,6 @@ on-unb-spec =
     unb-formed-requires
     stopped-requires
     returns
-    field-start-requires
-    field-end-requires
+    stretch-in-requires
+    after-unb-requires
     returns-2)

@@ -1,22 +1,12 @@
+use native.Mathlib.Omega.{arith}
+use mathlib.Core.Path.{refl}
+use Rattle.elements.specs.Octets.{askedAt}
+use Rattle.elements.specs.FormedLaws.{formed-at}
 use Rattle.elements.specs.declared.Kind.the-variants.{Unh}
 use Rattle.turns.specs.WalkingLaws.{offer-at, unh-bad, unh-name, unh-again, unh-read}
-use native.Mathlib.Omega.{arith}
-use Rattle.elements.specs.FormedLaws.{formed-at}
-use Rattle.elements.specs.Octets.{askedAt}
-use mathlib.Core.Path.{refl}
 use borrow.Author.Needs.{needs}
 use Rattle.turns.proofs.state.on_unh.Statement.{statement}
 use Rattle.turns.proofs.state.on_unh.Tie as tie
-use Rattle.turns.proofs.state.on_unh.Reads as reads
-use Rattle.turns.proofs.state.on_unh.Lts as lts
-use Rattle.elements.proofs.fields.field.Reads as field-reads
-use Rattle.elements.proofs.fields.field_end.Reads as field-end-reads
-use Rattle.elements.proofs.fields.field_start.Reads as field-start-reads
-use Rattle.elements.proofs.formed.unh_formed.Reads as unh-formed-reads
-use Rattle.message.proofs.kept.fresh_message.Reads as fresh-message-reads
-use Rattle.references.proofs.refs.offer.Reads as offer-reads
-use Rattle.syntax.proofs.content.content_is.Reads as content-is-reads
-use Rattle.turns.proofs.state.stopped.Reads as stopped-reads
 
 unh-formed-requires : tie.Need-unh-formed-requires
 unh-formed-requires c κs = c .before .before .before .before .before .pre .0 .noted refl .marks
@@ -25,7 +15,9 @@ stopped-requires : tie.Need-stopped-requires
 stopped-requires c κs = search needs
 
 returns : tie.Need-returns
-returns c = unh-bad (c .before .before .before .before .before .before .before .before .args .y) (c .before .before .before .before .before .before .before .before .args .s .now) (c .before .before .before .before .before .before .before .before .args .st) (c .before .before .before .before .before .before .before .before .args .heads .now) (c .before .before .before .before .before .before .before .before .args .names .now) (c .before .before .before .before .before .before .before .before .args .slots .now) (c .before .before .before .before .before .before .before .before .args .at) (c .before .before .before .before .before .before .before .before .args .next) (c .before .before .before .before .before .before .before .before .args .f) (c .before .before .before .before .before .before .before .before .args .marks .now) (c .before .before .before .before .before .before .before .before .pre .0) (c .before .before .before .before .before .before .before .before .pre .1) (formed-at _ (askedAt (c .before .before .before .before .before .before .before .before .args .y .service) (c .before .before .before .before .before .before .before .before .args .s .now) (c .before .before .before .before .before .before .before .before .args .at)) (c .before .before .before .before .before .before .before .before .pre .0 .kind) Unh refl (c .before .before .unh-formed .ensures)) (c .before .if1 .taken) (c .stopped .ensures)
+returns c =
+    let g = c .before .before .before .before .before .before .before .before in
+    unh-bad (g .args .y) (g .args .s .now) (g .args .st) (g .args .heads .now) (g .args .names .now) (g .args .slots .now) (g .args .at) (g .args .next) (g .args .f) (g .args .marks .now) (g .pre .0) (g .pre .1) (formed-at _ (askedAt (g .args .y .service) (g .args .s .now) (g .args .at)) (g .pre .0 .kind) Unh refl (c .before .before .unh-formed .ensures)) (c .before .if1 .taken) (c .stopped .ensures)
 
 cast-offer : tie.Need-cast-offer
 cast-offer c = search needs
@@ -34,7 +26,9 @@ field-requires : tie.Need-field-requires
 field-requires c κs = (c .before .before .before .before .before .before .before .before .before .pre .0 .noted refl .marks, (omega arith, omega arith, omega arith))
 
 offer-requires : tie.Need-offer-requires
-offer-requires c κs = (c .before .before .before .before .before .before .before .before .before .before .pre .0 .held .indexed, unh-name (c .before .before .before .before .before .before .before .before .before .before .args .y) (c .before .before .before .before .before .before .before .before .before .before .args .s .now) (c .before .before .before .before .before .before .before .before .before .before .args .st) (c .before .before .before .before .before .before .before .before .before .before .args .heads .now) (c .before .before .before .before .before .before .before .before .before .before .args .names .now) (c .before .before .before .before .before .before .before .before .before .before .args .slots .now) (c .before .before .before .before .before .before .before .before .before .before .args .at) (c .before .before .before .before .before .before .before .before .before .before .args .next) (c .before .before .before .before .before .before .before .before .before .before .args .f) (c .before .before .before .before .before .before .before .before .before .before .args .marks .now) (c .before .before .before .before .before .before .before .before .before .before .pre .0) (c .before .before .before .before .before .before .before .before .before .before .pre .1) (formed-at _ (askedAt (c .before .before .before .before .before .before .before .before .before .before .args .y .service) (c .before .before .before .before .before .before .before .before .before .before .args .s .now) (c .before .before .before .before .before .before .before .before .before .before .args .at)) (c .before .before .before .before .before .before .before .before .before .before .pre .0 .kind) Unh refl (c .before .before .before .before .unh-formed .ensures)) (c .before .before .before .if1 .left) (c .field .ensures))
+offer-requires c κs =
+    let g = c .before .before .before .before .before .before .before .before .before .before in
+    (g .pre .0 .held .indexed, unh-name (g .args .y) (g .args .s .now) (g .args .st) (g .args .heads .now) (g .args .names .now) (g .args .slots .now) (g .args .at) (g .args .next) (g .args .f) (g .args .marks .now) (g .pre .0) (g .pre .1) (formed-at _ (askedAt (g .args .y .service) (g .args .s .now) (g .args .at)) (g .pre .0 .kind) Unh refl (c .before .before .before .before .unh-formed .ensures)) (c .before .before .before .if1 .left) (c .field .ensures))
 
 enum-told : tie.Need-enum-told
 enum-told c = search needs
@@ -57,23 +51,27 @@ content-is-requires c κs = search needs
 fresh-message-requires : tie.Need-fresh-message-requires
 fresh-message-requires c κs = search needs
 
-field-start-requires : tie.Need-field-start-requires
-field-start-requires c κs = (c .before .before .before .before .before .before .before .before .before .before .before .before .before .before .before .before .before .before .before .before .before .pre .0 .marks, omega arith, omega arith, omega arith)
+stretch-in-requires : tie.Need-stretch-in-requires
+stretch-in-requires c κs = (c .before .before .before .before .before .before .before .before .before .before .before .before .before .before .before .before .before .before .before .before .pre .0 .marks, omega arith, omega arith)
 
-field-end-requires : tie.Need-field-end-requires
-field-end-requires c κs = (c .before .before .before .before .before .before .before .before .before .before .before .before .before .before .before .before .before .before .before .before .before .before .pre .0 .marks, omega arith, omega arith, omega arith)
+after-unh-requires : tie.Need-after-unh-requires
+after-unh-requires c κs = search needs
 
 same-length : tie.Need-same-length
 same-length c = search needs
 
 returns-2 : tie.Need-returns-2
-returns-2 c = unh-again (c .before .before .before .before .before .before .before .before .before .before .before .before .before .before .before .before .args .y) (c .before .before .before .before .before .before .before .before .before .before .before .before .before .before .before .before .args .s .now) (c .before .before .before .before .before .before .before .before .before .before .before .before .before .before .before .before .args .st) (c .before .before .before .before .before .before .before .before .before .before .before .before .before .before .before .before .args .heads .now) (c .before .before .before .before .before .before .before .before .before .before .before .before .before .before .before .before .args .names .now) (c .before .before .before .before .before .before .before .before .before .before .before .before .before .before .before .before .args .slots .now) (c .before .before .before .before .before .before .before .before .before .before .before .before .before .before .before .before .args .at) (c .before .before .before .before .before .before .before .before .before .before .before .before .before .before .before .before .args .next) (c .before .before .before .before .before .before .before .before .before .before .before .before .before .before .before .before .args .f) (c .before .before .before .before .before .before .before .before .before .before .before .before .before .before .before .before .args .marks .now) (c .before .before .before .before .before .before .before .before .before .before .before .before .before .before .before .before .pre .0) (c .before .before .before .before .before .before .before .before .before .before .before .before .before .before .before .before .pre .1) (formed-at _ (askedAt (c .before .before .before .before .before .before .before .before .before .before .before .before .before .before .before .before .args .y .service) (c .before .before .before .before .before .before .before .before .before .before .before .before .before .before .before .before .args .s .now) (c .before .before .before .before .before .before .before .before .before .before .before .before .before .before .before .before .args .at)) (c .before .before .before .before .before .before .before .before .before .before .before .before .before .before .before .before .pre .0 .kind) Unh refl (c .before .before .before .before .before .before .before .before .before .before .unh-formed .ensures)) (c .before .before .before .before .before .before .before .before .before .if1 .left) (c .before .before .before .before .before .before .field .ensures) _ (c .before .before .before .before .before .offer .result) (c .before .before .before .before .before .offer .ensures) (c .before .enum-told .given .1) (c .stopped2 .ensures)
+returns-2 c =
+    let g = c .before .before .before .before .before .before .before .before .before .before .before .before .before .before .before .before in
+    unh-again (g .args .y) (g .args .s .now) (g .args .st) (g .args .heads .now) (g .args .names .now) (g .args .slots .now) (g .args .at) (g .args .next) (g .args .f) (g .args .marks .now) (g .pre .0) (g .pre .1) (formed-at _ (askedAt (g .args .y .service) (g .args .s .now) (g .args .at)) (g .pre .0 .kind) Unh refl (c .before .before .before .before .before .before .before .before .before .before .unh-formed .ensures)) (c .before .before .before .before .before .before .before .before .before .if1 .left) (c .before .before .before .before .before .before .field .ensures) _ (c .before .before .before .before .before .offer .result) (c .before .before .before .before .before .offer .ensures) (c .before .enum-told .given .1) (c .stopped2 .ensures)
 
 same-length-2 : tie.Need-same-length-2
-same-length-2 c = search needs
+same-length-2 c = let o = c .before .before .before .before .before .before .before .before .before .before .before .offer in search needs
 
 returns-3 : tie.Need-returns-3
-returns-3 c = unh-read (c .before .before .before .before .before .before .before .before .before .before .before .before .before .before .before .before .before .before .before .before .before .before .before .args .y) (c .before .before .before .before .before .before .before .before .before .before .before .before .before .before .before .before .before .before .before .before .before .before .before .args .s .now) (c .before .before .before .before .before .before .before .before .before .before .before .before .before .before .before .before .before .before .before .before .before .before .before .args .st) (c .before .before .before .before .before .before .before .before .before .before .before .before .before .before .before .before .before .before .before .before .before .before .before .args .heads .now) (c .before .before .before .before .before .before .before .before .before .before .before .before .before .before .before .before .before .before .before .before .before .before .before .args .names .now) (c .before .before .before .before .before .before .before .before .before .before .before .before .before .before .before .before .before .before .before .before .before .before .before .args .slots .now) (c .before .before .before .before .before .before .before .before .before .before .before .before .before .before .before .before .before .before .before .before .before .before .before .args .at) (c .before .before .before .before .before .before .before .before .before .before .before .before .before .before .before .before .before .before .before .before .before .before .before .args .next) (c .before .before .before .before .before .before .before .before .before .before .before .before .before .before .before .before .before .before .before .before .before .before .before .args .f) (c .before .before .before .before .before .before .before .before .before .before .before .before .before .before .before .before .before .before .before .before .before .before .before .args .marks .now) (c .before .before .before .before .before .before .before .before .before .before .before .before .before .before .before .before .before .before .before .before .before .before .before .pre .0) (c .before .before .before .before .before .before .before .before .before .before .before .before .before .before .before .before .before .before .before .before .before .before .before .pre .1) (formed-at _ (askedAt (c .before .before .before .before .before .before .before .before .before .before .before .before .before .before .before .before .before .before .before .before .before .before .before .args .y .service) (c .before .before .before .before .before .before .before .before .before .before .before .before .before .before .before .before .before .before .before .before .before .before .before .args .s .now) (c .before .before .before .before .before .before .before .before .before .before .before .before .before .before .before .before .before .before .before .before .before .before .before .args .at)) (c .before .before .before .before .before .before .before .before .before .before .before .before .before .before .before .before .before .before .before .before .before .before .before .pre .0 .kind) Unh refl (c .before .before .before .before .before .before .before .before .before .before .before .before .before .before .before .before .before .unh-formed .ensures)) (c .before .before .before .before .before .before .before .before .before .before .before .before .before .before .before .before .if1 .left) (c .before .before .before .before .before .before .before .before .before .before .before .before .before .field .ensures) (offer-at (c .before .before .before .before .before .before .before .before .before .before .before .before .offer .result) (c .before .before .before .before .before .before .before .before .before .before .before .before .offer .ensures) (c .before .before .before .before .before .before .before .before .i .given .1)) (c .before .before .before .before .before .before .field2 .ensures) (c .before .before .before .before .content-is .ensures) (c .before .before .before .fresh-message .ensures) (c .before .field-start .ensures) (c .field-end .ensures)
+returns-3 c =
+    let g = c .before .before .before .before .before .before .before .before .before .before .before .before .before .before .before .before .before .before .before .before .before .before in
+    unh-read (g .args .y) (g .args .s .now) (g .args .st) (g .args .heads .now) (g .args .names .now) (g .args .slots .now) (g .args .at) (g .args .next) (g .args .f) (g .args .marks .now) (g .pre .0) (g .pre .1) (formed-at _ (askedAt (g .args .y .service) (g .args .s .now) (g .args .at)) (g .pre .0 .kind) Unh refl (c .before .before .before .before .before .before .before .before .before .before .before .before .before .before .before .before .unh-formed .ensures)) (c .before .before .before .before .before .before .before .before .before .before .before .before .before .before .before .if1 .left) (c .before .before .before .before .before .before .before .before .before .before .before .before .field .ensures) (offer-at (c .before .before .before .before .before .before .before .before .before .before .before .offer .result) (c .before .before .before .before .before .before .before .before .before .before .before .offer .ensures) (c .before .before .before .before .before .before .before .i .given .1)) (c .before .before .before .before .before .field2 .ensures) (c .before .before .before .content-is .ensures) (c .before .before .fresh-message .ensures) (c .before .stretch-in .ensures) (c .after-unh .ensures)
 
 pub on-unh-spec : {M : Type 1} → statement M
 on-unh-spec =
@@ -92,8 +90,8 @@ on-unh-spec =
     slice-aggregate-content-is
     content-is-requires
     fresh-message-requires
-    field-start-requires
-    field-end-requires
+    stretch-in-requires
+    after-unh-requires
     same-length
     returns-2
     same-length-2
