@@ -2,7 +2,7 @@
 use Prim.Native.Nat.{ℕ, _+_}
 use native.Mathlib.Omega.{arith}
 use mathlib.Core.List.{List, [], _∷_, _++_}
-use mathlib.Core.Option.{Option, none, some}
+use mathlib.Core.Option.{Option, none, some, Option·none-ne-some}
 use mathlib.Core.Path.{_≡_, refl, ap, _∙_, sym, subst}
 use lib.Dec.{T}
 use lib.ListN.{length, length-append}
@@ -167,10 +167,7 @@ kind-goes Reserved g x e = nothing
 kind-goes Free g x e = in-open (in-body (item-b g)) x
 
 goes-to : {g : Segment} {x : Reading} {r : Option Reading} {z : Reading} → MayGo g x r → r ≡ some z → Goes g x z
-goes-to nothing e = absurd (never e)
-  where
-    never : {z : Reading} → none ≡ some z → ⊥
-    never e = let q : _≡_ {A = ℕ} 0 1 = cc in omega arith
+goes-to nothing e = absurd (Option·none-ne-some _ e)
 goes-to {z = z} (goes {z = w} k) e = let h : w ≡ z = cc in rw h at k
 
 -- a segment that is placed goes one of these ways, and no other

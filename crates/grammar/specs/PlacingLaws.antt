@@ -277,7 +277,7 @@ trail-of a b nil h = tt
 trail-of a b (ts ▷ t) h = h
 
 -- a header's scope is in its USH alone
-scope-of : (a : Bool) (c : Leaf) (us vs : Snoc Leaf) (cs ds : Snoc Certificate) → holds (scopeRight a (header c us cs)) → holds (scopeRight a (header c vs ds))
+pub scope-of : (a : Bool) (c : Leaf) (us vs : Snoc Leaf) (cs ds : Snoc Certificate) → holds (scopeRight a (header c us cs)) → holds (scopeRight a (header c vs ds))
 scope-of true c us vs cs ds h = h
 scope-of false c us vs cs ds h = h
 

@@ -7,13 +7,15 @@ use mathlib.Core.Path.{_≡_, refl, ap, ap₂, sym, _∙_, subst}
 use mathlib.Core.Bool.{Bool, true, false, cond, not, _&&_, false≢true}
 use borrow.Author.Tests.{ne-eqb, lt-leb, le-ltb, ltb-false, leb-false, eqb-false, eqb-true, le-leb}
 use lib.Dec.{T, eqb, leb, ltb, leb→le}
-use lib.ListN.{length, getD, drop, length-drop}
+use lib.ListN.{length, getD, drop}
 use Rattle.syntax.specs.Octets.{within}
 use Rattle.syntax.specs.Service.{standard, withoutRepetition, servant, repetitionDiffers, fit, kind}
 use Rattle.syntax.specs.Cutting.{stopFrom, endAt, tagOf}
 use Rattle.syntax.specs.Segment.{Piece, piece, pieces, piecesAt, atElement, atComponent, componentAt, partOf, repeats}
 use Rattle.syntax.specs.Content.{content}
 use Rattle.syntax.specs.Opening.{startsUna, unaService, readUna, openingOf, levelNamed, versionNamed, bothNamed, declaredAt, refusedUnb, isTag, isUnb, isThere, begunAt, begunBy, begunOf}
+use Rattle.syntax.specs.ContentLaws.{drop-short}
+use Rattle.syntax.specs.OpeningLaws.{no-repetition}
 use Rattle.syntax.specs.Tree as syntax
 use Rattle.syntax.specs.Tree.{Segment, printS, well, repeatsOf}
 use Rattle.syntax.specs.TreeLaws.{off, and-left, and-right, and-both, print-cons}
@@ -83,14 +85,6 @@ stop5-same σ f (b ∷ s) i = by (kinds σ f b) (λ g. stop5-same σ g s (suc i)
     by k-repeat r = r false
     by k-element r = r false
     by k-segment r = refl
-
--- nor does its tag
-pub tag-same : (σ : Service) (s : List ℕ) → tagOf (withoutRepetition σ) s ≡ tagOf σ s
-tag-same σ [] = refl
-tag-same σ (a ∷ []) = refl
-tag-same σ (a ∷ b ∷ []) = refl
-tag-same σ (a ∷ b ∷ c ∷ []) = refl
-tag-same σ (a ∷ b ∷ c ∷ d ∷ s) = refl
 
 -- ---- pieces that are the same up to the first repeat
 
@@ -228,11 +222,8 @@ unb-once y u h = once-by (repeatsOf (elementAt u 1)) _ _ h
 
 -- ---- the start of what has UNB at its opening's place
 
-past : (i : ℕ) (s : List ℕ) {b : ℕ} {l : List ℕ} → drop i s ≡ b ∷ l → i < length s
-past i s {b} {l} e = let k : length s - i ≡ suc (length l) = sym (length-drop i s) ∙ ap length e in omega arith
-
 tag-alike : (σ τ : Service) → withoutRepetition σ ≡ withoutRepetition τ → (s : List ℕ) → tagOf σ s ≡ tagOf τ s
-tag-alike σ τ e s = sym (tag-same σ s) ∙ ap (λ (w : Service). tagOf w s) e ∙ tag-same τ s
+tag-alike σ τ e s = sym (no-repetition σ s) ∙ ap (λ (w : Service). tagOf w s) e ∙ no-repetition τ s
 
 -- the content of a component of the first element
 abbrev nameAt : Service → List ℕ → ℕ → ℕ → List ℕ
@@ -251,7 +242,7 @@ begun-print s o σ q f u r w d e =
     let h : endAt (withoutRepetition (o .service)) s (o .at) ≡ At (o .at + (length (printS σ (seg Unb u)) - 1)) =
     ap (λ (x : Service). endAt x s (o .at)) (sym q) ∙ stop5-same σ false (drop (o .at) s) (o .at) ∙ b .end in
     let k : tagOf (o .service) (drop (o .at) s) ≡ Is 85 78 66 = tag-alike (o .service) σ (sym q) (drop (o .at) s) ∙ b .tag in
-    steps (lt-leb (length s) (o .at) (past (o .at) s d)) (ap isThere h) k
+    steps (lt-leb (length s) (o .at) (drop-short (o .at) s d)) (ap isThere h) k
     ∙ ap₂ (bothNamed o) (ap levelNamed (names-alike σ (o .service) q f s (o .at) u r w d e 0)) (ap versionNamed (names-alike σ (o .service) q f s (o .at) u r w d e 1))
   where
     steps : leb (length s) (o .at) ≡ false → isThere (endAt (withoutRepetition (o .service)) s (o .at)) ≡ true → tagOf (o .service) (drop (o .at) s) ≡ Is 85 78 66 →

@@ -1,11 +1,8 @@
 -- A test that is passed, told as a truth value and as what it says.
 use mathlib.Core.Bool.{Bool, true, false, _||_, false≢true}
-use mathlib.Core.Path.{_≡_, refl}
+use mathlib.Core.Path.{_≡_}
 use lib.Dec.{T}
-
-pub is-true : (b : Bool) → T b → b ≡ true
-is-true true h = refl
-is-true false h = absurd h
+pub use Rattle.syntax.specs.TreeLaws.{is-true}
 
 pub passes : (b : Bool) → b ≡ true → T b
 passes true e = tt

@@ -3,7 +3,7 @@ use Prim.Native.Nat.{ℕ, _+_}
 use native.Mathlib.Omega.{arith}
 use mathlib.Core.Bool.{true, false}
 use mathlib.Core.List.{List, [], _∷_}
-use mathlib.Core.Option.{Option, none, some}
+use mathlib.Core.Option.{Option, none, some, Option·none-ne-some}
 use mathlib.Core.Path.{_≡_, refl, ap, sym, _∙_, subst}
 use lib.Dec.{T}
 use lib.ListN.{length}
@@ -25,9 +25,6 @@ use Rattle.grammar.specs.Verdict.{Test, tested, on, tests, Answer, read,
 
 refusal : {n p : ℕ} {z : Reading} → refused n p ≡ read z → ⊥
 refusal e = let z : _≡_ {A = ℕ} 0 1 = cc in omega arith
-
-never : {A : Type 0} {a : A} → none ≡ some a → ⊥
-never e = let z : _≡_ {A = ℕ} 0 1 = cc in omega arith
 
 -- ---- one step
 
@@ -156,15 +153,15 @@ first-passed (go {z = z} k r) = (z, k, r)
 
 before-some : (o : Option Segment) (q : Option (List Segment)) {gs : List Segment} → before o q ≡ some gs
     → (g : Segment) × (hs : List Segment) × (o ≡ some g) × (q ≡ some hs) × (g ∷ hs ≡ gs)
-before-some none q e = absurd (never e)
-before-some (some g) none e = absurd (never e)
+before-some none q e = absurd (Option·none-ne-some _ e)
+before-some (some g) none e = absurd (Option·none-ne-some _ e)
 before-some (some g) (some hs) {gs} e = let k : g ∷ hs ≡ gs = cc in (g, hs, refl, refl, k)
 
 unless-placed : (x : Reading) (g : Segment) {z : Reading} → place x g ≡ some z → (p : ℕ) (a : Answer) → unless-done x p a ≡ a
 unless-placed start g h p a = refl
 unless-placed (idle u ms) g h p a = refl
 unless-placed (busy u ms o) g h p a = refl
-unless-placed (done u ms z) g h p a = absurd (never (sym (done-stops u ms z g) ∙ h))
+unless-placed (done u ms z) g h p a = absurd (Option·none-ne-some _ (sym (done-stops u ms z g) ∙ h))
 
 -- where a run over the chain's segments ends in a whole interchange, the walk reads it
 pub runs-walk : (y : Syntax) (n : Chain) (x : Reading) (p : ℕ) (gs : List Segment) (u : Leaf) (ms : Snoc Message) (z : Leaf)
@@ -173,7 +170,7 @@ runs-walk y over x p gs u ms z e r =
     let k : gs ≡ [] = cc in
     let s : Runs y x [] (done u ms z) = subst (λ (l : List Segment). Runs y x l (done u ms z)) k r in
     ap (λ (v : Reading). atEnd v p) (none-left s)
-runs-walk y left x p gs u ms z e r = absurd (never e)
+runs-walk y left x p gs u ms z e r = absurd (Option·none-ne-some _ e)
 runs-walk y (open′ c cs rs es n) x p gs u ms z e r =
     let rest : Segment → Reading → Answer = λ (g : Segment) (v : Reading). walk y v n (p + length (printS (y .service) g)) in
     let turn : Segment → Answer = λ (g : Segment). then (decided (tests y g p (place x g)) (place x g)) (rest g) in

@@ -1,7 +1,7 @@
 -- Facts on what the code keeps of a list: the sums, the pairs, and the header that a trailer names.
 use Prim.Native.Nat.{ℕ, _<_}
 use native.Mathlib.Omega.{arith}
-use mathlib.Core.Bool.{Bool, true, false, cond, not, _&&_, _||_, false≢true}
+use mathlib.Core.Bool.{Bool, true, false, cond, not, _&&_, _||_, and-true, and-false, false≢true}
 use mathlib.Core.List.{List}
 use mathlib.Core.Option.{Option, none, some}
 use mathlib.Core.Path.{_≡_, refl, ap, _∙_, sym}
@@ -35,14 +35,6 @@ same-turn x y e = ap (λ (z : List ℕ). same y z) (same-eq x y (passes (same x 
 
 same-sym : (x y : List ℕ) → same x y ≡ same y x
 same-sym x y = same-bool (same x y) (same y x) (same-turn x y) (same-turn y x)
-
-and-none : (b : Bool) → false ≡ (b && false)
-and-none true = refl
-and-none false = refl
-
-so-and : (b : Bool) → b ≡ (b && true)
-so-and true = refl
-so-and false = refl
 
 -- ---- sizes
 
@@ -84,9 +76,9 @@ all-first s (nil ▷ n) = rw (is-true (eqb n n) (eqb-refl n))
 all-first s (c ▷ m ▷ n) = rw (all-first s (c ▷ m)) (swap (agreeIn (c ▷ m)) (firstIn (c ▷ m)) (eqb (firstIn (c ▷ m)) s) refl)
   where
     swap : (a : Bool) (f : ℕ) (e : Bool) → eqb f s ≡ e → (a && eqb f s && eqb n s) ≡ ((a && eqb n f) && eqb f s)
-    swap true f true h = rw (h, eqb→eq f s (passes (eqb f s) h)) (so-and (eqb n s))
+    swap true f true h = rw (h, eqb→eq f s (passes (eqb f s) h)) (sym (and-true (eqb n s)))
     swap false f true h = refl
-    swap true f false h = rw h (and-none (eqb n f))
+    swap true f false h = rw h (sym (and-false (eqb n f)))
     swap false f false h = refl
 
 -- the control totals are the sum of the loads
@@ -154,10 +146,10 @@ module _ (r : List ℕ) (names : Snoc (List ℕ)) (hs : Snoc Header) (h : Header
       → Spot r (hs ▷ h) names (orElse o (cond (e && not (among names (refH h))) (some (size (each refH hs))) none))
   last o false e d k = other o e k
   last o true e d (no k) = this e (apart e d) (among names (refH h)) refl
-  last o true e d (yes i k l s f) = absurd (false≢true (and-none (not (among names r)) ∙ ap (λ (b : Bool). not (among names r) && b) (sym (apart e d)) ∙ k))
+  last o true e d (yes i k l s f) = absurd (false≢true (sym (and-false (not (among names r))) ∙ ap (λ (b : Bool). not (among names r) && b) (sym (apart e d)) ∙ k))
 
 -- the search finds it
 pub spot : (r : List ℕ) (hs : Snoc Header) (names : Snoc (List ℕ)) → holds (distinct (each refH hs))
     → Spot r hs names (freeAt r (each refH hs) (flagsOf names (each refH hs)))
-spot r nil names d = no (sym (and-none (not (among names r))))
+spot r nil names d = no (and-false (not (among names r)))
 spot r (hs ▷ h) names d = last r names hs h (freeAt r (each refH hs) (flagsOf names (each refH hs))) (same (refH h) r) refl d (spot r hs names (d .0))

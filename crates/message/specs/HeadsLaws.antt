@@ -3,7 +3,7 @@ use Prim.Native.Nat.{ℕ, zero, suc, _+_, _*_, _-_, _^_, _≤_, _<_}
 use native.Mathlib.Omega.{arith}
 use native.Mathlib.Numerals.{add-one}
 use mathlib.Core.Path.{_≡_, refl, ap, sym, _∙_, subst}
-use mathlib.Core.Bool.{Bool, true, false, cond, not, _&&_, _||_}
+use mathlib.Core.Bool.{Bool, true, false, cond, not, _&&_, and-true, and-false, or-true}
 use mathlib.Core.List.{List}
 use mathlib.Core.Option.{Option, none, some}
 use borrow.Author.Tests.{eq-eqb, ne-eqb, lt-ltb, le-ltb, eqb-true, eqb-false}
@@ -37,12 +37,8 @@ grows P i (suc n) step p l = here (eqb i n) refl (grows P i n step p)
 
 -- ---- one of these references
 
-or-right : (b : Bool) → (b || true) ≡ true
-or-right true = refl
-or-right false = refl
-
 among-hit : (f : ℕ → List ℕ) (r : List ℕ) (i n : ℕ) → i < n → same (f i) r ≡ true → among (upto n f) r ≡ true
-among-hit f r i n l e = grows (λ (k : ℕ). among (upto k f) r ≡ true) i n (λ k _ p. rw p (or-right (same (f k) r))) (rw e) l
+among-hit f r i n l e = grows (λ (k : ℕ). among (upto k f) r ≡ true) i n (λ k _ p. rw p (or-true (same (f k) r))) (rw e) l
 
 pub record Naming (ρ : ℕ) (s h x : List ℕ) (n i : ℕ) : Type 0 where
   pub most : i ≤ n
@@ -99,11 +95,7 @@ module _ (ρ : ℕ) (s h x : List ℕ) (i : ℕ) where
 
   pub free-by : {p : List ℕ} {b : Bool} → getD h (4 * i + 3) 0 ≡ 0 → p ≡ slice (getD h (4 * i) 0) (getD h (4 * i + 1) 0) s → b ≡ same (content ρ p) x
       → b ≡ (same (headRef ρ s h i) x && not (headFlag h i))
-  free-by {p} {b} u q e = rw (← q, ← e, eq-eqb _ _ u) (by b)
-    where
-      by : (c : Bool) → c ≡ (c && true)
-      by true = refl
-      by false = refl
+  free-by {p} {b} u q e = rw (← q, ← e, eq-eqb _ _ u) (sym (and-true b))
 
 -- the place is below n where there is one
 abbrev Below : ℕ → Option ℕ → Type 0
@@ -136,12 +128,8 @@ found-some n (some i) l = refl
 
 -- ---- each is named
 
-and-off : (b : Bool) → (b && false) ≡ false
-and-off true = refl
-and-off false = refl
-
 all-off : (g : ℕ → Bool) (i n : ℕ) → g i ≡ false → i < n → allNamed (upto n g) ≡ false
-all-off g i n e l = grows (λ (k : ℕ). allNamed (upto k g) ≡ false) i n (λ k _ p. rw p) (rw e (and-off (allNamed (upto i g)))) l
+all-off g i n e l = grows (λ (k : ℕ). allNamed (upto k g) ≡ false) i n (λ k _ p. rw p) (rw e (and-false (allNamed (upto i g)))) l
 
 pub record Checking (h : List ℕ) (n i : ℕ) : Type 0 where
   pub most : i ≤ n

@@ -3,7 +3,7 @@ use Prim.Native.Nat.{ℕ, suc, _+_, _*_, _≤_, _<_}
 use native.Mathlib.Omega.{arith}
 use mathlib.Core.List.{List}
 use mathlib.Core.Path.{_≡_, refl, ap, sym, subst, _∙_}
-use mathlib.Core.Bool.{Bool, true, false, cond, _&&_, not, and-false}
+use mathlib.Core.Bool.{Bool, true, false, cond, _&&_, not, and-false, true≢false}
 use mathlib.Core.Option.{Option, none, some}
 use borrow.Author.Tests.{ne-eqb}
 use Rattle.syntax.specs.Octets.{octets, same}
@@ -33,9 +33,6 @@ use Rattle.message.specs.declared.Sums.{Sums}
 use Rattle.message.specs.declared.Message.{Message}
 use Rattle.message.specs.declared.steps.Moved.{Moved}
 use Rattle.message.specs.declared.steps.Moved.the-variants.{To, Bad}
-
-true-false : true ≡ false → ⊥
-true-false h = let w : _≡_ {A = ℕ} 0 1 = cc in omega arith
 
 pub not-true : (b : Bool) → not b ≡ true → b ≡ false
 not-true true h = cc
@@ -273,7 +270,7 @@ module _ (σ : Service) (s : List ℕ) (at : ℕ) (m : Message) {b : Bool} {l : 
     pub cnt-unknown : q ≡ Unknown → ⊥
     cnt-unknown e =
         let a = unitless (content (σ .release) x) 12 9 d (askedAt σ s at .text 1 1) e .1 in
-        true-false (sym control-by ∙ a)
+        true≢false (sym control-by ∙ a)
 
     module _ {g : Form} (o : q ≡ Of g) {z : List ℕ} {y : Amount} (second : z ≡ partOf s (componentAt σ s at 1 1))
         (v : y ≡ amountIs (amountRight (shape (g .whole) (g .decimals)) (content (σ .release) z)) (grams (shape (g .whole) (g .decimals)) (content (σ .release) z))) where
@@ -281,7 +278,7 @@ module _ (σ : Service) (s : List ℕ) (at : ℕ) (m : Message) {b : Bool} {l : 
       cnt-bad e =
           let a = weighs-not (content (σ .release) x) 12 9 d (content (σ .release) z) o v e .1 in
           let c = ap (λ (i : List ℕ). controlBy (unit (content (σ .release) x) (shape 12 3) (shape 9 6)) (content (σ .release) i)) second in
-          true-false (sym (c ∙ control-by) ∙ a)
+          true≢false (sym (c ∙ control-by) ∙ a)
 
       pub cnt-control : {r : Moved} {i : ℕ} {k : Sums} → y ≡ Grams i → k ≡ controlled (m .sums) (some i) → r ≡ To (grownWith m Body k) →
           (u w : ℕ) (h : List ℕ) → Roomy m h →

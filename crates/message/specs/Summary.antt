@@ -265,9 +265,9 @@ abbrev pub isFound : Option ℕ → Bool
 isFound none = false
 isFound (some i) = true
 
-abbrev pub orElse : Option ℕ → Option ℕ → Option ℕ
+abbrev pub orElse : {A : Type 0} → Option A → Option A → Option A
 orElse none o = o
-orElse (some i) o = some i
+orElse (some a) o = some a
 
 -- the first header of the reference r that no trailer has named: its place, from 0
 abbrev pub freeAt : List ℕ → Snoc (List ℕ) → Snoc Bool → Option ℕ

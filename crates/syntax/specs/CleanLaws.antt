@@ -13,7 +13,7 @@ use Rattle.syntax.specs.RepertoireLaws.{Sorted, is-data, is-bad, is-rele
 use Rattle.syntax.specs.Cutting.{stopFrom, cutBy, cutAt, tagOctet, tagOf}
 use Rattle.syntax.specs.CuttingLaws.{drop-tail, drop-head, Going, class-on, class-hit, class-freed, Cutting, cutting-at, cutting-from, cutting-none, cutting-on, cutting-end, cutting-bad, cutting-short, cutting-freed, cutting-freed-bad}
 use Rattle.syntax.specs.SegmentLaws.{edge-on, edge-end}
-use Rattle.syntax.specs.TreeLaws.{and-left, and-right, and-both}
+use Rattle.syntax.specs.TreeLaws.{and-left, and-right, and-both, is-true}
 use Rattle.syntax.specs.ReaderLaws.{tag-data, Tagged, tag-split}
 use Rattle.syntax.specs.Clean.{sound, Clean, CleanEdge, TagAt}
 use Rattle.syntax.specs.declared.Service.{Service}
@@ -157,11 +157,7 @@ tag-inside C b h =
 
 tag-class : (y : Syntax) → T (fit (y .service)) → (b x : ℕ) → x ≡ b → T (tagOctet b) → 0 ≡ classOf y x
 unfolding classOf
-tag-class y f b x e h = rw (e, tag-data (y .service) f b h, tag-inside (y .level) b h, T-true (tagOctet b) h)
-  where
-    T-true : (t : Bool) → T t → t ≡ true
-    T-true true h = refl
-    T-true false h = absurd h
+tag-class y f b x e h = rw (e, tag-data (y .service) f b h, tag-inside (y .level) b h, is-true (tagOctet b) h)
 
 -- of three octets whose classes add up to 0 each may stand in a tag, and only of such three
 module _ (y : Syntax) (f : T (fit (y .service))) (a b c : ℕ) {p q r : ℕ} (ea : p ≡ classOf y a) (eb : q ≡ classOf y b) (ec : r ≡ classOf y c) where

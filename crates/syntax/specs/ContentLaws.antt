@@ -80,7 +80,7 @@ stepped-less w = omega arith
 next-tail : (i : ℕ) (s : List ℕ) {b : ℕ} {l : List ℕ} → drop i s ≡ b ∷ l → drop (i + 1) s ≡ l
 next-tail i s e = rw add-one (drop-tail i s e)
 
-drop-short : (i : ℕ) (s : List ℕ) {b : ℕ} {l : List ℕ} → drop i s ≡ b ∷ l → i < length s
+pub drop-short : (i : ℕ) (s : List ℕ) {b : ℕ} {l : List ℕ} → drop i s ≡ b ∷ l → i < length s
 drop-short i s e = omega (arith, length-drop i s, ap length e)
 
 not-over : {b j : ℕ} → Over ≡ Octet b j → ⊥

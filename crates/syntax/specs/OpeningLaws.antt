@@ -169,7 +169,7 @@ tag-read σ s i h =
     )
 
 -- the repetition is no part of a tag
-no-repetition : (σ : Service) (l : List ℕ) → tagOf (withoutRepetition σ) l ≡ tagOf σ l
+pub no-repetition : (σ : Service) (l : List ℕ) → tagOf (withoutRepetition σ) l ≡ tagOf σ l
 no-repetition σ [] = refl
 no-repetition σ (a ∷ []) = refl
 no-repetition σ (a ∷ b ∷ []) = refl

@@ -3,7 +3,7 @@ use Prim.Native.Nat.{ℕ, zero, suc, _+_, _-_, _≤_, _<_}
 use native.Mathlib.Omega.{arith}
 use mathlib.Core.List.{List, [], _∷_, _++_, append-assoc, append-nil}
 use mathlib.Core.Logic.{_↔_, _⊎_, inl, inr, ⊎-elim}
-use mathlib.Core.Option.{Option, none, some}
+use mathlib.Core.Option.{Option, none, some, Option·none-ne-some}
 use mathlib.Core.Path.{_≡_, refl, ap, sym, _∙_, subst}
 use mathlib.Core.Bool.{Bool, true, false, cond, not, _&&_, _||_, false≢true, true≢false}
 use borrow.Author.Tests.{eqb-true, leb-true, leb-false}
@@ -13,7 +13,7 @@ use Rattle.syntax.specs.Octets.{within, digit, capital, small, every}
 use Rattle.syntax.specs.Service.{servant, fit, kindOf, kind}
 use Rattle.syntax.specs.Cutting.{stopFrom, endAt, tagOctet, tagOf}
 use Rattle.syntax.specs.Tree.{plain, freed, ne, Component, Repeat, Element, Segment, segment, Symbol, tok, comp, rep, elem, term, each, flatC, flatR, flatE, flatS, flat, spell, spells, printS, print, ok, okTag, well}
-use Rattle.syntax.specs.TreeLaws.{and-left, and-right, and-both, symKind, Reads, All, ok-reads, well-reads, print-cons, segment-end, tag-print}
+use Rattle.syntax.specs.TreeLaws.{and-left, and-right, and-both, is-true, symKind, Reads, All, ok-reads, well-reads, print-cons, segment-end, tag-print}
 use Rattle.syntax.specs.Reader.{Chain, over, left, open′, push, emit, chain, cut, before, gathered, segmentsOf}
 use Rattle.syntax.specs.declared.Service.{Service}
 use Rattle.syntax.specs.declared.Found.the-variants.{At, Nothing}
@@ -83,14 +83,10 @@ links-flat (segment a b c es ∷ gs) =
     ap (λ (r : Chain). push (tok (plain a)) (push (tok (plain b)) (push (tok (plain c)) r)))
     (ap links (append-assoc (each elem flatE es) (term ∷ []) (flat gs)) ∙ linkEs es _ (ap (push term) (links-flat gs) ∙ push-term (tree gs)))
 
-passed : (t : Bool) → T t → t ≡ true
-passed true h = refl
-passed false h = absurd h
-
 gathered-tree : (gs : List Segment) → T (every okTag gs) → gathered (tree gs) ≡ some gs
 gathered-tree [] h = refl
 gathered-tree (segment a b c es ∷ gs) h =
-    let t : (tagOctet a && tagOctet b && tagOctet c) ≡ true = passed (okTag (segment a b c es)) (and-left (okTag (segment a b c es)) (every okTag gs) h) in
+    let t : (tagOctet a && tagOctet b && tagOctet c) ≡ true = is-true (okTag (segment a b c es)) (and-left (okTag (segment a b c es)) (every okTag gs) h) in
     rw (t, gathered-tree gs (and-right (okTag (segment a b c es)) (every okTag gs) h))
 
 -- the reader reads the printing of well-formed segments as those segments
@@ -217,28 +213,24 @@ chain-back σ false (b ∷ s) r h =
     emit-back σ b s (chain σ (eqb (kindOf σ b) 0) s) (kindOf σ b) refl (octet-of σ b) h
     (chain-back σ (eqb (kindOf σ b) 0) s (λ e. release-there σ b (eqb-true (kindOf σ b) 0 e)))
 
--- nothing is no segment
-no : {A : Type 0} (g : A) → none ≡ some g → ⊥
-no g e = let z : _≡_ {A = ℕ} 0 1 = cc in omega arith
-
 -- a segment that was cut is written as it stood
 cond-some : (t : Bool) (g h : Segment) → cond t (some g) none ≡ some h → T t × (g ≡ h)
 cond-some true g h e = (tt, cc)
-cond-some false g h e = absurd (no h e)
+cond-some false g h e = absurd (Option·none-ne-some h e)
 
 cut-flat : (c : Component) (cs : List Component) (rs : List Repeat) (es : List Element) (g : Segment) → cut c cs rs es ≡ some g
     → T (okTag g) × (flatC c ++ (each comp flatC cs ++ (each rep flatR rs ++ (each elem flatE es ++ term ∷ []))) ≡ flatS g)
-cut-flat c (d ∷ cs) rs es g e = absurd (no g e)
-cut-flat c [] (r ∷ rs) es g e = absurd (no g e)
-cut-flat [] [] [] es g e = absurd (no g e)
-cut-flat (t ∷ []) [] [] es g e = absurd (no g e)
-cut-flat (t ∷ u ∷ []) [] [] es g e = absurd (no g e)
+cut-flat c (d ∷ cs) rs es g e = absurd (Option·none-ne-some g e)
+cut-flat c [] (r ∷ rs) es g e = absurd (Option·none-ne-some g e)
+cut-flat [] [] [] es g e = absurd (Option·none-ne-some g e)
+cut-flat (t ∷ []) [] [] es g e = absurd (Option·none-ne-some g e)
+cut-flat (t ∷ u ∷ []) [] [] es g e = absurd (Option·none-ne-some g e)
 cut-flat (plain a ∷ plain b ∷ plain c ∷ []) [] [] es g e =
     let k = cond-some (tagOctet a && tagOctet b && tagOctet c) (segment a b c es) g e in (subst (λ (x : Segment). T (okTag x)) (k .1) (k .0), ap flatS (k .1))
-cut-flat (plain a ∷ plain b ∷ freed c ∷ []) [] [] es g e = absurd (no g e)
-cut-flat (plain a ∷ freed b ∷ v ∷ []) [] [] es g e = absurd (no g e)
-cut-flat (freed a ∷ u ∷ v ∷ []) [] [] es g e = absurd (no g e)
-cut-flat (t ∷ u ∷ v ∷ w ∷ r) [] [] es g e = absurd (no g e)
+cut-flat (plain a ∷ plain b ∷ freed c ∷ []) [] [] es g e = absurd (Option·none-ne-some g e)
+cut-flat (plain a ∷ freed b ∷ v ∷ []) [] [] es g e = absurd (Option·none-ne-some g e)
+cut-flat (freed a ∷ u ∷ v ∷ []) [] [] es g e = absurd (Option·none-ne-some g e)
+cut-flat (t ∷ u ∷ v ∷ w ∷ r) [] [] es g e = absurd (Option·none-ne-some g e)
 
 -- what is gathered from a chain is its symbols, and has good tags
 abbrev Gathers : Chain → List Segment → Type 0
@@ -246,13 +238,13 @@ Gathers x gs = T (clean x) × (flatN x ≡ flat gs) × T (every okTag gs)
 
 gather-back : (x : Chain) (gs : List Segment) → gathered x ≡ some gs → Gathers x gs
 gather-back over gs e = let h : [] ≡ gs = cc in subst (λ (l : List Segment). Gathers over l) h (tt, refl, tt)
-gather-back left gs e = absurd (no gs e)
+gather-back left gs e = absurd (Option·none-ne-some gs e)
 gather-back (open′ c cs rs es n) gs e = by (cut c cs rs es) (gathered n) refl e (gather-back n)
   where
     by : (o : Option Segment) (q : Option (List Segment)) → cut c cs rs es ≡ o → before o q ≡ some gs → ((hs : List Segment) → q ≡ some hs → Gathers n hs)
         → Gathers (open′ c cs rs es n) gs
-    by none q h e ih = absurd (no gs e)
-    by (some g) none h e ih = absurd (no gs e)
+    by none q h e ih = absurd (Option·none-ne-some gs e)
+    by (some g) none h e ih = absurd (Option·none-ne-some gs e)
     by (some g) (some hs) h e ih =
         let l : g ∷ hs ≡ gs = cc in
         let r = ih hs refl in
@@ -337,25 +329,26 @@ emit-single false (suc (suc (suc zero))) b x l h = push-single rep x (lit< tt) h
 emit-single false (suc (suc (suc (suc zero)))) b x l h = push-single elem x (lit< tt) h
 emit-single false (suc (suc (suc (suc (suc k))))) b x l h = absurd (omega (arith, l))
 
-no-place : (e : ℕ) → Nothing ≡ At e → ⊥
+pub no-place : (e : ℕ) → Nothing ≡ At e → ⊥
 no-place e h = let z : _≡_ {A = ℕ} 0 1 = cc in omega arith
 
-place : (i e : ℕ) → At i ≡ At e → i ≡ e
-place i e h = cc
+pub same-place : (i e : ℕ) → At i ≡ At e → i ≡ e
+same-place i e h = cc
 
 module _ (σ : Service) where
-  end-single : (k b : ℕ) → 5 ≤ k → T (single (emit false k b (chain σ (eqb k 0) [])))
-  end-single zero b l = absurd (omega (arith, l))
-  end-single (suc zero) b l = absurd (omega (arith, l))
-  end-single (suc (suc zero)) b l = absurd (omega (arith, l))
-  end-single (suc (suc (suc zero))) b l = absurd (omega (arith, l))
-  end-single (suc (suc (suc (suc zero)))) b l = absurd (omega (arith, l))
-  end-single (suc (suc (suc (suc (suc k))))) b l = rw eqb·suc-zero tt
+  -- the terminator opens a segment before what follows
+  pub ends-here : (k b : ℕ) (s : List ℕ) → 5 ≤ k → emit false k b (chain σ (eqb k 0) s) ≡ open′ [] [] [] [] (chain σ false s)
+  ends-here zero b s l = absurd (omega (arith, l))
+  ends-here (suc zero) b s l = absurd (omega (arith, l))
+  ends-here (suc (suc zero)) b s l = absurd (omega (arith, l))
+  ends-here (suc (suc (suc zero))) b s l = absurd (omega (arith, l))
+  ends-here (suc (suc (suc (suc zero)))) b s l = absurd (omega (arith, l))
+  ends-here (suc (suc (suc (suc (suc k))))) b s l = rw eqb·suc-zero (push-term (chain σ false s))
 
   last-single : (f : Bool) (b : ℕ) (s : List ℕ) → length s ≡ 0 → 5 ≤ kind σ f b → T (single (chain σ f (b ∷ s)))
   last-single f b (x ∷ s) l k = absurd (omega (arith, l))
   last-single true b [] l k = absurd (omega (arith, k))
-  last-single false b [] l k = end-single (kindOf σ b) b k
+  last-single false b [] l k = subst (λ (x : Chain). T (single x)) (sym (ends-here (kindOf σ b) b [] k)) tt
 
   -- octets that end in their first unreleased terminator are one segment
   stop-single : (f : Bool) (s : List ℕ) (i e : ℕ) → stopFrom σ 5 f s i ≡ At e → i + length s ≡ suc e → T (single (chain σ f s))
@@ -365,7 +358,7 @@ module _ (σ : Service) where
       by : (t : Bool) → leb 5 (kind σ f b) ≡ t → cond t (At i) (stopFrom σ 5 (eqb (kind σ f b) 0) s (suc i)) ≡ At e
           → (stopFrom σ 5 (eqb (kind σ f b) 0) s (suc i) ≡ At e → suc i + length s ≡ suc e → T (single (chain σ (eqb (kind σ f b) 0) s)))
           → T (single (chain σ f (b ∷ s)))
-      by true q h ih = let p : i ≡ e = place i e h in last-single f b s (omega (arith, l, p)) (leb-true 5 (kind σ f b) q)
+      by true q h ih = let p : i ≡ e = same-place i e h in last-single f b s (omega (arith, l, p)) (leb-true 5 (kind σ f b) q)
       by false q h ih = emit-single f (kind σ f b) b (chain σ (eqb (kind σ f b) 0) s) (leb-false 5 (kind σ f b) q) (ih h (omega (arith, l)))
 
   -- the scanner stops at its place in the octets up to there as well
@@ -378,7 +371,7 @@ module _ (σ : Service) where
           → (stopFrom σ n (eqb (kind σ f b) 0) s (suc i) ≡ At e
           → (k : ℕ) × (e ≡ suc i + k) × (stopFrom σ n (eqb (kind σ f b) 0) (take (suc k) s) (suc i) ≡ At e) × (length (take (suc k) s) ≡ suc k))
           → (k : ℕ) × (e ≡ i + k) × (stopFrom σ n f (take (suc k) (b ∷ s)) i ≡ At e) × (length (take (suc k) (b ∷ s)) ≡ suc k)
-      by true q h ih = let p : i ≡ e = place i e h in (0, omega (arith, p), rw q h, refl)
+      by true q h ih = let p : i ≡ e = same-place i e h in (0, omega (arith, p), rw q h, refl)
       by false q h ih = let r = ih h in (suc (r .0), omega (arith, r .1), rw q (r .2), ap suc (r .3))
 
 -- a good tag: three letters or digits, then an element separator or the terminator
@@ -462,7 +455,7 @@ module _ (σ : Service) (fits : T (fit σ)) where
 
           by : (r : List ℕ) → stopFrom σ 5 false (d ∷ r) i ≡ At e → i + length (d ∷ r) ≡ suc e → (es : List Element) × (chain σ false (d ∷ r) ≡ open′ [] [] [] es over)
           by [] h l = ([], rw k refl)
-          by (x ∷ r) h l = let p : i ≡ e = place i e (rw k at h) in absurd (omega (arith, l, p))
+          by (x ∷ r) h l = let p : i ≡ e = same-place i e (rw k at h) in absurd (omega (arith, l, p))
 
   -- the octets up to the first unreleased terminator, where the tag is good, are a printed segment
   pub first-there : (s : List ℕ) (e a b c : ℕ) → endAt σ s 0 ≡ At e → tagOf σ s ≡ Is a b c → Printed σ a b c (take (suc e) s)

@@ -35,6 +35,10 @@ and-both true b h k = k
 and-both false b h k = absurd h
 
 -- a test that is not passed
+pub is-true : (b : Bool) → T b → b ≡ true
+is-true true h = refl
+is-true false h = absurd h
+
 pub off : (a : Bool) → T (not a) → a ≡ false
 off true h = absurd h
 off false h = refl

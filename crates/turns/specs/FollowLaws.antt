@@ -2,7 +2,7 @@
 use Prim.Native.Nat.{ℕ, suc}
 use mathlib.Core.Bool.{Bool, true, false, cond, not, _&&_, false≢true}
 use mathlib.Core.List.{List, [], _∷_}
-use mathlib.Core.Option.{Option, none, some}
+use mathlib.Core.Option.{Option, none, some, Option·none-ne-some}
 use mathlib.Core.Path.{_≡_, refl, ap, _∙_, sym, subst}
 use lib.Dec.{T, eqb, ltb}
 use Rattle.syntax.specs.Octets.{octets, same}
@@ -13,12 +13,12 @@ use Rattle.grammar.specs.Lists.{Snoc, nil, _▷_, each, size, any, among, test,
 use Rattle.grammar.specs.ListsLaws.{each-size}
 use Rattle.grammar.specs.Segments as segments
 use Rattle.grammar.specs.Segments.{Name, Named, Free, Asked, asked, text, number, reference, second, elementsOf, tagText}
-use Rattle.grammar.specs.Interchange.{Leaf, Certificate, certificate, Header, header, Trailer, trailer, link, Body, plain, ack, Open, msg, Message, message, Reading, start, idle, busy, done, showOpen}
+use Rattle.grammar.specs.Interchange.{Leaf, certificate, Header, header, Trailer, trailer, link, Body, plain, ack, Open, msg, Message, message, Reading, start, idle, busy, done, showOpen}
 use Rattle.grammar.specs.Loads.{loads, controls, loadIn, controlIn}
 use Rattle.grammar.specs.Rules.{insideS, order, formedS, refs, counts, scopes, amountS, auto, refH, refT, refM, isFree, okItem, whole, filled, one, counted, total, scopeRight}
 use Rattle.grammar.specs.RuleLaws.{check-holds, holds-check}
 use Rattle.grammar.specs.Placing.{growNamed, grow, place, inOpen, inBody, itemB}
-use Rattle.grammar.specs.PlacingLaws.{same-eq}
+use Rattle.grammar.specs.PlacingLaws.{same-eq, scope-of}
 use Rattle.grammar.specs.Verdict.{tested, on, foundAt, tests, refused, decided}
 use Rattle.grammar.specs.Running.{Good}
 use Rattle.elements.specs.Kinds.{ofName, ofKind, kindOf}
@@ -48,11 +48,6 @@ items : (h : Leaf) (hs : Snoc Header) → atItems (groupOf (msg h hs (plain nil)
 items h nil = refl
 items h (hs ▷ header c us nil) = refl
 items h (hs ▷ header c us (cs ▷ certificate d vs r)) = refl
-
--- a header's scope is in its USH alone
-scope-of : (a : Bool) (c : Leaf) (us vs : Snoc Leaf) (cs ds : Snoc Certificate) → holds (scopeRight a (header c us cs)) → holds (scopeRight a (header c vs ds))
-scope-of true c us vs cs ds h = h
-scope-of false c us vs cs ds h = h
 
 scope-in : (b : Bool) (g : Segment) → check (scopeRight b (header (elementsOf g) nil nil)) ≡ scopeIn b (asked g)
 scope-in true g = refl
@@ -465,32 +460,25 @@ follows y x g q = kind-follows y x g (segments.kindOf g) refl q
 
 -- ---- each test, and the step
 
-never : {z : Reading} → none ≡ some z → ⊥
-never e = false≢true (ap there e)
-  where
-    there : Option Reading → Bool
-    there none = false
-    there (some z) = true
-
 module _ {x : Reading} {k : Kind} {a : Asked} where
   order-of : (o : Option Reading) → Follow x k a o → on order o ≡ orderK (stateOf x) k
   order-of o (nowhere e) = sym e
   order-of o (here z e r c s n) = e
 
   refs-of : (o : Option Reading) → Follow x k a o → (z : Reading) → o ≡ some z → holds (order z) → check (refs z) ≡ refsK (stateOf x) k a
-  refs-of o (nowhere e) z p = absurd (never p)
+  refs-of o (nowhere e) z p = absurd (Option·none-ne-some _ p)
   refs-of o (here w e r c s n) z p = let h : w ≡ z = cc in subst (λ (v : Reading). holds (order v) → check (refs v) ≡ refsK (stateOf x) k a) h r
 
   counts-of : (o : Option Reading) → Follow x k a o → (z : Reading) → o ≡ some z → holds (order z) → holds (refs z) → check (counts z) ≡ countsK (stateOf x) k a
-  counts-of o (nowhere e) z p = absurd (never p)
+  counts-of o (nowhere e) z p = absurd (Option·none-ne-some _ p)
   counts-of o (here w e r c s n) z p = let h : w ≡ z = cc in subst (λ (v : Reading). holds (order v) → holds (refs v) → check (counts v) ≡ countsK (stateOf x) k a) h c
 
   scopes-of : (o : Option Reading) → Follow x k a o → (z : Reading) → o ≡ some z → holds (order z) → check (scopes z) ≡ scopeK (stateOf x) k a
-  scopes-of o (nowhere e) z p = absurd (never p)
+  scopes-of o (nowhere e) z p = absurd (Option·none-ne-some _ p)
   scopes-of o (here w e r c s n) z p = let h : w ≡ z = cc in subst (λ (v : Reading). holds (order v) → check (scopes v) ≡ scopeK (stateOf x) k a) h s
 
   next-of : (o : Option Reading) → Follow x k a o → (z : Reading) → o ≡ some z → holds (order z) → holds (refs z) → stateOf z ≡ nextK (stateOf x) k a
-  next-of o (nowhere e) z p = absurd (never p)
+  next-of o (nowhere e) z p = absurd (Option·none-ne-some _ p)
   next-of o (here w e r c s n) z p = let h : w ≡ z = cc in subst (λ (v : Reading). holds (order v) → holds (refs v) → stateOf v ≡ nextK (stateOf x) k a) h n
 
 module _ (y : Syntax) (x : Reading) (g : Segment) (q : Good y x) where

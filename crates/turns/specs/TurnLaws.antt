@@ -2,7 +2,7 @@
 use Prim.Native.Nat.{ℕ, zero, suc, _+_, _-_, _≤_, _<_}
 use native.Mathlib.Omega.{arith}
 use mathlib.Core.List.{List, [], _∷_, _++_, append-nil}
-use mathlib.Core.Option.{Option, none, some}
+use mathlib.Core.Option.{Option, none, some, Option·none-ne-some}
 use mathlib.Core.Path.{_≡_, refl, ap, sym, _∙_, subst, fun-ext}
 use mathlib.Core.Bool.{Bool, true, false, cond, not, _&&_}
 use borrow.Author.Tests.{leb-true, leb-false}
@@ -14,10 +14,10 @@ use Rattle.syntax.specs.Repertoire.{outside}
 use Rattle.syntax.specs.Cutting.{stopFrom, endAt, firstOutside, cutBy, stretch, cutAt, tagOctet, tagOf}
 use Rattle.syntax.specs.CuttingLaws.{slice-take, stop-in}
 use Rattle.syntax.specs.Opening.{isThere}
-use Rattle.syntax.specs.Tree.{plain, freed, ne, term, Component, Repeat, Element, Segment, segment, flatS, spells, printS, print, well}
+use Rattle.syntax.specs.Tree.{plain, freed, ne, Component, Repeat, Element, Segment, segment, flatS, spells, printS, print, well}
 use Rattle.syntax.specs.TreeLaws.{segment-end, tag-print}
-use Rattle.syntax.specs.Reader.{Chain, over, left, open′, push, emit, chain, cut, before, gathered}
-use Rattle.syntax.specs.ReaderLaws.{chain-print, read-back, first-there}
+use Rattle.syntax.specs.Reader.{Chain, over, left, open′, emit, chain, cut, before, gathered}
+use Rattle.syntax.specs.ReaderLaws.{chain-print, read-back, no-place, same-place, ends-here, first-there}
 use Rattle.syntax.specs.BridgeLaws.{alone, bridge}
 use Rattle.syntax.specs.declared.Service.{Service}
 use Rattle.syntax.specs.declared.Syntax.{Syntax}
@@ -88,20 +88,6 @@ put-before false (suc (suc (suc zero))) b c cs rs es l = ([], [], ne c cs ∷ rs
 put-before false (suc (suc (suc (suc zero)))) b c cs rs es l = ([], [], [], ne (ne c cs) rs ∷ es, λ n. refl)
 put-before false (suc (suc (suc (suc (suc k))))) b c cs rs es l = absurd (omega (arith, l))
 
--- the terminator opens a segment before what follows
-ends-here : (σ : Service) (k b : ℕ) (s : List ℕ) → 5 ≤ k → emit false k b (chain σ (eqb k 0) s) ≡ open′ [] [] [] [] (chain σ false s)
-ends-here σ zero b s l = absurd (omega (arith, l))
-ends-here σ (suc zero) b s l = absurd (omega (arith, l))
-ends-here σ (suc (suc zero)) b s l = absurd (omega (arith, l))
-ends-here σ (suc (suc (suc zero))) b s l = absurd (omega (arith, l))
-ends-here σ (suc (suc (suc (suc zero)))) b s l = absurd (omega (arith, l))
-ends-here σ (suc (suc (suc (suc (suc k))))) b s l = rw eqb·suc-zero (opens (chain σ false s))
-  where
-    opens : (x : Chain) → push term x ≡ open′ [] [] [] [] x
-    opens over = refl
-    opens left = refl
-    opens (open′ c cs rs es n) = refl
-
 -- the first unreleased terminator of s is k octets behind its head
 record Parted (σ : Service) (f : Bool) (s : List ℕ) (k : ℕ) : Type 0 where
   pub c : Component
@@ -113,14 +99,8 @@ record Parted (σ : Service) (f : Bool) (s : List ℕ) (k : ℕ) : Type 0 where
   pub size : length (take (suc k) s) ≡ suc k
   pub stops : (j : ℕ) → stopFrom σ 5 f s j ≡ At (j + k)
 
-no-place : (e : ℕ) → Nothing ≡ At e → ⊥
-no-place e h = let z : _≡_ {A = ℕ} 0 1 = cc in omega arith
-
 some-place : (e : ℕ) → At e ≡ Nothing → ⊥
 some-place e h = let z : _≡_ {A = ℕ} 0 1 = cc in omega arith
-
-same-place : (i e : ℕ) → At i ≡ At e → i ≡ e
-same-place i e h = cc
 
 module _ (σ : Service) where
   part-here : (f : Bool) (b : ℕ) (s : List ℕ) → leb 5 (kind σ f b) ≡ true → Parted σ f (b ∷ s) 0
@@ -213,11 +193,8 @@ module _ (σ : Service) where
 
 -- ---- the first segment of a chain
 
-no-segment : {A : Type 0} (g : A) → none ≡ some g → ⊥
-no-segment g e = let z : _≡_ {A = ℕ} 0 1 = cc in omega arith
-
 before-one : (o : Option Segment) (g : Segment) → before o (some []) ≡ some (g ∷ []) → o ≡ some g
-before-one none g e = absurd (no-segment (g ∷ []) e)
+before-one none g e = absurd (Option·none-ne-some (g ∷ []) e)
 before-one (some h) g e = let k : h ≡ g = cc in ap some k
 
 print-one : (σ : Service) (g : Segment) → print σ (g ∷ []) ≡ printS σ g
@@ -257,21 +234,21 @@ chain-cons σ f g w r = by (parted σ false (printS σ g ++ r) 0 (0 + (length (p
 -- the tag, the further components and repeats, and the elements of what is cut as a segment
 cut-shape : (c : Component) (cs : List Component) (rs : List Repeat) (es : List Element) (x y z : ℕ) (us : List Element) → cut c cs rs es ≡ some (segment x y z us)
     → (n : Chain) → open′ c cs rs es n ≡ open′ (plain x ∷ plain y ∷ plain z ∷ []) [] [] us n
-cut-shape c (d ∷ cs) rs es x y z us e n = absurd (no-segment (segment x y z us) e)
-cut-shape c [] (r ∷ rs) es x y z us e n = absurd (no-segment (segment x y z us) e)
-cut-shape [] [] [] es x y z us e n = absurd (no-segment (segment x y z us) e)
-cut-shape (t ∷ []) [] [] es x y z us e n = absurd (no-segment (segment x y z us) e)
-cut-shape (t ∷ u ∷ []) [] [] es x y z us e n = absurd (no-segment (segment x y z us) e)
+cut-shape c (d ∷ cs) rs es x y z us e n = absurd (Option·none-ne-some (segment x y z us) e)
+cut-shape c [] (r ∷ rs) es x y z us e n = absurd (Option·none-ne-some (segment x y z us) e)
+cut-shape [] [] [] es x y z us e n = absurd (Option·none-ne-some (segment x y z us) e)
+cut-shape (t ∷ []) [] [] es x y z us e n = absurd (Option·none-ne-some (segment x y z us) e)
+cut-shape (t ∷ u ∷ []) [] [] es x y z us e n = absurd (Option·none-ne-some (segment x y z us) e)
 cut-shape (plain a ∷ plain b ∷ plain c ∷ []) [] [] es x y z us e n = by (tagOctet a && tagOctet b && tagOctet c) e
   where
     by : (t : Bool) → cond t (some (segment a b c es)) none ≡ some (segment x y z us)
         → open′ (plain a ∷ plain b ∷ plain c ∷ []) [] [] es n ≡ open′ (plain x ∷ plain y ∷ plain z ∷ []) [] [] us n
     by true e = cc
-    by false e = absurd (no-segment (segment x y z us) e)
-cut-shape (plain a ∷ plain b ∷ freed c ∷ []) [] [] es x y z us e n = absurd (no-segment (segment x y z us) e)
-cut-shape (plain a ∷ freed b ∷ v ∷ []) [] [] es x y z us e n = absurd (no-segment (segment x y z us) e)
-cut-shape (freed a ∷ u ∷ v ∷ []) [] [] es x y z us e n = absurd (no-segment (segment x y z us) e)
-cut-shape (t ∷ u ∷ v ∷ w ∷ r) [] [] es x y z us e n = absurd (no-segment (segment x y z us) e)
+    by false e = absurd (Option·none-ne-some (segment x y z us) e)
+cut-shape (plain a ∷ plain b ∷ freed c ∷ []) [] [] es x y z us e n = absurd (Option·none-ne-some (segment x y z us) e)
+cut-shape (plain a ∷ freed b ∷ v ∷ []) [] [] es x y z us e n = absurd (Option·none-ne-some (segment x y z us) e)
+cut-shape (freed a ∷ u ∷ v ∷ []) [] [] es x y z us e n = absurd (Option·none-ne-some (segment x y z us) e)
+cut-shape (t ∷ u ∷ v ∷ w ∷ r) [] [] es x y z us e n = absurd (Option·none-ne-some (segment x y z us) e)
 
 -- and the chain is the tag's three octets and the elements, then the chain of what follows
 pub chain-tree : (σ : Service) → T (fit σ) → (x y z : ℕ) (es : List Element) → T (well σ (segment x y z es ∷ [])) → (r : List ℕ)
