@@ -10,7 +10,7 @@ use borrow.Author.Tests.{eqb-true}
 use Rattle.syntax.specs.Octets as octets
 use Rattle.syntax.specs.Octets.{within}
 use Rattle.syntax.specs.Service.{fit}
-use Rattle.syntax.specs.Cutting.{tagOctet}
+use Rattle.syntax.specs.Repertoire.{tagOctet}
 use Rattle.syntax.specs.Content.{allDigits}
 use Rattle.syntax.specs.Tree.{Segment, ok, contentIn}
 use Rattle.syntax.specs.TreeLaws.{and-left, and-right, and-both}

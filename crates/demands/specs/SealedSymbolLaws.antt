@@ -5,7 +5,7 @@ use mathlib.Core.Bool.{Bool, true}
 use lib.Dec.{T}
 use lib.ListN.{drop}
 use Rattle.syntax.specs.Octets.{octets, every}
-use Rattle.syntax.specs.Cutting.{tagOctet}
+use Rattle.syntax.specs.Repertoire.{tagOctet}
 use Rattle.syntax.specs.Tree.{Component, Element, segment, Symbol, tok, comp, elem, term, each, flatC, flatE, flatS}
 use Rattle.syntax.specs.Tree as syntax
 use Rattle.syntax.specs.TreeLaws.{and-left, and-right, and-both}

@@ -6,9 +6,9 @@ use mathlib.Core.Bool.{Bool, true, false, not, cond, _&&_}
 use lib.Dec.{T, eqb}
 use Rattle.syntax.specs.Octets.{octets, digit, capital, every}
 use Rattle.syntax.specs.Service.{kindOf, serves, fit}
-use Rattle.syntax.specs.Repertoire.{inside, outside}
+use Rattle.syntax.specs.Repertoire.{tagOctet, inside, outside}
 use Rattle.syntax.specs.Opening.{isThere}
-use Rattle.syntax.specs.Cutting.{tagOctet, firstOutside}
+use Rattle.syntax.specs.Cutting.{firstOutside}
 use Rattle.syntax.specs.Tree.{Segment, Symbol, tok, comp, elem, term, flatC, flatS, flat, spell, spells, printS, ok, okTag, well}
 use Rattle.syntax.specs.Tree as syntax
 use Rattle.syntax.specs.TreeLaws.{and-left, and-right, and-both, every-reads}

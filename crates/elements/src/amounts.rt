@@ -2,6 +2,7 @@
 use syntax::content::Next;
 use syntax::content::content_is;
 use syntax::content::next_octet;
+use syntax::content::wide;
 ghost use mathlib.Core.Path.{_≡_};
 ghost use Prim.Native.Nat.{_≤_, _<_, _*_};
 ghost use lib.ListN.{drop};
@@ -43,12 +44,6 @@ pub fn unit_in(x: &[u8], release: u8, kgm: usize, tne: usize) -> Unit
         });
     }
     Unit::Unknown
-}
-
-fn wide(b: u8) -> u64
-    ensures { λ r. ⌜ (r ≡ b) × (r < 256) ⌝ }
-{
-    b as u64
 }
 
 fn is_mark(b: u8) -> bool

@@ -2,12 +2,12 @@
 ghost use mathlib.Core.Path.{_≡_};
 ghost use lib.ListN.{length};
 ghost use Rattle.groups.specs.Calls.{NamedIs};
+use beginning::begin;
 use finding::Found;
 use finding::find;
 use syntax::Refusal;
 use syntax::Syntax;
 use syntax::opening::Begun;
-use syntax::opening::begin;
 use syntax::repertoire::table;
 use walk::sections::Layout;
 

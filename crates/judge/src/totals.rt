@@ -2,11 +2,11 @@
 ghost use mathlib.Core.Path.{_≡_};
 ghost use Rattle.grammar.specs.Verdict.{totalsOf, totalNumbers};
 ghost use Rattle.judge.specs.Totals.{totalsAs, toldTotals, totalledBy};
+use beginning::begin;
 use finding::Found;
 use finding::find;
 use syntax::Refusal;
 use syntax::opening::Begun;
-use syntax::opening::begin;
 use syntax::repertoire::table;
 
 pub struct Loads {

@@ -2,6 +2,7 @@
 use syntax::Found;
 use syntax::content::Next;
 use syntax::content::next_octet;
+use syntax::content::wide;
 ghost use mathlib.Core.Path.{_≡_};
 ghost use Prim.Native.Nat.{_+_, _*_, _%_, _≤_, _<_};
 ghost use lib.ListN.{length};
@@ -19,12 +20,6 @@ struct Word {
 struct Name {
     head: u64,
     tail: u64,
-}
-
-fn wide(b: u8) -> u64
-    ensures { λ r. ⌜ (r ≡ b) × (r < 256) ⌝ }
-{
-    b as u64
 }
 
 fn wide16(x: u16) -> usize

@@ -15,12 +15,12 @@ ghost use Rattle.register.specs.Register.{registerOf, LaysAll, checkRefu
 ghost use Rattle.register.specs.RegisterLaws.{Whole, registerAt};
 use crate::entries::put_four;
 use crate::entries::put_section;
+use beginning::begin;
 use syntax::Refusal;
 use syntax::Syntax;
 use syntax::content::content_is;
 use syntax::content::part;
 use syntax::opening::Begun;
-use syntax::opening::begin;
 use syntax::repertoire::table;
 use walk::sections::Reached;
 use walk::sections::next_section;

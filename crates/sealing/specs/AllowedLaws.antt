@@ -9,7 +9,7 @@ use lib.Dec.{eqb, leb, ltb}
 use lib.ListN.{length}
 use borrow.Author.Tests.{ne-eqb, eq-eqb, le-leb, lt-leb, lt-ltb, le-ltb, ltb-true, ltb-false}
 use Rattle.syntax.specs.Octets.{same, within, every}
-use Rattle.syntax.specs.Cutting.{tagOctet}
+use Rattle.syntax.specs.Repertoire.{tagOctet}
 use Rattle.syntax.specs.declared.Syntax.{Syntax}
 use Rattle.grammar.specs.Lists.{Snoc, nil, _▷_, each, size, among}
 use Rattle.grammar.specs.Interchange.{Header, Open, msg, showHeader}

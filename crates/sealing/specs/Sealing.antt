@@ -7,8 +7,7 @@ use lib.Dec.{eqb, leb}
 use lib.ListN.{length, drop}
 use Rattle.syntax.specs.Octets.{octets, within, same, every}
 use Rattle.syntax.specs.Service.{serves}
-use Rattle.syntax.specs.Repertoire.{outside}
-use Rattle.syntax.specs.Cutting.{tagOctet}
+use Rattle.syntax.specs.Repertoire.{tagOctet, outside}
 use Rattle.syntax.specs.Tree as syntax
 use Rattle.syntax.specs.Tree.{Octet, plain, freed, Ne, ne, Component, Element}
 use Rattle.syntax.specs.declared.Service.{Service}

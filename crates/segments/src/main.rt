@@ -1,5 +1,6 @@
 // For an interchange on standard input: each segment's place and tag, and its components as content, or the refusal that the
 // syntax alone can tell (1, 2, 4, 5, 6, and 3 after them).
+use beginning::begin;
 use libc::STDIN_FILENO;
 use printing::flush;
 use printing::number;
@@ -17,7 +18,6 @@ use syntax::cutting::Tag;
 use syntax::cutting::scan;
 use syntax::cutting::tag_at;
 use syntax::opening::Begun;
-use syntax::opening::begin;
 use syntax::reading::Edge;
 use syntax::reading::piece_end;
 use syntax::repertoire::table;

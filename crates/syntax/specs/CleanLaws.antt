@@ -8,9 +8,9 @@ use lib.Dec.{T, eqb, leb, le→leb, leb→le}
 use lib.ListN.{length, getD, drop, length-drop}
 use Rattle.syntax.specs.Octets.{octets, within, digit, capital, small, among}
 use Rattle.syntax.specs.Service.{fit, kindOf}
-use Rattle.syntax.specs.Repertoire.{inside, endClass, releaseClass, outsideClass, toClass, classOf}
+use Rattle.syntax.specs.Repertoire.{tagOctet, inside, endClass, releaseClass, outsideClass, toClass, classOf}
 use Rattle.syntax.specs.RepertoireLaws.{Sorted, is-data, is-bad, is-release, is-separator, is-end, sorted, class-tag}
-use Rattle.syntax.specs.Cutting.{stopFrom, cutBy, cutAt, tagOctet, tagOf}
+use Rattle.syntax.specs.Cutting.{stopFrom, cutBy, cutAt, tagOf}
 use Rattle.syntax.specs.CuttingLaws.{drop-tail, drop-head, Going, class-on, class-hit, class-freed, Cutting, cutting-at, cutting-from, cutting-none, cutting-on, cutting-end, cutting-bad, cutting-short, cutting-freed, cutting-freed-bad}
 use Rattle.syntax.specs.SegmentLaws.{edge-on, edge-end}
 use Rattle.syntax.specs.TreeLaws.{and-left, and-right, and-both, is-true}

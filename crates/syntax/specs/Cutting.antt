@@ -6,7 +6,7 @@ use lib.Dec.{eqb, leb}
 use lib.ListN.{drop}
 use lib.Seq.{slice}
 use Rattle.syntax.specs.Service.{kind}
-use Rattle.syntax.specs.Repertoire.{outside, tagged}
+use Rattle.syntax.specs.Repertoire.{tagOctet, outside}
 use Rattle.syntax.specs.declared.Service.{Service}
 use Rattle.syntax.specs.declared.Syntax.{Syntax}
 use Rattle.syntax.specs.declared.Found.{Found}
@@ -50,9 +50,6 @@ abbrev pub cutAt : Syntax → List ℕ → ℕ → Cut
 cutAt y s a = cutBy (endAt (y .service) s a) (firstOutside y (stretch s a (endAt (y .service) s a)) a)
 
 -- "A tag is three octets A to Z or 0 to 9, then an element separator or the terminator."
-abbrev pub tagOctet : ℕ → Bool
-tagOctet b = tagged b
-
 abbrev pub tagOf : Service → List ℕ → Tag
 tagOf σ [] = Bad
 tagOf σ (a ∷ []) = Bad

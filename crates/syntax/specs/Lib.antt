@@ -14,9 +14,9 @@ pub mod Reader
 -- what is proved
 pub mod RepertoireLaws
 pub mod CuttingLaws
+pub mod TagLaws
 pub mod ContentLaws
 pub mod SegmentLaws
-pub mod OpeningLaws
 pub mod TreeLaws
 pub mod ReaderLaws
 pub mod CleanLaws

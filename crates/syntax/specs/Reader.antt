@@ -5,7 +5,7 @@ use mathlib.Core.Option.{Option, none, some}
 use mathlib.Core.Bool.{Bool, true, false, cond, _&&_}
 use lib.Dec.{eqb}
 use Rattle.syntax.specs.Service.{kind}
-use Rattle.syntax.specs.Cutting.{tagOctet}
+use Rattle.syntax.specs.Repertoire.{tagOctet}
 use Rattle.syntax.specs.Tree.{Octet, plain, freed, Ne, ne, Component, Repeat, Element, Segment, segment, Symbol, tok, comp, rep, elem, term}
 use Rattle.syntax.specs.declared.Service.{Service}
 

@@ -11,7 +11,8 @@ use lib.Dec.{T, eqb, leb, eqb·suc-zero, lit<}
 use lib.ListN.{length, take, drop, take-append-drop, drop-of-length-le}
 use Rattle.syntax.specs.Octets.{within, digit, capital, small, every}
 use Rattle.syntax.specs.Service.{servant, fit, kindOf, kind}
-use Rattle.syntax.specs.Cutting.{stopFrom, endAt, tagOctet, tagOf}
+use Rattle.syntax.specs.Repertoire.{tagOctet}
+use Rattle.syntax.specs.Cutting.{stopFrom, endAt, tagOf}
 use Rattle.syntax.specs.Tree.{plain, freed, ne, Component, Repeat, Element, Segment, segment, Symbol, tok, comp, rep, elem, term, each, flatC, flatR, flatE, flatS, flat, spell, spells, printS, print, ok, okTag, well}
 use Rattle.syntax.specs.TreeLaws.{and-left, and-right, and-both, is-true, symKind, Reads, All, ok-reads, well-reads, print-cons, segment-end, tag-print}
 use Rattle.syntax.specs.Reader.{Chain, over, left, open′, push, emit, chain, cut, before, gathered, segmentsOf}

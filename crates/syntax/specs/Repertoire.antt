@@ -12,9 +12,9 @@ use Rattle.syntax.specs.declared.Syntax.{Syntax}
 use Rattle.syntax.specs.declared.Level.{Level}
 use Rattle.syntax.specs.declared.Level.the-variants.{A, B, C}
 
--- what a tag may have: "A to Z or 0 to 9"
-abbrev pub tagged : ℕ → Bool
-tagged b = digit b || capital b
+-- "A tag is three octets A to Z or 0 to 9, .."
+abbrev pub tagOctet : ℕ → Bool
+tagOctet b = digit b || capital b
 
 -- "UNOA: A to Z, 0 to 9, space and `. , - ( ) / = ' + : ? ! " % & * ; < >`."
 abbrev pub insideA : ℕ → Bool
@@ -51,7 +51,7 @@ abbrev pub toClass : ℕ → Bool → Bool → ℕ
 toClass k g i = cond (eqb k 1) (dataClass g i) (cond (eqb k 0) releaseClass (cond (eqb k 5) endClass k))
 
 unfoldable pub classOf : Syntax → ℕ → ℕ
-classOf y b = toClass (kindOf (y .service) b) (tagged b) (inside (y .level) b)
+classOf y b = toClass (kindOf (y .service) b) (tagOctet b) (inside (y .level) b)
 
 -- a table with nothing inside
 abbrev pub Blank : List ℕ → Type 0
@@ -60,7 +60,7 @@ Blank t = t ≡ replicate 256 outsideClass
 -- a table of what is outside, and a table of classes: one rule for every octet
 pub record Base (l : Level) (t : List ℕ) : Type 0 where
   pub size : length t ≡ 256
-  pub rule : (b : ℕ) → b < 256 → getD t b 0 ≡ dataClass (tagged b) (inside l b)
+  pub rule : (b : ℕ) → b < 256 → getD t b 0 ≡ dataClass (tagOctet b) (inside l b)
 
 pub record Table (y : Syntax) (t : List ℕ) : Type 0 where
   pub size : length t ≡ 256

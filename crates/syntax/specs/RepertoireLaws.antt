@@ -9,7 +9,7 @@ use lib.Dec.{eqb, leb, ltb}
 use lib.ListN.{length, getD, set, length-set, replicate, getD-replicate, List·getD-eq-default}
 use lib.Seq.{getD-set-same, getD-set-other, set-out}
 use Rattle.syntax.specs.Service.{kindOf}
-use Rattle.syntax.specs.Repertoire.{tagged, inside, endClass, releaseClass, outsideClass, dataClass, toClass, classOf, Blank, Base, Table}
+use Rattle.syntax.specs.Repertoire.{tagOctet, inside, endClass, releaseClass, outsideClass, dataClass, toClass, classOf, Blank, Base, Table}
 use Rattle.syntax.specs.declared.Service.{Service}
 use Rattle.syntax.specs.declared.Syntax.{Syntax}
 use Rattle.syntax.specs.declared.Level.{Level}
@@ -106,11 +106,11 @@ ranged A x = lettered x (rangedA x)
 ranged B x = lettered x (cond (leb 97 x && ltb x 123) 1 (rangedA x))
 ranged C x = lettered x (cond (leb 160 x && ltb x 256) 1 (cond (leb 32 x && ltb x 127) 1 outsideClass))
 
-right : (l : Level) (x : ℕ) → x < 256 → ranged l x ≡ dataClass (tagged x) (inside l x)
+right : (l : Level) (x : ℕ) → x < 256 → ranged l x ≡ dataClass (tagOctet x) (inside l x)
 unfolding inside
-right A x h = eqb-true _ _ (below-all (λ (x : ℕ). eqb (ranged A x) (dataClass (tagged x) (inside A x))) 256 x refl h)
-right B x h = eqb-true _ _ (below-all (λ (x : ℕ). eqb (ranged B x) (dataClass (tagged x) (inside B x))) 256 x refl h)
-right C x h = eqb-true _ _ (below-all (λ (x : ℕ). eqb (ranged C x) (dataClass (tagged x) (inside C x))) 256 x refl h)
+right A x h = eqb-true _ _ (below-all (λ (x : ℕ). eqb (ranged A x) (dataClass (tagOctet x) (inside A x))) 256 x refl h)
+right B x h = eqb-true _ _ (below-all (λ (x : ℕ). eqb (ranged B x) (dataClass (tagOctet x) (inside B x))) 256 x refl h)
+right C x h = eqb-true _ _ (below-all (λ (x : ℕ). eqb (ranged C x) (dataClass (tagOctet x) (inside C x))) 256 x refl h)
 
 module _ {o : List ℕ} (z : Blank o) where
   blank : (x : ℕ) → x < 256 → getD o x 0 ≡ outsideClass
@@ -121,7 +121,7 @@ module _ {o : List ℕ} (z : Blank o) where
 
   -- the last two stores are those of digits and letters
   module _ {l : Level} {r : ℕ → ℕ} {t u v : List ℕ} (n : length t ≡ 256) (in-t : (x : ℕ) → x < 256 → getD t x 0 ≡ r x)
-      (is : (x : ℕ) → x < 256 → lettered x (r x) ≡ dataClass (tagged x) (inside l x)) (a : Filled 48 58 0 t u) (b : Filled 65 91 0 u v) where
+      (is : (x : ℕ) → x < 256 → lettered x (r x) ≡ dataClass (tagOctet x) (inside l x)) (a : Filled 48 58 0 t u) (b : Filled 65 91 0 u v) where
     tags : Base l v
     tags = record {
       size = b .size ∙ a .size ∙ n;
@@ -184,13 +184,13 @@ inside-space C = refl
 -- the stores, last first, are the tests of `kindOf`
 ordered : (y : Syntax) (x : ℕ) →
     cond (eqb x 32) 1 (cond (eqb x (y .service .release)) releaseClass (cond (eqb x (y .service .terminator)) endClass (cond (eqb x (y .service .element)) 4
-    (cond (eqb x (y .service .component)) 2 (cond (eqb x (y .service .repetition)) 3 (dataClass (tagged x) (inside (y .level) x))))))) ≡ classOf y x
+    (cond (eqb x (y .service .component)) 2 (cond (eqb x (y .service .repetition)) 3 (dataClass (tagOctet x) (inside (y .level) x))))))) ≡ classOf y x
 unfolding classOf
 ordered y x = by (eqb x 32) refl (eqb x (y .service .release)) (eqb x (y .service .terminator)) (eqb x (y .service .element)) (eqb x (y .service .component)) (eqb x (y .service .repetition))
   where
     by : (z : Bool) → eqb x 32 ≡ z → (r t e c p : Bool) →
-        cond z 1 (cond r releaseClass (cond t endClass (cond e 4 (cond c 2 (cond p 3 (dataClass (tagged x) (inside (y .level) x))))))) ≡
-        toClass (cond z 1 (cond r 0 (cond t 5 (cond e 4 (cond c 2 (cond p 3 1)))))) (tagged x) (inside (y .level) x)
+        cond z 1 (cond r releaseClass (cond t endClass (cond e 4 (cond c 2 (cond p 3 (dataClass (tagOctet x) (inside (y .level) x))))))) ≡
+        toClass (cond z 1 (cond r 0 (cond t 5 (cond e 4 (cond c 2 (cond p 3 1)))))) (tagOctet x) (inside (y .level) x)
     by true h r t e c p = rw (eqb-true x 32 h, inside-space (y .level))
     by false h true t e c p = refl
     by false h false true e c p = refl
@@ -204,7 +204,7 @@ pub table-by : {y : Syntax} {t t₁ t₂ t₃ t₄ t₅ t₆ : List ℕ} → Byt
     t₄ ≡ set t₃ (y .service .terminator) endClass → t₅ ≡ set t₄ (y .service .release) releaseClass → t₆ ≡ set t₅ 32 1 → Table y t₆
 table-by {y} {t} β g e₁ e₂ e₃ e₄ e₅ e₆ =
     let s = y .service in
-    let z : Holds t (λ x. dataClass (tagged x) (inside (y .level) x)) = record { size = g .size; at = g .rule } in
+    let z : Holds t (λ x. dataClass (tagOctet x) (inside (y .level) x)) = record { size = g .size; at = g .rule } in
     let a = stored (s .repetition) 3 (β .repetition) z e₁ in
     let b = stored (s .component) 2 (β .component) a e₂ in
     let c = stored (s .element) 4 (β .element) b e₃ in
@@ -257,12 +257,12 @@ kind-le σ b =
 
 pub sorted : {c : ℕ} (y : Syntax) (b : ℕ) → c ≡ classOf y b → Sorted (kindOf (y .service) b) (inside (y .level) b) c
 unfolding classOf
-sorted y b e = rw e (sort (kindOf (y .service) b) (tagged b) (inside (y .level) b) (kind-le (y .service) b))
+sorted y b e = rw e (sort (kindOf (y .service) b) (tagOctet b) (inside (y .level) b) (kind-le (y .service) b))
 
 -- class 0 is what a tag may have
-pub class-tag : {c : ℕ} (y : Syntax) (b : ℕ) → c ≡ classOf y b → c ≡ 0 → tagged b ≡ true
+pub class-tag : {c : ℕ} (y : Syntax) (b : ℕ) → c ≡ classOf y b → c ≡ 0 → tagOctet b ≡ true
 unfolding classOf
-class-tag {c} y b e d = by (kindOf (y .service) b) (tagged b) (inside (y .level) b) (sym e ∙ d)
+class-tag {c} y b e d = by (kindOf (y .service) b) (tagOctet b) (inside (y .level) b) (sym e ∙ d)
   where
     rest : (k : ℕ) → cond (eqb k 0) releaseClass (cond (eqb k 5) endClass k) ≡ 0 → ⊥
     rest k e = zero? (eqb k 0) refl e

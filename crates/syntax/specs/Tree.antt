@@ -7,7 +7,7 @@ use lib.Dec.{eqb}
 use lib.ListN.{length, getElem?}
 use Rattle.syntax.specs.Octets.{every}
 use Rattle.syntax.specs.Service.{serves}
-use Rattle.syntax.specs.Cutting.{tagOctet}
+use Rattle.syntax.specs.Repertoire.{tagOctet}
 use Rattle.syntax.specs.declared.Service.{Service}
 use Rattle.syntax.specs.declared.cutting.Tag.{Tag}
 use Rattle.syntax.specs.declared.cutting.Tag.the-variants.{Is}

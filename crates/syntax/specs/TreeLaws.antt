@@ -10,7 +10,8 @@ use lib.Dec.{T, eqb, leb, leb→le, eqb→eq, lit<, lit≤}
 use lib.ListN.{length, length-append}
 use Rattle.syntax.specs.Octets.{within, every}
 use Rattle.syntax.specs.Service.{servant, repetitionDiffers, differ, fit, kindOf}
-use Rattle.syntax.specs.Cutting.{stopFrom, tagOctet, tagOf}
+use Rattle.syntax.specs.Repertoire.{tagOctet}
+use Rattle.syntax.specs.Cutting.{stopFrom, tagOf}
 use Rattle.syntax.specs.Content.{releases, content}
 use Rattle.syntax.specs.Tree.{Octet, plain, freed, ne, Component, Repeat, Element, Segment, segment, Symbol, tok, comp, rep, elem, term, each, joined, flatC, flatR, flatE, tagElement, flatS, flat, spell, spells, printS, print, octetIn, contentIn, ok, okTag, well}
 use Rattle.syntax.specs.declared.Service.{Service}

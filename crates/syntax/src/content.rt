@@ -184,7 +184,7 @@ pub fn all_digits(x: &[u8], release: u8) -> bool
     }
 }
 
-fn wide(b: u8) -> u64
+pub fn wide(b: u8) -> u64
     ensures { λ r. ⌜ (r ≡ b) × (r < 256) ⌝ }
 {
     b as u64

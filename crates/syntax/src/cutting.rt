@@ -6,8 +6,8 @@ ghost use Prim.Native.Nat.{_+_, _≤_};
 ghost use lib.Dec.{T};
 ghost use lib.ListN.{length, drop};
 ghost use Rattle.syntax.specs.Service.{fit};
-ghost use Rattle.syntax.specs.Repertoire.{classOf, Table};
-ghost use Rattle.syntax.specs.Cutting.{stopFrom, cutAt, cutBy, tagOctet, tagOf};
+ghost use Rattle.syntax.specs.Repertoire.{tagOctet, classOf, Table};
+ghost use Rattle.syntax.specs.Cutting.{stopFrom, cutAt, cutBy, tagOf};
 ghost use Rattle.syntax.specs.CuttingLaws.{Four};
 use crate::Found;
 use crate::Service;
@@ -84,7 +84,7 @@ fn four(s: &[u8], i: usize, t: &[u8; 256], y: Syntax) -> usize
 // A place from which the cut is the same: behind as many fours of octets as hold nothing at which a scan stops.
 // One test for four octets, as their classes add up to less than the terminator's only where each is less; eight at once would be
 // read in vain where segments are short. Two fours a turn spare a test of the place.
-pub(crate) fn run(s: &[u8], from: usize, t: &[u8; 256], y: Syntax) -> usize
+pub fn run(s: &[u8], from: usize, t: &[u8; 256], y: Syntax) -> usize
     requires { ⌜ Table y (now t) ⌝ }
     ensures { λ r. ⌜ cutAt y (now (s .entry)) r ≡ cutAt y (now (s .entry)) from ⌝ }
 {

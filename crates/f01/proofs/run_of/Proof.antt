@@ -12,7 +12,7 @@ use Rattle.f01.proofs.run_of.Lts as lts
 use Rattle.groups.proofs.calls.missing.Reads as missing-reads
 use Rattle.f01.proofs.is_referred.Reads as is-referred-reads
 use Rattle.spans.proofs.span.span.Reads as span-reads
-use Rattle.syntax.proofs.opening.begin.Reads as begin-reads
+use Rattle.beginning.proofs.begin.Reads as begin-reads
 use Rattle.syntax.proofs.repertoire.table.Reads as table-reads
 
 -- src/lib.rt:131:11

@@ -7,7 +7,7 @@ use Rattle.groups.proofs.calls.message_named.Tie as tie
 use Rattle.groups.proofs.calls.message_named.Reads as reads
 use Rattle.groups.proofs.calls.message_named.Lts as lts
 use Rattle.finding.proofs.find.Reads as find-reads
-use Rattle.syntax.proofs.opening.begin.Reads as begin-reads
+use Rattle.beginning.proofs.begin.Reads as begin-reads
 use Rattle.syntax.proofs.repertoire.table.Reads as table-reads
 
 -- src/calls.rt:42:11

@@ -8,7 +8,7 @@ use Rattle.judge.proofs.run.judge.Lts as lts
 use Rattle.judge.proofs.run.run_large.Reads as run-large-reads
 use Rattle.judge.proofs.run.run_small.Reads as run-small-reads
 use Rattle.judge.proofs.run.run_tiny.Reads as run-tiny-reads
-use Rattle.syntax.proofs.opening.begin.Reads as begin-reads
+use Rattle.beginning.proofs.begin.Reads as begin-reads
 use Rattle.syntax.proofs.repertoire.classes.Reads as classes-reads
 
 -- src/run.rt:158:11

@@ -9,7 +9,7 @@ use Rattle.judge.proofs.totals.message_totals.Reads as reads
 use Rattle.judge.proofs.totals.message_totals.Lts as lts
 use Rattle.finding.proofs.find.Reads as find-reads
 use Rattle.judge.proofs.totals.totalled.Reads as totalled-reads
-use Rattle.syntax.proofs.opening.begin.Reads as begin-reads
+use Rattle.beginning.proofs.begin.Reads as begin-reads
 use Rattle.syntax.proofs.repertoire.table.Reads as table-reads
 
 -- src/totals.rt:42:11

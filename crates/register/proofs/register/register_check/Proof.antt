@@ -13,7 +13,7 @@ use Rattle.register.proofs.register.register_check.Tie as tie
 use Rattle.register.proofs.register.register_check.Reads as reads
 use Rattle.register.proofs.register.register_check.Lts as lts
 use Rattle.register.proofs.register.check_from.Reads as check-from-reads
-use Rattle.syntax.proofs.opening.begin.Reads as begin-reads
+use Rattle.beginning.proofs.begin.Reads as begin-reads
 use Rattle.syntax.proofs.repertoire.table.Reads as table-reads
 
 -- src/register.rt:219:11

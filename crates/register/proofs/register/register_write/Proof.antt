@@ -12,7 +12,7 @@ use Rattle.register.proofs.register.register_write.Tie as tie
 use Rattle.register.proofs.register.register_write.Reads as reads
 use Rattle.register.proofs.register.register_write.Lts as lts
 use Rattle.register.proofs.register.write_from.Reads as write-from-reads
-use Rattle.syntax.proofs.opening.begin.Reads as begin-reads
+use Rattle.beginning.proofs.begin.Reads as begin-reads
 use Rattle.syntax.proofs.repertoire.table.Reads as table-reads
 
 -- src/register.rt:171:11

@@ -1,5 +1,5 @@
 use borrow.Author.Needs.{needs}
-use Rattle.syntax.specs.Cutting.{tagOctet}
+use Rattle.syntax.specs.Repertoire.{tagOctet}
 use lib.ListN.{length}
 use Prim.Native.Nat.{_-_}
 use Rattle.sealing.specs.ValueLaws.{Testing, testing-start, testing-on, testing-bad, testing-end}

@@ -1,6 +1,6 @@
 use native.Mathlib.Omega.{arith}
 use mathlib.Core.Path.{_∙_}
-use Rattle.syntax.specs.OpeningLaws.{tag-short, tag-read}
+use Rattle.syntax.specs.TagLaws.{tag-short, tag-read}
 use borrow.Author.Needs.{needs}
 use Rattle.syntax.proofs.cutting.tag_in.Statement.{statement}
 use Rattle.syntax.proofs.cutting.tag_in.Tie as tie

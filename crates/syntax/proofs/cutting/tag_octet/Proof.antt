@@ -1,4 +1,4 @@
-use Rattle.syntax.specs.OpeningLaws.{tag-0, tag-48, tag-58, tag-65}
+use Rattle.syntax.specs.TagLaws.{tag-0, tag-48, tag-58, tag-65}
 use Rattle.syntax.proofs.cutting.tag_octet.Statement.{statement}
 use Rattle.syntax.proofs.cutting.tag_octet.Tie as tie
 

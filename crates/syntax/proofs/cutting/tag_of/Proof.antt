@@ -1,5 +1,5 @@
 use borrow.Author.Tests.{eq-eqb, ne-eqb}
-use Rattle.syntax.specs.OpeningLaws.{refused, granted}
+use Rattle.syntax.specs.TagLaws.{refused, granted}
 use borrow.Author.Needs.{needs}
 use Rattle.syntax.proofs.cutting.tag_of.Statement.{statement}
 use Rattle.syntax.proofs.cutting.tag_of.Tie as tie
