@@ -15,7 +15,8 @@ use Rattle.writing.specs.Written.{text}
 use Rattle.groups.specs.Calls.{given, serviceIn, messageIn}
 use Rattle.ranges.specs.Ranges.{parts, run, scope1Of, scope2Of}
 use Rattle.demands.specs.Printed.{MessageOf}
-use Rattle.sealing.specs.Sealing.{newHeader, newTrailer, grown, sealedMessage, sealed, textBy, sealOctetsOf}
+use Rattle.weaving.specs.Seals.{newHeader, newTrailer, grown, sealedMessage, sealed, textBy}
+use Rattle.sealing.specs.Sealing.{sealOctetsOf}
 
 -- the tree that sealing the message m of i gives: for VALUE v under F f, with the reference r
 abbrev pub sealedBy : Interchange → List ℕ → List ℕ → ℕ → List ℕ → Interchange

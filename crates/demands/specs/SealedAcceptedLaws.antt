@@ -15,11 +15,12 @@ use Rattle.grammar.specs.Verdict.{accepted, verdictOf}
 use Rattle.grammar.specs.VerdictLaws.{verdict-exact}
 use Rattle.grammar.specs.Named.{Placed, placed}
 use Rattle.grammar.specs.TestLaws.{passes}
-use Rattle.sealing.specs.WovenLaws.{around}
+use Rattle.weaving.specs.WovenLaws.{around}
 use Rattle.writing.specs.Written.{Text, text, noText}
 use Rattle.groups.specs.Calls.{Answered, given, refusedAs, answeredBy, then, serviceIn, messageIn}
 use Rattle.values.specs.Values.{answered}
-use Rattle.sealing.specs.Sealing.{newHeader, newTrailer, maySeal, lengthRight, writable, textBy, sealedText, orUnwritten, sealAt, sealOf}
+use Rattle.weaving.specs.Seals.{newHeader, newTrailer, maySeal, lengthRight, writable, textBy, sealedText}
+use Rattle.sealing.specs.Sealing.{orUnwritten, sealAt, sealOf}
 use Rattle.demands.specs.AskedLaws.{given-so}
 use Rattle.demands.specs.Sealed.{sealedBy, Accepted}
 use Rattle.demands.specs.SealedNumberLaws.{grown-number}

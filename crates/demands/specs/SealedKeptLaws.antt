@@ -21,7 +21,7 @@ use Rattle.groups.specs.Groups.{chosen, chosenBy}
 use Rattle.groups.specs.GroupsLaws.{Among, chosen-among}
 use Rattle.groups.specs.Calls.{given, serviceIn, messageIn}
 use Rattle.ranges.specs.Ranges.{parts, run, scope1Of, scope2Of}
-use Rattle.sealing.specs.Sealing.{newHeader, newTrailer, grown, sealedMessage, sealed, textBy}
+use Rattle.weaving.specs.Seals.{newHeader, newTrailer, grown, sealedMessage, sealed, textBy}
 use Rattle.demands.specs.Sealed.{sealedBy, Kept1, Kept2}
 use Rattle.demands.specs.SealedListLaws.{front, same-swap, away, chosen-old}
 use Rattle.demands.specs.SealedNumberLaws.{ref-trailer}

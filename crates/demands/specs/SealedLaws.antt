@@ -30,7 +30,8 @@ use Rattle.groups.specs.StandLaws.{list-join, print-append}
 use Rattle.groups.specs.Groups.{Chosen, chosen, chosenBy}
 use Rattle.groups.specs.Calls.{serviceIn, messageIn}
 use Rattle.values.specs.Values.{filterH, behind, linkText, filtered, orNoHeader, valueAt, answered, valueOf}
-use Rattle.sealing.specs.Sealing.{newHeader, newTrailer, grown, maySeal, filterRight, lengthRight, textBy, signedText, octetsAt, sealOctetsOf, sealOf}
+use Rattle.weaving.specs.Seals.{newHeader, newTrailer, grown, maySeal, filterRight, lengthRight, textBy, signedText}
+use Rattle.sealing.specs.Sealing.{octetsAt, sealOctetsOf, sealOf}
 use Rattle.demands.specs.Sealed.{sealedBy, Accepted, Signed, Kept}
 use Rattle.demands.specs.SealedListLaws.{front, chosen-new}
 use Rattle.demands.specs.SealedNumberLaws.{ref-header, ref-trailer, released-content}

@@ -16,7 +16,7 @@ use Rattle.grammar.specs.TestLaws.{passes}
 use Rattle.grammar.specs.Segments.{Unh, seg, number, reference, second}
 use Rattle.grammar.specs.Interchange.{Leaf, Header, Trailer, trailer, Body, plain, ack, msg, Message, message, showHeader, showTrailer, showBody, showOpen, showMessage}
 use Rattle.grammar.specs.Rules.{auto, okHeader, okBody, whole, okMessage, refH, refT, linked, one, refsMessage, sizeAt, counted, countsMessage, scopeRight, scopesMessage}
-use Rattle.sealing.specs.Sealing.{newHeader, newTrailer, grown, sealedMessage, refRight, filterRight, takesMore, isNew, maySeal}
+use Rattle.weaving.specs.Seals.{newHeader, newTrailer, grown, sealedMessage, refRight, filterRight, takesMore, isNew, maySeal}
 use Rattle.demands.specs.SealedListLaws.{front, same-swap, each-front, joined-front, every-front, distinct-front, away, aways, wider, longer, first-among}
 use Rattle.demands.specs.SealedNumberLaws.{ref-header, ref-trailer, grown-number, grown-second}
 

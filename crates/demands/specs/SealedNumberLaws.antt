@@ -18,7 +18,7 @@ use Rattle.grammar.specs.Interchange.{Leaf}
 use Rattle.grammar.specs.Rules.{refH, refT}
 use Rattle.writing.specs.Decimal.{digitsBefore, decimalOf}
 use Rattle.writing.specs.DecimalLaws.{decimal-value}
-use Rattle.sealing.specs.Sealing.{plains, released, newHeader, newTrailer, grown}
+use Rattle.weaving.specs.Seals.{plains, released, newHeader, newTrailer, grown}
 
 -- ---- contents
 

@@ -29,7 +29,7 @@ use Rattle.filters.specs.Hex.{hexText}
 use Rattle.filters.specs.Six.{sixText}
 use Rattle.filters.specs.HexLaws.{hex-length}
 use Rattle.filters.specs.SixLaws.{six-length}
-use Rattle.sealing.specs.Sealing.{plains, released, single, ushLeaf, usaLeaf, ustLeaf, usrLeaf, newHeader, newTrailer, grown, sealedMessage, refRight, filterRight, lengthRight, textBy, mayWrite}
+use Rattle.weaving.specs.Seals.{plains, released, single, ushLeaf, usaLeaf, ustLeaf, usrLeaf, newHeader, newTrailer, grown, sealedMessage, refRight, filterRight, lengthRight, textBy, mayWrite}
 use Rattle.demands.specs.SealedListLaws.{front, joined-front}
 use Rattle.demands.specs.SealedNumberLaws.{plains-content, released-content, decimal-some, decimal-six}
 use Rattle.demands.specs.SealedSymbolLaws.{ush-passes, usa-passes, ust-passes, usr-passes, unt-passes}

@@ -13,7 +13,7 @@ use Rattle.syntax.specs.declared.Service.{Service}
 use Rattle.grammar.specs.Segments.{Unt, Ush, Usa, Usr, Ust, seg, number}
 use Rattle.grammar.specs.Interchange.{Leaf}
 use Rattle.writing.specs.Decimal.{decimalOf}
-use Rattle.sealing.specs.Sealing.{plains, released, single, several, ushLeaf, usaLeaf, ustLeaf, usrLeaf, grown}
+use Rattle.weaving.specs.Seals.{plains, released, single, several, ushLeaf, usaLeaf, ustLeaf, usrLeaf, grown}
 
 -- ---- tests of each of a list
 

@@ -12,7 +12,7 @@ use Rattle.grammar.specs.Rules.{refM}
 use Rattle.grammar.specs.PlacingLaws.{same-eq}
 use Rattle.grammar.specs.Places.{wide}
 use Rattle.grammar.specs.Named.{placed, placedIn}
-use Rattle.sealing.specs.Sealing.{sealedMessage, sealedIn}
+use Rattle.weaving.specs.Seals.{sealedMessage, sealedIn}
 use Rattle.grammar.specs.TestLaws.{passes}
 use Rattle.groups.specs.CallsLaws.{none-some}
 

@@ -26,7 +26,7 @@ use Rattle.grammar.specs.Named.{placed, placedIn}
 use Rattle.walk.specs.RunLaws.{long-print}
 use Rattle.groups.specs.Calls.{serviceIn, messageIn}
 use Rattle.groups.specs.CallsLaws.{placed-every}
-use Rattle.sealing.specs.Sealing.{newHeader, newTrailer, sealedIn, sealed, maySeal, mayWrite, writable}
+use Rattle.weaving.specs.Seals.{newHeader, newTrailer, sealedIn, sealed, maySeal, mayWrite, writable}
 use Rattle.demands.specs.SealedMessageLaws.{May, may, order-sealed, refs-sealed, counts-sealed, scopes-sealed}
 use Rattle.demands.specs.SealedTreeLaws.{refs-same, size-same, any-same, every-sealed}
 use Rattle.demands.specs.SealedWrittenLaws.{wellS, list-well, well-list}

@@ -22,7 +22,7 @@ use Rattle.grammar.specs.Lists.{Snoc, nil, _▷_, list, Rule, test, holds}
 use Rattle.grammar.specs.Lists as lists
 use Rattle.grammar.specs.Rules.{insideS}
 use Rattle.groups.specs.StandLaws.{well-append, well-parts}
-use Rattle.sealing.specs.Sealing.{releasedOctet, released, mayWrite}
+use Rattle.weaving.specs.Seals.{releasedOctet, released, mayWrite}
 use Rattle.grammar.specs.TestLaws.{or-left}
 use Rattle.demands.specs.SealedSymbolLaws.{Passes, every-append, every-left, every-right, every-as}
 

@@ -9,8 +9,8 @@ use lib.Dec.{eqb}
 use lib.ListN.{length}
 use Rattle.syntax.specs.Octets.{octets, same}
 use Rattle.writing.specs.Laid.{Laid}
-use Rattle.writing.specs.Written.{refusedAs, Writes}
-use Rattle.writing.specs.WrittenLaws.{writes-none, writes-long, writes-full, writes-done}
+use Rattle.writing.specs.Written.{refusedAs, tooLong, Writes}
+use Rattle.writing.specs.WrittenLaws.{writes-none, writes-over, writes-fit}
 use Rattle.writing.specs.declared.Written.{Written}
 use Rattle.writing.specs.declared.Written.the-variants.{Length as Wrote}
 use Rattle.filters.specs.Hex.{hexValue}
@@ -50,16 +50,12 @@ pub wrote-bad : (x : Option (List ℕ)) {a a′ out : List ℕ} {d : Decoded} {r
 wrote-bad none g e q = writes-none q
 wrote-bad (some v) g e q = absurd (never (sym (g .is .0) ∙ e))
 
-pub wrote-long : (x : Option (List ℕ)) {a a′ out : List ℕ} {d : Decoded} {m : ℕ} {r : Written} → Decodes x a 0 d a′ → d ≡ Length m → 65535 < m → r ≡ refusedAs 15 0 → Writes (orBad x) out r out
-wrote-long none g e l q = absurd (never (sym e ∙ g .is))
-wrote-long (some v) g e l q = writes-long (length-of v g e) l q
+pub wrote-long : (x : Option (List ℕ)) {a a′ out : List ℕ} {d : Decoded} {m : ℕ} {b : Bool} {r : Written}
+    → Decodes x a 0 d a′ → d ≡ Length m → b ≡ tooLong (length out) m → b ≡ true → r ≡ refusedAs 15 0 → Writes (orBad x) out r out
+wrote-long none g e l h q = absurd (never (sym e ∙ g .is))
+wrote-long (some v) g e l h q = writes-over (length-of v g e) l h q
 
-pub wrote-full : (x : Option (List ℕ)) {a a′ out : List ℕ} {d : Decoded} {m : ℕ} {r : Written} → Decodes x a 0 d a′ → d ≡ Length m → m ≤ 65535 → length out < m → r ≡ refusedAs 15 0
-    → Writes (orBad x) out r out
-wrote-full none g e l h q = absurd (never (sym e ∙ g .is))
-wrote-full (some v) g e l h q = writes-full (length-of v g e) l h q
-
-pub wrote-done : (x : Option (List ℕ)) {a a′ out out′ : List ℕ} {d d′ : Decoded} {m : ℕ} → Decodes x a 0 d a′ → d ≡ Length m → m ≤ 65535 → m ≤ length out → Decodes x out 0 d′ out′
-    → Writes (orBad x) out (Wrote m) out′
+pub wrote-done : (x : Option (List ℕ)) {a a′ out out′ : List ℕ} {d d′ : Decoded} {m : ℕ} {b : Bool}
+    → Decodes x a 0 d a′ → d ≡ Length m → b ≡ tooLong (length out) m → b ≡ false → Decodes x out 0 d′ out′ → Writes (orBad x) out (Wrote m) out′
 wrote-done none g e l h k = absurd (never (sym e ∙ g .is))
-wrote-done (some v) g e l h k = writes-done (length-of v g e) l h (laid-of v k)
+wrote-done (some v) g e l h k = writes-fit (length-of v g e) l h (laid-of v k)

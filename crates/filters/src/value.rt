@@ -10,6 +10,7 @@ use crate::six::six_into;
 use syntax::content::content_is;
 use writing::Written;
 use writing::refused;
+use writing::too_long;
 
 fn value_into(out: &mut [u8], text: &[u8], code: &[u8], release: u8) -> Decoded
     ensures { λ d. ⌜ Decodes (valueBy (content release (now (code .entry))) (content release (now (text .entry)))) (now (out .entry)) 0 d (now (out .exit)) ⌝ }
@@ -35,10 +36,7 @@ pub fn value_of(text: &[u8], code: &[u8], release: u8, out: &mut [u8]) -> Writte
     match value_into(&mut none, text, code, release) {
         Decoded::Bad => refused(14),
         Decoded::Length(m) => {
-            if 65535 < m {
-                return refused(15);
-            }
-            if out.len() < m {
+            if too_long(out.len(), m) {
                 return refused(15);
             }
             value_into(&mut *out, text, code, release);

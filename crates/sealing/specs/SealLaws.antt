@@ -28,10 +28,11 @@ use Rattle.filters.specs.SixLaws.{six-length}
 use Rattle.groups.specs.PartsLaws.{call-refused, call-missing, call-holds}
 use Rattle.groups.specs.Calls.{messageIn, Holds}
 use Rattle.values.specs.Values.{answered}
-use Rattle.sealing.specs.Sealing.{maySeal, lengthRight, textBy, mayWrite, writable, octetsAt, sealOctetsOf, sealedText, orUnwritten, sealAt, sealOf}
-use Rattle.sealing.specs.Woven.{octetsPieces, sealedPieces, wovenOr, sizedOr}
-use Rattle.sealing.specs.WovenLaws.{woven, signed, read-short}
+use Rattle.weaving.specs.Seals.{maySeal, lengthRight, textBy, mayWrite, writable, sealedText}
+use Rattle.weaving.specs.Woven.{octetsPieces, sealedPieces, wovenOr, sizedOr}
+use Rattle.weaving.specs.WovenLaws.{woven, signed, read-short}
 use Rattle.writing.specs.WrittenLaws.{writes-as}
+use Rattle.sealing.specs.Sealing.{octetsAt, sealOctetsOf, orUnwritten, sealAt, sealOf}
 
 -- ---- what the layout of a message that is named lies within
 

@@ -10,14 +10,9 @@ ghost use Rattle.grammar.specs.Named.{placed};
 ghost use Rattle.writing.specs.Laid.{Laid, joined};
 ghost use Rattle.writing.specs.Written.{text, Writes};
 ghost use Rattle.groups.specs.Calls.{Holds};
-ghost use Rattle.sealing.specs.Sealing.{lengthRight, textBy, octetsAt, sealOctetsOf, sealAt, sealOf};
-ghost use Rattle.sealing.specs.Woven.{countAt, countEnd, octetsPieces, restPieces, sealedPieces, wovenOr, sizedOr};
-use crate::allowed::is_value_length;
-use crate::allowed::may_seal;
-use crate::pieces::put_header;
-use crate::pieces::put_trailer;
-use crate::value::filter_text;
-use crate::value::is_writable;
+ghost use Rattle.weaving.specs.Seals.{lengthRight, textBy};
+ghost use Rattle.weaving.specs.Woven.{countAt, countEnd, octetsPieces, restPieces, sealedPieces, wovenOr, sizedOr};
+ghost use Rattle.sealing.specs.Sealing.{octetsAt, sealOctetsOf, sealAt, sealOf};
 use groups::calls::Named;
 use groups::calls::message_named;
 use syntax::Found;
@@ -29,10 +24,17 @@ use syntax::content::part;
 use syntax::cutting::stop;
 use syntax::reading::component_part;
 use walk::sections::Layout;
+use weaving::allowed::is_value_length;
+use weaving::allowed::may_seal;
+use weaving::pieces::put_header;
+use weaving::pieces::put_trailer;
+use weaving::value::filter_text;
+use weaving::value::is_writable;
 use writing::Written;
 use writing::put;
 use writing::put_number;
 use writing::refused;
+use writing::too_long;
 
 // ---- the octets to be signed
 
@@ -65,10 +67,7 @@ fn write_octets(
 {
     let mut none = [0u8; 1];
     let m = put_octets(&mut none, s, v, c, reference, filter);
-    if 65535 < m {
-        return refused(15);
-    }
-    if out.len() < m {
+    if too_long(out.len(), m) {
         return refused(15);
     }
     put_octets(&mut *out, s, v, c, reference, filter);
@@ -188,10 +187,7 @@ fn write_sealed(
 {
     let mut none = [0u8; 1];
     let m = put_sealed(&mut none, s, t, y, c, reference, filter, letters);
-    if 65535 < m {
-        return refused(15);
-    }
-    if out.len() < m {
+    if too_long(out.len(), m) {
         return refused(15);
     }
     put_sealed(&mut *out, s, t, y, c, reference, filter, letters);

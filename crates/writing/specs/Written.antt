@@ -16,18 +16,18 @@ pub data Text : Type 0 where
 abbrev pub refusedAs : ℕ → ℕ → Written
 refusedAs number place = Refused (record { number = number; place = place })
 
--- "result longer than the lent buffer or than 65,535"
-abbrev pub tooLong : List ℕ → List ℕ → Bool
-tooLong out t = cond (ltb 65535 (length t)) true (ltb (length out) (length t))
+-- "result longer than the lent buffer or than 65,535": n octets, where the buffer has room for so many
+abbrev pub tooLong : ℕ → ℕ → Bool
+tooLong room n = cond (ltb 65535 n) true (ltb room n)
 
 abbrev pub writtenAs : Text → List ℕ → Written
 writtenAs (noText number place) out = refusedAs number place
-writtenAs (text t) out = cond (tooLong out t) (refusedAs 15 0) (Length (length t))
+writtenAs (text t) out = cond (tooLong (length out) (length t)) (refusedAs 15 0) (Length (length t))
 
 -- the text first and the rest as it was; all as it was where the call refuses
 abbrev pub leftIn : Text → List ℕ → List ℕ
 leftIn (noText number place) out = out
-leftIn (text t) out = cond (tooLong out t) out (t ++ drop (length t) out)
+leftIn (text t) out = cond (tooLong (length out) (length t)) out (t ++ drop (length t) out)
 
 -- the answer r and the octets out′ of a call that is to write x into out
 pub record Writes (x : Text) (out : List ℕ) (r : Written) (out′ : List ℕ) : Type 0 where

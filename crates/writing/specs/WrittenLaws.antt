@@ -1,13 +1,15 @@
 -- A call that measures its text, refuses what is too long, and then lays it.
 use Prim.Native.Nat.{ℕ, _≤_, _<_}
 use native.Mathlib.Omega.{arith}
+use mathlib.Core.Bool.{Bool, true, false, cond, false≢true}
 use mathlib.Core.List.{List}
-use mathlib.Core.Path.{_≡_, refl, _∙_, subst}
+use mathlib.Core.Path.{_≡_, refl, sym, _∙_, subst}
+use lib.Dec.{ltb}
 use lib.ListN.{length}
-use borrow.Author.Tests.{lt-ltb, le-ltb}
+use borrow.Author.Tests.{lt-ltb, le-ltb, ltb-false}
 use Rattle.writing.specs.Laid.{Laid}
 use Rattle.writing.specs.LaidLaws.{laid-front}
-use Rattle.writing.specs.Written.{text, noText, refusedAs, Writes, Text}
+use Rattle.writing.specs.Written.{text, noText, refusedAs, tooLong, Writes, Text}
 use Rattle.writing.specs.declared.Written.{Written}
 use Rattle.writing.specs.declared.Written.the-variants.{Length}
 
@@ -21,7 +23,24 @@ writes-none e = record { answer = e; octets = refl }
 pub length-told : {A : Type 0} {n number place : ℕ} → Length n ≡ refusedAs number place → A
 length-told e = let z : _≡_ {A = ℕ} 0 1 = cc in absurd (omega arith)
 
+room-for : (room n : ℕ) → tooLong room n ≡ false → n ≤ room
+room-for room n e = by (ltb 65535 n) e
+  where
+    by : (c : Bool) → cond c true (ltb room n) ≡ false → n ≤ room
+    by true h = absurd (false≢true (sym h))
+    by false h = ltb-false room n h
+
 module _ {t : List ℕ} {m : ℕ} (e : m ≡ length t) where
+  -- by what `too_long` answers
+  module _ {out : List ℕ} {b : Bool} (d : b ≡ tooLong (length out) m) where
+    pub writes-over : {r : Written} → b ≡ true → r ≡ refusedAs 15 0 → Writes (text t) out r out
+    writes-over h q = record { answer = q ∙ rw (← e, ← d, h); octets = rw (← e, ← d, h) }
+
+    pub writes-fit : {out′ : List ℕ} {k : ℕ} → b ≡ false → Laid out 0 t k out′ → Writes (text t) out (Length m) out′
+    writes-fit h g =
+        let f : length t ≤ length out = omega (arith, e, room-for (length out) m (sym d ∙ h)) in
+        record { answer = rw (← e, ← d, h); octets = laid-front g f ∙ rw (← e, ← d, h) }
+
   pub writes-long : {out : List ℕ} {r : Written} → 65535 < m → r ≡ refusedAs 15 0 → Writes (text t) out r out
   writes-long h q = record { answer = q ∙ rw (← e, lt-ltb _ _ h); octets = rw (← e, lt-ltb _ _ h) }
 

@@ -5,6 +5,7 @@ ghost use Prim.Native.Nat.{_+_, _%_, _≤_, _<_};
 ghost use lib.ListN.{length, set};
 ghost use Rattle.writing.specs.Decimal.{decimalOf, Filled};
 ghost use Rattle.writing.specs.Laid.{Laid, Fits};
+ghost use Rattle.writing.specs.Written.{tooLong};
 use syntax::Refusal;
 
 // What a call that writes a text answers: how long the text is, or why there is none.
@@ -17,6 +18,16 @@ pub fn refused(number: u8) -> Written
     ensures { λ r. ⌜ r ≡ Written.Refused (record { number = number; place = 0 }) ⌝ }
 {
     Written::Refused(Refusal { number, place: 0 })
+}
+
+// Whether `n` octets are too long to be written: number 15.
+pub fn too_long(room: usize, n: usize) -> bool
+    ensures { λ r. ⌜ r ≡ tooLong room n ⌝ }
+{
+    if 65535 < n {
+        return true;
+    }
+    room < n
 }
 
 // One octet, where there is room for it.

@@ -1,6 +1,6 @@
 use Rattle.syntax.specs.Content.{content}
 use Rattle.filters.specs.Filters.{valueBy}
-use Rattle.filters.specs.FiltersLaws.{wrote-bad, wrote-long, wrote-full, wrote-done}
+use Rattle.filters.specs.FiltersLaws.{wrote-bad, wrote-long, wrote-done}
 use borrow.Author.Needs.{needs}
 use Rattle.filters.proofs.value.value_of.Statement.{statement}
 use Rattle.filters.proofs.value.value_of.Tie as tie
@@ -20,29 +20,26 @@ refused-requires c κs = search needs
 enum-known-m : tie.Need-enum-known-m
 enum-known-m c = search needs
 
+too-long-requires : tie.Need-too-long-requires
+too-long-requires c κs = search needs
+
 refused-requires-2 : tie.Need-refused-requires-2
 refused-requires-2 c κs = search needs
 
 returns : tie.Need-returns
-returns c = wrote-long (valueBy (content (c .before .before .before .before .before .before .before .before .before .before .before .args .release) (c .before .before .before .before .before .before .before .before .before .before .before .args .code .now)) (content (c .before .before .before .before .before .before .before .before .before .before .before .args .release) (c .before .before .before .before .before .before .before .before .before .before .before .args .text .now))) (c .before .before .before .before .before .before .value-into .ensures) (c .before .before .before .m .given .1) (c .before .if1 .taken) (c .refused2 .ensures)
-
-refused-requires-3 : tie.Need-refused-requires-3
-refused-requires-3 c κs = search needs
-
-returns-2 : tie.Need-returns-2
-returns-2 c = wrote-full (valueBy (content (c .before .before .before .before .before .before .before .before .before .before .before .before .args .release) (c .before .before .before .before .before .before .before .before .before .before .before .before .args .code .now)) (content (c .before .before .before .before .before .before .before .before .before .before .before .before .args .release) (c .before .before .before .before .before .before .before .before .before .before .before .before .args .text .now))) (c .before .before .before .before .before .before .before .value-into .ensures) (c .before .before .before .before .m .given .1) (c .before .before .if1 .left) (c .before .if2 .taken) (c .refused3 .ensures)
+returns c = wrote-long (valueBy (content (c .before .before .before .before .before .before .before .before .before .before .before .before .args .release) (c .before .before .before .before .before .before .before .before .before .before .before .before .args .code .now)) (content (c .before .before .before .before .before .before .before .before .before .before .before .before .args .release) (c .before .before .before .before .before .before .before .before .before .before .before .before .args .text .now))) (c .before .before .before .before .before .before .before .value-into .ensures) (c .before .before .before .before .m .given .1) (c .before .before .too-long .ensures) (c .before .if1 .taken) (c .refused2 .ensures)
 
 value-into-requires-2 : tie.Need-value-into-requires-2
 value-into-requires-2 c κs = search needs
 
-returns-3 : tie.Need-returns-3
-returns-3 c = wrote-bad (valueBy (content (c .before .before .before .before .before .before .before .before .before .args .release) (c .before .before .before .before .before .before .before .before .before .args .code .now)) (content (c .before .before .before .before .before .before .before .before .before .args .release) (c .before .before .before .before .before .before .before .before .before .args .text .now))) (c .before .before .before .before .value-into .ensures) (c .before .enum-told .given .1) (c .refused .ensures)
+returns-2 : tie.Need-returns-2
+returns-2 c = wrote-bad (valueBy (content (c .before .before .before .before .before .before .before .before .before .args .release) (c .before .before .before .before .before .before .before .before .before .args .code .now)) (content (c .before .before .before .before .before .before .before .before .before .args .release) (c .before .before .before .before .before .before .before .before .before .args .text .now))) (c .before .before .before .before .value-into .ensures) (c .before .enum-told .given .1) (c .refused .ensures)
 
 same-length : tie.Need-same-length
 same-length c = search needs
 
-returns-4 : tie.Need-returns-4
-returns-4 c = wrote-done (valueBy (content (c .before .before .before .before .before .before .before .before .before .before .before .before .before .before .before .args .release) (c .before .before .before .before .before .before .before .before .before .before .before .before .before .before .before .args .code .now)) (content (c .before .before .before .before .before .before .before .before .before .before .before .before .before .before .before .args .release) (c .before .before .before .before .before .before .before .before .before .before .before .before .before .before .before .args .text .now))) (c .before .before .before .before .before .before .before .before .before .before .value-into .ensures) (c .before .before .before .before .before .before .before .m .given .1) (c .before .before .before .before .before .if1 .left) (c .before .before .before .before .if2 .left) (c .before .before .value-into2 .ensures)
+returns-3 : tie.Need-returns-3
+returns-3 c = wrote-done (valueBy (content (c .before .before .before .before .before .before .before .before .before .before .before .before .before .before .before .args .release) (c .before .before .before .before .before .before .before .before .before .before .before .before .before .before .before .args .code .now)) (content (c .before .before .before .before .before .before .before .before .before .before .before .before .before .before .before .args .release) (c .before .before .before .before .before .before .before .before .before .before .before .before .before .before .before .args .text .now))) (c .before .before .before .before .before .before .before .before .before .before .value-into .ensures) (c .before .before .before .before .before .before .before .m .given .1) (c .before .before .before .before .before .too-long .ensures) (c .before .before .before .before .if1 .left) (c .before .before .value-into2 .ensures)
 
 pub value-of-spec : {M : Type 1} → statement M
 value-of-spec =
@@ -53,11 +50,10 @@ value-of-spec =
     enum-told
     refused-requires
     enum-known-m
+    too-long-requires
     refused-requires-2
     returns
-    refused-requires-3
-    returns-2
     value-into-requires-2
-    returns-3
+    returns-2
     same-length
-    returns-4)
+    returns-3)

@@ -1,4 +1,4 @@
-use Rattle.sealing.specs.Woven.{endBy}
+use Rattle.weaving.specs.Woven.{endBy}
 use mathlib.Core.Path.{sym, ap, _∙_}
 use borrow.Author.Needs.{needs}
 use Rattle.sealing.proofs.seal.count_end.Statement.{statement}

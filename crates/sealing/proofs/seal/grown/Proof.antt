@@ -1,7 +1,7 @@
 use mathlib.Core.Path.{_≡_, refl, sym, ap, _∙_}
 use Rattle.syntax.specs.Content.{content}
 use denote.Ref.{now}
-use Rattle.sealing.specs.WovenLaws.{count-told, count-none, count-low}
+use Rattle.weaving.specs.WovenLaws.{count-told, count-none, count-low}
 use borrow.Author.Needs.{needs}
 use Rattle.sealing.proofs.seal.grown.Statement.{statement}
 use Rattle.sealing.proofs.seal.grown.Tie as tie

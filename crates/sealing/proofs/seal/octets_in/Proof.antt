@@ -7,7 +7,7 @@ use Rattle.sealing.proofs.seal.octets_in.Statement.{statement}
 use Rattle.sealing.proofs.seal.octets_in.Tie as tie
 use Rattle.sealing.proofs.seal.octets_in.Reads as reads
 use Rattle.sealing.proofs.seal.octets_in.Lts as lts
-use Rattle.sealing.proofs.allowed.may_seal.Reads as may-seal-reads
+use Rattle.weaving.proofs.allowed.may_seal.Reads as may-seal-reads
 use Rattle.sealing.proofs.seal.write_octets.Reads as write-octets-reads
 use Rattle.writing.proofs.refused.Reads as refused-reads
 

@@ -1,5 +1,5 @@
-use Rattle.sealing.specs.PiecesLaws.{part-short}
-use Rattle.sealing.specs.Woven.{octetsPieces}
+use Rattle.weaving.specs.PiecesLaws.{part-short}
+use Rattle.weaving.specs.Woven.{octetsPieces}
 use Rattle.writing.specs.LaidLaws.{weaving-start, weaving-put, weaving-end, laid-same}
 use denote.Ref.{now}
 use mathlib.Core.Path.{_≡_, refl, sym, ap, _∙_}
@@ -8,7 +8,7 @@ use Rattle.sealing.proofs.seal.put_octets.Statement.{statement}
 use Rattle.sealing.proofs.seal.put_octets.Tie as tie
 use Rattle.sealing.proofs.seal.put_octets.Reads as reads
 use Rattle.sealing.proofs.seal.put_octets.Lts as lts
-use Rattle.sealing.proofs.pieces.put_header.Reads as put-header-reads
+use Rattle.weaving.proofs.pieces.put_header.Reads as put-header-reads
 use Rattle.syntax.proofs.content.part.Reads as part-reads
 use Rattle.writing.proofs.put.Reads as put-reads
 

@@ -2,8 +2,8 @@ use Prim.Native.Nat.{ℕ, _+_}
 use lib.Seq.{slice}
 use lib.ListN.{length}
 use Rattle.writing.specs.Decimal.{decimalOf}
-use Rattle.sealing.specs.PiecesLaws.{part-short}
-use Rattle.sealing.specs.Woven.{restPieces, countEnd}
+use Rattle.weaving.specs.PiecesLaws.{part-short}
+use Rattle.weaving.specs.Woven.{restPieces, countEnd}
 use Rattle.writing.specs.LaidLaws.{weaving-start, weaving-put, weaving-end, laid-same}
 use denote.Ref.{now}
 use mathlib.Core.Path.{_≡_, refl, sym, ap, _∙_}

@@ -1,5 +1,5 @@
-use Rattle.sealing.specs.PiecesLaws.{part-short, sealed-room}
-use Rattle.sealing.specs.Woven.{sealedPieces}
+use Rattle.weaving.specs.PiecesLaws.{part-short, sealed-room}
+use Rattle.weaving.specs.Woven.{sealedPieces}
 use Rattle.writing.specs.LaidLaws.{weaving-start, weaving-put, weaving-end, laid-same}
 use denote.Ref.{now}
 use mathlib.Core.Path.{_≡_, refl, sym, ap, _∙_}
@@ -8,8 +8,8 @@ use Rattle.sealing.proofs.seal.put_sealed.Statement.{statement}
 use Rattle.sealing.proofs.seal.put_sealed.Tie as tie
 use Rattle.sealing.proofs.seal.put_sealed.Reads as reads
 use Rattle.sealing.proofs.seal.put_sealed.Lts as lts
-use Rattle.sealing.proofs.pieces.put_header.Reads as put-header-reads
-use Rattle.sealing.proofs.pieces.put_trailer.Reads as put-trailer-reads
+use Rattle.weaving.proofs.pieces.put_header.Reads as put-header-reads
+use Rattle.weaving.proofs.pieces.put_trailer.Reads as put-trailer-reads
 use Rattle.sealing.proofs.seal.put_rest.Reads as put-rest-reads
 use Rattle.syntax.proofs.content.part.Reads as part-reads
 use Rattle.writing.proofs.put.Reads as put-reads

@@ -7,7 +7,7 @@ use Rattle.sealing.proofs.seal.seal_in.Statement.{statement}
 use Rattle.sealing.proofs.seal.seal_in.Tie as tie
 use Rattle.sealing.proofs.seal.seal_in.Reads as reads
 use Rattle.sealing.proofs.seal.seal_in.Lts as lts
-use Rattle.sealing.proofs.allowed.may_seal.Reads as may-seal-reads
+use Rattle.weaving.proofs.allowed.may_seal.Reads as may-seal-reads
 use Rattle.sealing.proofs.seal.seal_value.Reads as seal-value-reads
 use Rattle.writing.proofs.refused.Reads as refused-reads
 

@@ -1,7 +1,7 @@
 use Prim.Native.Nat.{_≤_}
 use lib.ListN.{length}
 use native.Mathlib.Omega.{arith}
-use Rattle.sealing.specs.Sealing.{textBy}
+use Rattle.weaving.specs.Seals.{textBy}
 use Rattle.writing.specs.WrittenLaws.{writes-none}
 use Rattle.sealing.specs.SealLaws.{text-fits, text-laid, woven-writes, woven-barred}
 use denote.Ref.{now}
@@ -12,8 +12,8 @@ use Rattle.sealing.proofs.seal.seal_text.Tie as tie
 use Rattle.sealing.proofs.seal.seal_text.Reads as reads
 use Rattle.sealing.proofs.seal.seal_text.Lts as lts
 use Rattle.sealing.proofs.seal.write_sealed.Reads as write-sealed-reads
-use Rattle.sealing.proofs.value.filter_text.Reads as filter-text-reads
-use Rattle.sealing.proofs.value.is_writable.Reads as is-writable-reads
+use Rattle.weaving.proofs.value.filter_text.Reads as filter-text-reads
+use Rattle.weaving.proofs.value.is_writable.Reads as is-writable-reads
 use Rattle.syntax.proofs.content.part.Reads as part-reads
 use Rattle.writing.proofs.refused.Reads as refused-reads
 

@@ -7,7 +7,7 @@ use Rattle.sealing.proofs.seal.seal_value.Statement.{statement}
 use Rattle.sealing.proofs.seal.seal_value.Tie as tie
 use Rattle.sealing.proofs.seal.seal_value.Reads as reads
 use Rattle.sealing.proofs.seal.seal_value.Lts as lts
-use Rattle.sealing.proofs.allowed.is_value_length.Reads as is-value-length-reads
+use Rattle.weaving.proofs.allowed.is_value_length.Reads as is-value-length-reads
 use Rattle.sealing.proofs.seal.seal_text.Reads as seal-text-reads
 use Rattle.writing.proofs.refused.Reads as refused-reads
 
