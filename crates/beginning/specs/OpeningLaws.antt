@@ -10,6 +10,7 @@ use native.Mathlib.Nat.{le-of-suc-le-suc, not-suc-le-zero}
 use lib.ListN.{length, getD, drop}
 use Rattle.syntax.specs.Service.{servant, withoutRepetition}
 use Rattle.syntax.specs.Cutting.{tagOf, endAt, firstOutside, stretch, cutBy, cutAt}
+use Rattle.syntax.specs.TagLaws.{no-repetition}
 use Rattle.syntax.specs.Segment.{componentAt, partOf}
 use Rattle.syntax.specs.Content.{content}
 use Rattle.syntax.specs.Opening.{startsUna, isThere, levelNamed, versionNamed, bothNamed, declaredAt}
@@ -121,14 +122,6 @@ una-read [] h = absurd (not-suc-le-zero h)
 una-read (x ∷ []) h = absurd (not-suc-le-zero (le-of-suc-le-suc h))
 una-read (x ∷ y ∷ []) h = absurd (not-suc-le-zero (le-of-suc-le-suc (le-of-suc-le-suc h)))
 una-read (x ∷ y ∷ z ∷ s) h = rw (or-false (eqb z 65))
-
--- the repetition is no part of a tag
-pub no-repetition : (σ : Service) (l : List ℕ) → tagOf (withoutRepetition σ) l ≡ tagOf σ l
-no-repetition σ [] = refl
-no-repetition σ (a ∷ []) = refl
-no-repetition σ (a ∷ b ∷ []) = refl
-no-repetition σ (a ∷ b ∷ c ∷ []) = refl
-no-repetition σ (a ∷ b ∷ c ∷ d ∷ s) = refl
 
 -- what the parts of `begin_at` and `declared` answer, put together. `v` is the service without repetition, as the code has it
 module _ (s : List ℕ) (o : Opening) {v : Service} (e : v ≡ withoutRepetition (o .service)) where

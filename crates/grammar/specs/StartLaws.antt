@@ -15,7 +15,7 @@ use Rattle.syntax.specs.Segment.{Piece, piece, pieces, piecesAt, atElement, atC
 use Rattle.syntax.specs.Content.{content}
 use Rattle.syntax.specs.Opening.{startsUna, unaService, readUna, openingOf, levelNamed, versionNamed, bothNamed, declaredAt, refusedUnb, isTag, isUnb, isThere, begunAt, begunBy, begunOf}
 use Rattle.syntax.specs.ContentLaws.{drop-short}
-use Rattle.syntax.specs.OpeningLaws.{no-repetition}
+use Rattle.syntax.specs.TagLaws.{no-repetition}
 use Rattle.syntax.specs.Tree as syntax
 use Rattle.syntax.specs.Tree.{Segment, printS, well, repeatsOf}
 use Rattle.syntax.specs.TreeLaws.{off, and-left, and-right, and-both, print-cons}

@@ -9,6 +9,7 @@ use lib.Dec.{leb}
 use native.Mathlib.Nat.{le-of-suc-le-suc, not-suc-le-zero}
 use lib.ListN.{length, getD, drop, length-drop}
 use lib.Seq.{drop-cons}
+use Rattle.syntax.specs.Service.{withoutRepetition}
 use Rattle.syntax.specs.Repertoire.{tagOctet}
 use Rattle.syntax.specs.Cutting.{tagOf}
 use Rattle.syntax.specs.declared.Service.{Service}
@@ -20,6 +21,14 @@ refused {r} e h = sym e ∙ not-true r h
 
 pub granted : {r x : Bool} → r ≡ x → not r ≡ false → x ≡ true
 granted {r} e h = sym e ∙ not-false r h
+
+-- the repetition is no part of a tag
+pub no-repetition : (σ : Service) (l : List ℕ) → tagOf (withoutRepetition σ) l ≡ tagOf σ l
+no-repetition σ [] = refl
+no-repetition σ (a ∷ []) = refl
+no-repetition σ (a ∷ b ∷ []) = refl
+no-repetition σ (a ∷ b ∷ c ∷ []) = refl
+no-repetition σ (a ∷ b ∷ c ∷ d ∷ s) = refl
 
 -- `tagOctet` by the stretches that the code tests; a law's number is where its stretch starts
 module _ {b : ℕ} where
