@@ -4,14 +4,14 @@ use Rattle.syntax.specs.Octets.{octets, same}
 use Rattle.syntax.specs.declared.Version.{Version}
 use Rattle.grammar.specs.Segments as named
 use Rattle.grammar.specs.Segments.{Asked}
-use Rattle.grammar.specs.Loads.{threePart, controlUnit, controlBy}
+use Rattle.grammar.specs.Loads.{controlWritten}
 use Rattle.grammar.specs.Elements.{row, formedRow}
 use Rattle.elements.specs.declared.Kind.{Kind}
 use Rattle.elements.specs.declared.Kind.the-variants.{Unb, Unh, Unt, Unz, Ush, Usa, Usc, Usr, Ust, Usb, Usx, Usy, Reserved, Qty, Cnt, Other}
 
--- a CNT is right: where its qualifier is 1, one element of three components, a unit and an amount
+-- grammar's controlRight, of a segment that is known to be CNT
 abbrev pub controlOf : Asked → Bool
-controlOf a = cond (same (a .text 1 0) (octets "1")) (threePart a && controlBy (controlUnit (a .text 1 2)) (a .text 1 1)) true
+controlOf a = cond (same (a .text 1 0) (octets "1")) (controlWritten a) true
 
 abbrev pub formedBy : Version → Kind → Asked → Bool
 formedBy v Unb a = formedRow (row v named.Unb) a 1

@@ -95,8 +95,11 @@ abbrev pub controlBy : Option Shape → List ℕ → Bool
 controlBy none s = false
 controlBy (some u) s = amountRight u s
 
+abbrev pub controlWritten : Asked → Bool
+controlWritten a = threePart a && controlBy (controlUnit (a .text 1 2)) (a .text 1 1)
+
 abbrev pub controlRight : Asked → Bool
-controlRight a = cond (isControl a) (threePart a && controlBy (controlUnit (a .text 1 2)) (a .text 1 1)) true
+controlRight a = cond (isControl a) (controlWritten a) true
 
 abbrev pub controlIn : Asked → Option ℕ
 controlIn a = cond (isControl a) (loadBy (controlUnit (a .text 1 2)) (a .text 1 1)) none

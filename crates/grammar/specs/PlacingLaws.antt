@@ -13,7 +13,7 @@ use Rattle.syntax.specs.TreeLaws.{and-left, and-right}
 use Rattle.grammar.specs.Lists.{Snoc, nil, _▷_, map, _+++_, joined, size, Rule, holds, every}
 use Rattle.grammar.specs.Segments.{Name, Unb, Unh, Unt, Unz, Ush, Usa, Usc, Usr, Ust, Usb, Usx, Usy, Kind, Named, Reserved, Free, Entry, entry, tags, kindIn, elementsOf, kindOf, textOf, withTag, seg}
 use Rattle.grammar.specs.Interchange.{Leaf, Certificate, certificate, Header, header, Trailer, trailer, Link, link, Body, plain, ack, Open, msg, Message, message, Reading, start, idle, busy, done, showCertificate, showHeader, showTrailer, showLink, showBody, showOpen, showMessage, shown}
-use Rattle.grammar.specs.Rules.{order, refs, counts, scopes, auto, isFree, okItem, okBody, okTrailers, whole, filled, firm, scopeRight}
+use Rattle.grammar.specs.Rules.{order, refs, counts, scopes, auto, isFree, okItem, okBody, okTrailers, whole, filled, firm}
 use Rattle.grammar.specs.Placing.{usaC, usrC, usaH, uscH, usrH, lastly, usrT, usyL, inHeaders, inBody, usbB, usxB, usyB, itemB, usrO, ustO, inOpen, begun, opened, closed, ended, growNamed, grow, place}
 
 -- ---- a segment of a name has that name's tag
@@ -276,11 +276,6 @@ trail-of : (a : Bool) (b : Body) (ts : Snoc Trailer) → holds (whole a b) → h
 trail-of a b nil h = tt
 trail-of a b (ts ▷ t) h = h
 
--- a header's scope is in its USH alone
-pub scope-of : (a : Bool) (c : Leaf) (us vs : Snoc Leaf) (cs ds : Snoc Certificate) → holds (scopeRight a (header c us cs)) → holds (scopeRight a (header c vs ds))
-scope-of true c us vs cs ds h = h
-scope-of false c us vs cs ds h = h
-
 -- 7 is kept when the last segment is taken off
 pub shut-order : (z : Reading) (f : LastFree z) → holds (order z) → Before order (back z f)
 shut-order start f o = tt
@@ -346,10 +341,10 @@ shut-scopes (idle u (ms ▷ message (msg h hs b ts) t)) f s = s
 shut-scopes (done u ms z) f s = s
 shut-scopes (busy u ms (msg h nil (plain nil) nil)) f s = s .0
 shut-scopes (busy u ms (msg h (hs ▷ header d nil nil) (plain nil) nil)) f s = (s .0, s .1 .0)
-shut-scopes (busy u ms (msg h (hs ▷ header d (us ▷ a) nil) (plain nil) nil)) f s = (s .0, (s .1 .0, scope-of (auto h) d (us ▷ a) us nil nil (s .1 .1)))
-shut-scopes (busy u ms (msg h (hs ▷ header d us (cs ▷ certificate e nil none)) (plain nil) nil)) f s = (s .0, (s .1 .0, scope-of (auto h) d us us (cs ▷ certificate e nil none) cs (s .1 .1)))
-shut-scopes (busy u ms (msg h (hs ▷ header d us (cs ▷ certificate e (vs ▷ a) none)) (plain nil) nil)) f s = (s .0, (s .1 .0, scope-of (auto h) d us us (cs ▷ certificate e (vs ▷ a) none) (cs ▷ certificate e vs none) (s .1 .1)))
-shut-scopes (busy u ms (msg h (hs ▷ header d us (cs ▷ certificate e vs (some a))) (plain nil) nil)) f s = (s .0, (s .1 .0, scope-of (auto h) d us us (cs ▷ certificate e vs (some a)) (cs ▷ certificate e vs none) (s .1 .1)))
+shut-scopes (busy u ms (msg h (hs ▷ header d (us ▷ a) nil) (plain nil) nil)) f s = s
+shut-scopes (busy u ms (msg h (hs ▷ header d us (cs ▷ certificate e nil none)) (plain nil) nil)) f s = s
+shut-scopes (busy u ms (msg h (hs ▷ header d us (cs ▷ certificate e (vs ▷ a) none)) (plain nil) nil)) f s = s
+shut-scopes (busy u ms (msg h (hs ▷ header d us (cs ▷ certificate e vs (some a))) (plain nil) nil)) f s = s
 shut-scopes (busy u ms (msg h hs (plain (b ▷ i)) nil)) f s = s
 shut-scopes (busy u ms (msg h hs (ack d nil) nil)) f s = s
 shut-scopes (busy u ms (msg h hs (ack d (ls ▷ link x nil)) nil)) f s = s

@@ -164,9 +164,13 @@ counts (done u ms z) = every countsMessage ms and test (eqb (number z 1) (size m
 
 -- ---- 11: "0541 is 1 or 2; in AUTACK it is F01 and nothing else."
 
+-- whether 0541 may be this, in an AUTACK or elsewhere
+abbrev pub scopeCode : Bool → List ℕ → Bool
+scopeCode true s = same s (octets "F01")
+scopeCode false s = same s (octets "1") || same s (octets "2")
+
 abbrev pub scopeRight : Bool → Header → Rule
-scopeRight true (header c us cs) = test (same (text c 3 0) (octets "F01"))
-scopeRight false (header c us cs) = test (same (text c 3 0) (octets "1") || same (text c 3 0) (octets "2"))
+scopeRight a (header c us cs) = test (scopeCode a (text c 3 0))
 
 abbrev pub scopesOpen : Open → Rule
 scopesOpen (msg h hs b ts) = every (scopeRight (auto h)) hs

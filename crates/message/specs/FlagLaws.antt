@@ -17,7 +17,7 @@ use Rattle.grammar.specs.Loads.{controls, put}
 use Rattle.grammar.specs.Rules.{refH, sizeAt, counted, one, total}
 use Rattle.grammar.specs.RuleLaws.{check-holds, holds-check}
 use Rattle.grammar.specs.PlacingLaws.{same-eq}
-use Rattle.message.specs.Summary.{firstIn, agreeIn, sumsIn, sumsOf, pairOf, sizeH, flagsOf, orElse, freeAt, allNamed, evenAll, totalRight, sizeIn, named, loaded, controlledBy, controlled}
+use Rattle.message.specs.Summary.{firstIn, agreeIn, sumsIn, sumsOf, pairOf, sizeH, flagsOf, orElse, freeAt, allNamed, pairsRight, totalRight, sizeIn, named, loaded, controlledBy, controlled}
 
 -- ---- tests
 
@@ -89,9 +89,9 @@ totals (ack c ls) = refl
 -- ---- trailers
 
 -- the trailers is-true far count right
-pub evens : (hs : Snoc Header) (ts : Snoc Trailer) → check (every (counted hs) ts) ≡ evenAll (pairOf hs ts)
-evens hs nil = refl
-evens hs (ts ▷ trailer c r) = refl
+pub pairs-right : (hs : Snoc Header) (ts : Snoc Trailer) → check (every (counted hs) ts) ≡ pairsRight (pairOf hs ts)
+pairs-right hs nil = refl
+pairs-right hs (ts ▷ trailer c r) = refl
 
 -- each header is named
 pub all-named : (names refs : Snoc (List ℕ)) → check (every (one names) refs) ≡ allNamed (flagsOf names refs)

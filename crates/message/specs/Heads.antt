@@ -9,7 +9,7 @@ use lib.ListN.{length, getD}
 use lib.Seq.{slice}
 use Rattle.syntax.specs.Content.{content}
 use Rattle.grammar.specs.Lists.{Snoc, nil, _▷_}
-use Rattle.message.specs.Summary.{bump, named}
+use Rattle.message.specs.Summary.{moreInLast, named}
 
 -- f 0 up to, not including, f n
 abbrev pub upto : {A : Type 0} → ℕ → (ℕ → A) → Snoc A
@@ -49,10 +49,10 @@ pub record Pushed (h h′ : List ℕ) (n a e : ℕ) : Type 0 where
   pub sizes : headSizes h′ (n + 1) ≡ headSizes h n ▷ 1
   pub flags : headFlags h′ (n + 1) ≡ headFlags h n ▷ false
 
-pub record Bumped (h h′ : List ℕ) (n : ℕ) : Type 0 where
+pub record GrownLast (h h′ : List ℕ) (n : ℕ) : Type 0 where
   pub long : length h′ ≡ length h
   pub refs : (ρ : ℕ) (s : List ℕ) → headRefs ρ s h′ n ≡ headRefs ρ s h n
-  pub sizes : headSizes h′ n ≡ bump (headSizes h n)
+  pub sizes : headSizes h′ n ≡ moreInLast (headSizes h n)
   pub flags : headFlags h′ n ≡ headFlags h n
 
 pub record Named (h h′ : List ℕ) (n i : ℕ) : Type 0 where

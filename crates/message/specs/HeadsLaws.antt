@@ -13,8 +13,8 @@ use lib.Seq.{slice, getD-set-same, getD-set-other}
 use Rattle.syntax.specs.Octets.{same}
 use Rattle.syntax.specs.Content.{content}
 use Rattle.grammar.specs.Lists.{Snoc, _▷_, size, among}
-use Rattle.message.specs.Summary.{isFound, orElse, freeAt, allNamed, bump, sizeIn, named}
-use Rattle.message.specs.Heads.{upto, headRef, headSize, headFlag, headRefs, headSizes, headFlags, posOr, Pushed, Bumped, Named, Small}
+use Rattle.message.specs.Summary.{isFound, orElse, freeAt, allNamed, moreInLast, sizeIn, named}
+use Rattle.message.specs.Heads.{upto, headRef, headSize, headFlag, headRefs, headSizes, headFlags, posOr, Pushed, GrownLast, Named, Small}
 
 -- ---- lists by index
 
@@ -227,7 +227,7 @@ module _ (h : List ℕ) (n v : ℕ) where
   more-other : (j : ℕ) → (j ≡ 4 * n + 2 → ⊥) → getD more j 0 ≡ getD h j 0
   more-other j u = getD-set-other h (4 * n + 2) j v 0 u
 
-  more-law : 4 * n + 2 < length h → v ≡ suc (getD h (4 * n + 2) 0) → Bumped h more (suc n)
+  more-law : 4 * n + 2 < length h → v ≡ suc (getD h (4 * n + 2) 0) → GrownLast h more (suc n)
   more-law l e = record {
     long = length-set h (4 * n + 2) v;
     refs =
@@ -239,13 +239,13 @@ module _ (h : List ℕ) (n v : ℕ) where
     flags = upto-same (suc n) (headFlag more) (headFlag h) (λ i k. ap (λ (z : ℕ). not (eqb z 0)) (more-other (4 * i + 3) (λ x. omega (arith, x))));
   }
 
-pub bump-none : (h : List ℕ) (n : ℕ) → n ≤ 0 → Bumped h h n
-bump-none h zero l = record { long = refl; refs = λ ρ s. refl; sizes = refl; flags = refl }
-bump-none h (suc n) l = absurd (omega (arith, l))
+pub grow-last-none : (h : List ℕ) (n : ℕ) → n ≤ 0 → GrownLast h h n
+grow-last-none h zero l = record { long = refl; refs = λ ρ s. refl; sizes = refl; flags = refl }
+grow-last-none h (suc n) l = absurd (omega (arith, l))
 
-pub bump-law : (h : List ℕ) (n : ℕ) → 0 < n → 4 * (n - 1) + 2 < length h → Bumped h (set h (4 * (n - 1) + 2) (getD h (4 * (n - 1) + 2) 0 + 1)) n
-bump-law h zero l k = absurd (omega (arith, l))
-bump-law h (suc n) l k = rw less (more-law h n _ (rw less at k) (add-one (getD h (4 * n + 2) 0)))
+pub grow-last-law : (h : List ℕ) (n : ℕ) → 0 < n → 4 * (n - 1) + 2 < length h → GrownLast h (set h (4 * (n - 1) + 2) (getD h (4 * (n - 1) + 2) 0 + 1)) n
+grow-last-law h zero l k = absurd (omega (arith, l))
+grow-last-law h (suc n) l k = rw less (more-law h n _ (rw less at k) (add-one (getD h (4 * n + 2) 0)))
   where
     less : suc n - 1 ≡ n
     less = omega arith
@@ -308,11 +308,11 @@ module _ {h : List ℕ} {n b : ℕ} (m : Small h n b) where
   pub small-name : {h′ : List ℕ} {i : ℕ} → Named h h′ n i → Small h′ n b
   small-name {h′} p = record { each = λ j l. rw (← size-at h′ n j l, p .sizes) (size-most j l) }
 
-bump-most : (f : ℕ → ℕ) (n b i : ℕ) → i < n → ((j : ℕ) → j < n → f j ≤ b) → sizeIn (bump (upto n f)) i ≤ suc b
-bump-most f zero b i l m = absurd (omega (arith, l))
-bump-most f (suc n) b i l m =
+grow-last-most : (f : ℕ → ℕ) (n b i : ℕ) → i < n → ((j : ℕ) → j < n → f j ≤ b) → sizeIn (moreInLast (upto n f)) i ≤ suc b
+grow-last-most f zero b i l m = absurd (omega (arith, l))
+grow-last-most f (suc n) b i l m =
     rw (size-upto n f)
     (cond-most (eqb i n) (suc (f n)) (sizeIn (upto n f) i) (suc b) (omega (arith, m n (omega arith))) (λ e. omega (arith, size-in f n i (within i n l e), m i l)))
 
-pub small-bump : {h h′ : List ℕ} {n b : ℕ} → Small h n b → Bumped h h′ n → Small h′ n (suc b)
-small-bump {h} {h′} {n} {b} m p = record { each = λ i l. rw (← size-at h′ n i l, p .sizes) (bump-most (headSize h) n b i l (m .each)) }
+pub small-grown : {h h′ : List ℕ} {n b : ℕ} → Small h n b → GrownLast h h′ n → Small h′ n (suc b)
+small-grown {h} {h′} {n} {b} m p = record { each = λ i l. rw (← size-at h′ n i l, p .sizes) (grow-last-most (headSize h) n b i l (m .each)) }

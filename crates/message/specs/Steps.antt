@@ -9,8 +9,9 @@ use lib.Seq.{slice}
 use Rattle.syntax.specs.Content.{content}
 use Rattle.grammar.specs.Lists.{among}
 use Rattle.grammar.specs.Segments.{Asked}
+use Rattle.grammar.specs.Rules.{scopeCode}
 use Rattle.grammar.specs.Loads.{loadIn, controlIn, loadRight}
-use Rattle.message.specs.Summary.{Summary, scopeIn, freeAt, evenAll, bump, usaGroup, uscGroup, grownBy, ownMore, ushNext, usrNext, ustNext, itemNext, usbNext, loaded, controlled}
+use Rattle.message.specs.Summary.{Summary, freeAt, pairsRight, moreInLast, usaGroup, uscGroup, grownBy, ownMore, ushNext, usrNext, ustNext, itemNext, usbNext, loaded, controlled}
 use Rattle.message.specs.Heads.{headRefs, headSizes, headFlags, posOr}
 use Rattle.elements.specs.Octets.{textAt}
 use Rattle.syntax.specs.declared.Service.{Service}
@@ -26,7 +27,7 @@ pub data AnswerM : Type 0 where
   badM : ℕ → AnswerM
 
 abbrev pub ushM : Summary → Asked → AnswerM
-ushM S a = cond (not (among (S .refs) (a .text 2 0))) (cond (scopeIn (S .m .auto) a) (toM (ushNext S a)) (badM 11)) (badM 9)
+ushM S a = cond (not (among (S .refs) (a .text 2 0))) (cond (scopeCode (S .m .auto) (a .text 3 0)) (toM (ushNext S a)) (badM 11)) (badM 9)
 
 abbrev pub ustM : Summary → Asked → Option ℕ → AnswerM
 ustM S a none = badM 9
@@ -45,8 +46,8 @@ stepM Unh S a = badM 7
 stepM Unt S a = badM 7
 stepM Unz S a = badM 7
 stepM Ush S a = ushM S a
-stepM Usa S a = toM (grownBy S (usaGroup (S .m .group)) (bump (S .sizes)))
-stepM Usc S a = toM (grownBy S (uscGroup (S .m .group)) (bump (S .sizes)))
+stepM Usa S a = toM (grownBy S (usaGroup (S .m .group)) (moreInLast (S .sizes)))
+stepM Usc S a = toM (grownBy S (uscGroup (S .m .group)) (moreInLast (S .sizes)))
 stepM Usr S a = toM (usrNext S (S .m .group))
 stepM Ust S a = ustM S a (freeAt (a .text 1 0) (S .refs) (S .flags))
 stepM Usb S a = toM (usbNext S)
@@ -74,7 +75,7 @@ trailed m claim base = record {
   segments = suc (m .segments);
   headers = m .headers;
   sums = m .sums;
-  pair = record { even = evenAll (m .pair); claim = claim; base = base; own = 1 };
+  pair = record { right = pairsRight (m .pair); claim = claim; base = base; own = 1 };
 }
 
 abbrev pub ownGrown : Message → Message

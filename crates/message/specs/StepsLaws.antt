@@ -20,15 +20,16 @@ use Rattle.syntax.specs.declared.content.Number.{Number}
 use Rattle.syntax.specs.declared.content.Number.the-variants.{Is, Not}
 use Rattle.grammar.specs.Lists.{Snoc, _▷_, among}
 use Rattle.grammar.specs.TestLaws.{passes}
+use Rattle.grammar.specs.Rules.{scopeCode}
 use Rattle.grammar.specs.Segments.{Unt, Unz, Ust, Asked}
 use Rattle.grammar.specs.Elements.{Range, text, digits, closed, anyLength, row, inRange, formedAs, formedRow}
 use Rattle.elements.specs.AmountsLaws.{digits-below, tens-below}
 use Rattle.elements.specs.Octets.{textAt, askedAt}
 use Rattle.elements.specs.Fields.{Marked, startIn, endIn}
 use Rattle.elements.specs.FieldsLaws.{marked-absent, marked-part, marked-in}
-use Rattle.message.specs.Heads.{headRefs, headSizes, headFlags, posOr, Pushed, Bumped, Named, Small}
-use Rattle.message.specs.HeadsLaws.{size-at, found-at, found-some, small-more, small-last, small-push, small-bump, small-name}
-use Rattle.message.specs.Summary.{Summary, atHeads, mayCome, scopeIn, isFound, freeAt, bump, sizeIn, grown, grownBy, ushNext, usrNext}
+use Rattle.message.specs.Heads.{headRefs, headSizes, headFlags, posOr, Pushed, GrownLast, Named, Small}
+use Rattle.message.specs.HeadsLaws.{size-at, found-at, found-some, small-more, small-last, small-push, small-grown, small-name}
+use Rattle.message.specs.Summary.{Summary, atHeads, mayCome, isFound, freeAt, moreInLast, sizeIn, grown, grownBy, ushNext, usrNext}
 use Rattle.message.specs.Steps.{AnswerM, toM, badM, ushM, ustM, usyM, headed, trailed, ownGrown, summaryIn, Roomy, MovedIs}
 use Rattle.message.specs.declared.Group.{Group}
 use Rattle.message.specs.declared.Group.the-variants.{Certificate, Ack, Trailer}
@@ -68,17 +69,17 @@ module _ (σ : Service) (s : List ℕ) (a : ℕ) {x : List ℕ} (e : x ≡ partO
   scope-text t = ap (λ (z : List ℕ). same (content (σ .release) z) t) e
 
   module _ {auto : Bool} where
-    pub scope-auto : {r : Bool} → auto ≡ true → r ≡ same (content (σ .release) x) (octets "F01") → r ≡ scopeIn auto (askedAt σ s a)
-    scope-auto t q = q ∙ scope-text (octets "F01") ∙ ap (λ (b : Bool). scopeIn b (askedAt σ s a)) (sym t)
+    pub scope-auto : {r : Bool} → auto ≡ true → r ≡ same (content (σ .release) x) (octets "F01") → r ≡ scopeCode auto (textAt σ s a 3 0)
+    scope-auto t q = q ∙ scope-text (octets "F01") ∙ ap (λ (b : Bool). scopeCode b (textAt σ s a 3 0)) (sym t)
 
     module _ (t : auto ≡ false) {p : Bool} (q : p ≡ same (content (σ .release) x) (octets "1")) where
-      scope-is : (b : Bool) → p ≡ b → scopeIn auto (askedAt σ s a) ≡ (b || same (textAt σ s a 3 0) (octets "2"))
-      scope-is b h = ap (λ (z : Bool). scopeIn z (askedAt σ s a)) t ∙ ap (λ (z : Bool). z || same (textAt σ s a 3 0) (octets "2")) (sym (scope-text (octets "1")) ∙ sym q ∙ h)
+      scope-is : (b : Bool) → p ≡ b → scopeCode auto (textAt σ s a 3 0) ≡ (b || same (textAt σ s a 3 0) (octets "2"))
+      scope-is b h = ap (λ (z : Bool). scopeCode z (textAt σ s a 3 0)) t ∙ ap (λ (z : Bool). z || same (textAt σ s a 3 0) (octets "2")) (sym (scope-text (octets "1")) ∙ sym q ∙ h)
 
-      pub scope-one : p ≡ true → true ≡ scopeIn auto (askedAt σ s a)
+      pub scope-one : p ≡ true → true ≡ scopeCode auto (textAt σ s a 3 0)
       scope-one h = sym (scope-is true h)
 
-      pub scope-two : {r : Bool} → p ≡ false → r ≡ same (content (σ .release) x) (octets "2") → r ≡ scopeIn auto (askedAt σ s a)
+      pub scope-two : {r : Bool} → p ≡ false → r ≡ same (content (σ .release) x) (octets "2") → r ≡ scopeCode auto (textAt σ s a 3 0)
       scope-two h f = f ∙ scope-text (octets "2") ∙ sym (scope-is false h)
 
 -- ---- numbers
@@ -170,18 +171,18 @@ roomy-grown q g z = record {
 -- ---- USA, USC, and the USR of a certificate
 
 module _ {m : Message} {h : List ℕ} (g : Roomy m h) (f : m .segments < 65535) where
-  pub bump-room : (0 < m .headers → getD h (4 * (m .headers - 1) + 2) 0 < 2 ^ 32)
-  bump-room l = small-last (roomy-small g) (omega (arith, f)) l
+  pub grow-last-room : (0 < m .headers → getD h (4 * (m .headers - 1) + 2) 0 < 2 ^ 32)
+  grow-last-room l = small-last (roomy-small g) (omega (arith, f)) l
 
-  pub header-moved : {h′ : List ℕ} {n : Message} (q : Group) → Bumped h h′ (m .headers) → n ≡ grown m q → (ρ : ℕ) (s : List ℕ) (u w : ℕ)
-      → MovedIs (toM (grownBy (summaryIn ρ s m u w h) q (bump (headSizes h (m .headers))))) (To n) ρ s u w h′
-  header-moved q b e ρ s u w = moved-to ρ s u w _ _ e (same-summary refl (b .refs ρ s) (b .sizes) (b .flags)) (roomy-grown q g (small-bump (roomy-small g) b))
+  pub header-moved : {h′ : List ℕ} {n : Message} (q : Group) → GrownLast h h′ (m .headers) → n ≡ grown m q → (ρ : ℕ) (s : List ℕ) (u w : ℕ)
+      → MovedIs (toM (grownBy (summaryIn ρ s m u w h) q (moreInLast (headSizes h (m .headers))))) (To n) ρ s u w h′
+  header-moved q b e ρ s u w = moved-to ρ s u w _ _ e (same-summary refl (b .refs ρ s) (b .sizes) (b .flags)) (roomy-grown q g (small-grown (roomy-small g) b))
 
 -- ---- USR
 
 -- in a certificate it is as `header-moved` says
 pub usr-certificate : (m : Message) (h : List ℕ) {n k : ℕ} {b : Bool} (r : Moved) (h′ : List ℕ) → m .group ≡ Certificate n k b
-    → ((ρ : ℕ) (s : List ℕ) (u w : ℕ) → MovedIs (toM (grownBy (summaryIn ρ s m u w h) (Certificate n k true) (bump (headSizes h (m .headers))))) r ρ s u w h′)
+    → ((ρ : ℕ) (s : List ℕ) (u w : ℕ) → MovedIs (toM (grownBy (summaryIn ρ s m u w h) (Certificate n k true) (moreInLast (headSizes h (m .headers))))) r ρ s u w h′)
     → (ρ : ℕ) (s : List ℕ) (u w : ℕ) → MovedIs (toM (usrNext (summaryIn ρ s m u w h) (m .group))) r ρ s u w h′
 usr-certificate m h r h′ e p ρ s u w = subst (λ (z : Group). MovedIs (toM (usrNext (summaryIn ρ s m u w h) z)) r ρ s u w h′) (sym e) (p ρ s u w)
 
@@ -209,7 +210,7 @@ module _ {m : Message} {h : List ℕ} (g : Roomy m h) where
 -- ---- USH
 
 module _ (σ : Service) (s : List ℕ) (a : ℕ) (m : Message) (h : List ℕ) where
-  ush-is : (u w : ℕ) (b c : Bool) → among (headRefs (σ .release) s h (m .headers)) (textAt σ s a 2 0) ≡ b → scopeIn (m .auto) (askedAt σ s a) ≡ c
+  ush-is : (u w : ℕ) (b c : Bool) → among (headRefs (σ .release) s h (m .headers)) (textAt σ s a 2 0) ≡ b → scopeCode (m .auto) (textAt σ s a 3 0) ≡ c
       → ushM (summaryIn (σ .release) s m u w h) (askedAt σ s a) ≡ cond (not b) (cond c (toM (ushNext (summaryIn (σ .release) s m u w h) (askedAt σ s a))) (badM 11)) (badM 9)
   ush-is u w b c p q = rw (p, q)
 
@@ -219,9 +220,9 @@ module _ (σ : Service) (s : List ℕ) (a : ℕ) (m : Message) (h : List ℕ) wh
 
     pub ush-named : (h′ : List ℕ) → b ≡ true → (u w : ℕ) → MovedIs (ushM (summaryIn (σ .release) s m u w h) (askedAt σ s a)) (Bad 9) (σ .release) s u w h′
     ush-named h′ t u w =
-        subst (λ (A : AnswerM). MovedIs A (Bad 9) (σ .release) s u w h′) (sym (ush-is u w true (scopeIn (m .auto) (askedAt σ s a)) (ush-among true t) refl)) refl
+        subst (λ (A : AnswerM). MovedIs A (Bad 9) (σ .release) s u w h′) (sym (ush-is u w true (scopeCode (m .auto) (textAt σ s a 3 0)) (ush-among true t) refl)) refl
 
-    module _ (t : b ≡ false) {c : Bool} (f : c ≡ scopeIn (m .auto) (askedAt σ s a)) where
+    module _ (t : b ≡ false) {c : Bool} (f : c ≡ scopeCode (m .auto) (textAt σ s a 3 0)) where
       pub ush-scope : (h′ : List ℕ) → c ≡ false → (u w : ℕ) → MovedIs (ushM (summaryIn (σ .release) s m u w h) (askedAt σ s a)) (Bad 11) (σ .release) s u w h′
       ush-scope h′ k u w = subst (λ (A : AnswerM). MovedIs A (Bad 11) (σ .release) s u w h′) (sym (ush-is u w false false (ush-among false t) (sym f ∙ k))) refl
 

@@ -12,7 +12,7 @@ use Rattle.grammar.specs.Segments.{Asked, text, number, reference}
 use Rattle.grammar.specs.Interchange.{Leaf, certificate, Header, header, Trailer, trailer, Link, link, Body, plain, ack, Open, msg, Reading, start, idle, busy, done, showHeader, showTrailer, showOpen}
 use Rattle.grammar.specs.Loads.{loads, controls, loadIn, controlIn, loadRight}
 use Rattle.grammar.specs.Elements.{formed}
-use Rattle.grammar.specs.Rules.{auto, refH, refT, refM, sizeAt, counted}
+use Rattle.grammar.specs.Rules.{auto, refH, refT, refM, sizeAt, counted, scopeCode}
 use Rattle.grammar.specs.Verdict.{Test, tested, Answer, read, refused}
 use Rattle.elements.specs.Kinds.{kindOf}
 use Rattle.elements.specs.declared.Kind.{Kind}
@@ -68,11 +68,11 @@ sumsOf (ack c ls) = noSums
 -- ---- its trailers: whether all but the last count right, and what the last claims, the segments of the header that it names, and its own
 
 abbrev pub noPair : Pair
-noPair = record { even = true; claim = 0; base = 0; own = 0 }
+noPair = record { right = true; claim = 0; base = 0; own = 0 }
 
 abbrev pub pairOf : Snoc Header → Snoc Trailer → Pair
 pairOf hs nil = noPair
-pairOf hs (ts ▷ trailer c r) = record { even = check (every (counted hs) ts); claim = number c 2; base = sizeAt (reference c) hs; own = size (showTrailer (trailer c r)) }
+pairOf hs (ts ▷ trailer c r) = record { right = check (every (counted hs) ts); claim = number c 2; base = sizeAt (reference c) hs; own = size (showTrailer (trailer c r)) }
 
 -- ---- all of it: the code's struct; the message's 0062; of its headers 0534, the segments, and whether a trailer has named them
 
@@ -110,9 +110,9 @@ stateOf (idle u ms) = idleS (text u 5 0) (each refM ms)
 stateOf (busy u ms o) = busyS (text u 5 0) (each refM ms) (summaryOf o)
 stateOf (done u ms z) = doneS
 
--- ---- 7, in a message: by group and kind
+-- ---- 7, in a message: by group and kind. "Message: UNH, 0 to 9 header groups, body, one trailer group for each header, UNT."
 
--- headers may come
+-- "UNH, 0 to 9 header groups": nothing but these has come, so that a further header, or the USB of a body, may come
 abbrev pub atHeads : Group → Bool
 atHeads Opened = true
 atHeads (InHeader n) = true
@@ -121,7 +121,7 @@ atHeads InBody = false
 atHeads (InAck l y) = false
 atHeads (InTrailer r) = false
 
--- a segment of a body may come
+-- "A body has 0 or more segments": after the headers, and after other segments of the body
 abbrev pub atItems : Group → Bool
 atItems Opened = true
 atItems (InHeader n) = true
@@ -130,7 +130,8 @@ atItems InBody = true
 atItems (InAck l y) = false
 atItems (InTrailer r) = false
 
--- the body may end; in AUTACK it ends with a USY
+-- "body, one trailer group for each header, UNT": the body is whole, so that a UST or UNT may come.
+-- "A message of type AUTACK has at least one header; its body is USB, then one or more times (USX, one or more USY)": it ends with a USY
 abbrev pub closes : Bool → Group → Bool
 closes a Opened = not a
 closes a (InHeader n) = not a
@@ -139,6 +140,7 @@ closes a InBody = true
 closes a (InAck l y) = y
 closes a (InTrailer r) = true
 
+-- "Header group: USH, 0 to 3 USA, then 0 to 2 times (USC, 0 to 3 USA, 0 or 1 USR)": a USA comes before the USR of its USC
 abbrev pub usaMay : Group → Bool
 usaMay Opened = false
 usaMay (InHeader n) = ltb n 3
@@ -147,6 +149,7 @@ usaMay InBody = false
 usaMay (InAck l y) = false
 usaMay (InTrailer r) = false
 
+-- "then 0 to 2 times (USC, 0 to 3 USA, 0 or 1 USR)"; n of them stand before the one now open
 abbrev pub uscMay : Group → Bool
 uscMay Opened = false
 uscMay (InHeader n) = true
@@ -155,6 +158,7 @@ uscMay InBody = false
 uscMay (InAck l y) = false
 uscMay (InTrailer r) = false
 
+-- "USC, 0 to 3 USA, 0 or 1 USR"; "Trailer group: UST, 0 or 1 USR."
 abbrev pub usrMay : Group → Bool
 usrMay Opened = false
 usrMay (InHeader n) = false
@@ -163,6 +167,7 @@ usrMay InBody = false
 usrMay (InAck l y) = false
 usrMay (InTrailer r) = not r
 
+-- "USB, then one or more times (USX, one or more USY)": the first USX after USB, a further one after a USY
 abbrev pub usxMay : Group → Bool
 usxMay Opened = false
 usxMay (InHeader n) = false
@@ -171,6 +176,7 @@ usxMay InBody = false
 usxMay (InAck l y) = not l || y
 usxMay (InTrailer r) = false
 
+-- "USX, one or more USY"
 abbrev pub usyMay : Group → Bool
 usyMay Opened = false
 usyMay (InHeader n) = false
@@ -179,6 +185,7 @@ usyMay InBody = false
 usyMay (InAck l y) = l
 usyMay (InTrailer r) = false
 
+-- all of it, by kind. "A body has 0 or more segments, none tagged UNA UNB UNG UNE UNH UNT UNZ UNO UNP USH USA USC USR UST USB USX USY USD USU."
 abbrev pub mayCome : Kind → Kept → Bool
 mayCome Unb m = false
 mayCome Unh m = false
@@ -290,9 +297,9 @@ refsK doneS k a = true
 
 -- ---- 10
 
--- all trailers so far count right
-abbrev pub evenAll : Pair → Bool
-evenAll p = p .even && eqb (p .claim) (p .base + p .own)
+-- "0588 counts the segments of its header and trailer pair together": each pair so far does, the last one too
+abbrev pub pairsRight : Pair → Bool
+pairsRight p = p .right && eqb (p .claim) (p .base + p .own)
 
 -- the control totals are the sum of the loads
 abbrev pub totalRight : Sums → Bool
@@ -305,27 +312,23 @@ numberIn a p = valueFrom 0 (a .text p 0)
 abbrev pub countsK : StateS → Kind → Asked → Bool
 countsK startS k a = true
 countsK (idleS u rs) k a = atIdle true (eqb (numberIn a 1) (size rs)) true k
-countsK (busyS u rs S) k a = atBusy true true true (eqb (numberIn a 1) (suc (S .m .segments)) && (evenAll (S .m .pair) && totalRight (S .m .sums))) true k
+countsK (busyS u rs S) k a = atBusy true true true (eqb (numberIn a 1) (suc (S .m .segments)) && (pairsRight (S .m .pair) && totalRight (S .m .sums))) true k
 countsK doneS k a = true
 
 -- ---- 11
 
-abbrev pub scopeIn : Bool → Asked → Bool
-scopeIn true a = same (a .text 3 0) (octets "F01")
-scopeIn false a = same (a .text 3 0) (octets "1") || same (a .text 3 0) (octets "2")
-
 abbrev pub scopeK : StateS → Kind → Asked → Bool
 scopeK startS k a = true
 scopeK (idleS u rs) k a = true
-scopeK (busyS u rs S) k a = atBusy (scopeIn (S .m .auto) a) true true true true k
+scopeK (busyS u rs S) k a = atBusy (scopeCode (S .m .auto) (a .text 3 0)) true true true true k
 scopeK doneS k a = true
 
 -- ---- the step; it matters only where the tests are passed
 
--- one segment more in the last header
-abbrev pub bump : Snoc ℕ → Snoc ℕ
-bump nil = nil
-bump (s ▷ n) = s ▷ suc n
+-- one segment more in the last header group
+abbrev pub moreInLast : Snoc ℕ → Snoc ℕ
+moreInLast nil = nil
+moreInLast (s ▷ n) = s ▷ suc n
 
 -- of the header at place i: its segments; named now
 abbrev pub sizeIn : Snoc ℕ → ℕ → ℕ
@@ -370,12 +373,12 @@ ushNext S a = record {
 
 -- the pair of a trailer has a segment more
 abbrev pub ownMore : Pair → Pair
-ownMore p = record { even = p .even; claim = p .claim; base = p .base; own = suc (p .own) }
+ownMore p = record { right = p .right; claim = p .claim; base = p .base; own = suc (p .own) }
 
 abbrev pub usrNext : Summary → Group → Summary
 usrNext S Opened = S
 usrNext S (InHeader n) = S
-usrNext S (InCertificate n m r) = grownBy S (InCertificate n m true) (bump (S .sizes))
+usrNext S (InCertificate n m r) = grownBy S (InCertificate n m true) (moreInLast (S .sizes))
 usrNext S InBody = S
 usrNext S (InAck l y) = S
 usrNext S (InTrailer r) = record {
@@ -396,7 +399,7 @@ ustNext S a (some i) = record {
     segments = suc (S .m .segments);
     headers = S .m .headers;
     sums = S .m .sums;
-    pair = record { even = evenAll (S .m .pair); claim = numberIn a 2; base = sizeIn (S .sizes) i; own = 1 };
+    pair = record { right = pairsRight (S .m .pair); claim = numberIn a 2; base = sizeIn (S .sizes) i; own = 1 };
   };
   ref = S .ref;
   refs = S .refs;
@@ -442,8 +445,8 @@ busyNext Unh u rs S a = busyS u rs S
 busyNext Unt u rs S a = idleS u (rs ▷ S .ref)
 busyNext Unz u rs S a = busyS u rs S
 busyNext Ush u rs S a = busyS u rs (ushNext S a)
-busyNext Usa u rs S a = busyS u rs (grownBy S (usaGroup (S .m .group)) (bump (S .sizes)))
-busyNext Usc u rs S a = busyS u rs (grownBy S (uscGroup (S .m .group)) (bump (S .sizes)))
+busyNext Usa u rs S a = busyS u rs (grownBy S (usaGroup (S .m .group)) (moreInLast (S .sizes)))
+busyNext Usc u rs S a = busyS u rs (grownBy S (uscGroup (S .m .group)) (moreInLast (S .sizes)))
 busyNext Usr u rs S a = busyS u rs (usrNext S (S .m .group))
 busyNext Ust u rs S a = busyS u rs (ustNext S a (freeAt (a .text 1 0) (S .refs) (S .flags)))
 busyNext Usb u rs S a = busyS u rs (usbNext S)

@@ -10,7 +10,7 @@ ghost use Rattle.syntax.specs.Octets.{same};
 ghost use Rattle.syntax.specs.Content.{content};
 ghost use Rattle.grammar.specs.Lists.{among};
 ghost use Rattle.message.specs.Summary.{allNamed};
-ghost use Rattle.message.specs.Heads.{headRef, headRefs, headFlag, headFlags, Pushed, Bumped, Named};
+ghost use Rattle.message.specs.Heads.{headRef, headRefs, headFlag, headFlags, Pushed, GrownLast, Named};
 
 // Whether one of the first `n` headers has the content of `x`.
 pub fn header_named(s: &[u8], release: u8, heads: &[usize; 36], n: usize, x: &[u8]) -> bool
@@ -70,11 +70,11 @@ pub fn push_header(heads: &mut [usize; 36], n: usize, a: usize, e: usize)
 }
 
 // A segment more in the last of `n` headers.
-pub fn bump_header(heads: &mut [usize; 36], n: usize)
+pub fn grow_last(heads: &mut [usize; 36], n: usize)
     requires { ⌜ n ≤ 9 ⌝ }
     requires { ⌜ length (now heads) ≡ 36 ⌝ }
     requires { ⌜ (0 < n → getD (now heads) (4 * (n - 1) + 2) 0 < 2 ^ 32) ⌝ }
-    ensures { λ r. ⌜ Bumped (now (heads .entry)) (now (heads .exit)) n ⌝ }
+    ensures { λ r. ⌜ GrownLast (now (heads .entry)) (now (heads .exit)) n ⌝ }
 {
     if 0 < n {
         let k = 4 * (n - 1) + 2;

@@ -3,7 +3,7 @@ ghost use mathlib.Core.Path.{_≡_};
 ghost use mathlib.Core.Bool.{true};
 ghost use Prim.Native.Nat.{_+_, _≤_, _<_};
 ghost use mathlib.Core.Option.{none, some};
-ghost use Rattle.message.specs.Summary.{noSums, noPair, usaGroup, uscGroup, grown, evenAll, totalRight, loaded, controlled, fresh, usaMay, uscMay};
+ghost use Rattle.message.specs.Summary.{noSums, noPair, usaGroup, uscGroup, grown, pairsRight, totalRight, loaded, controlled, fresh, usaMay, uscMay};
 use crate::Group;
 use crate::Message;
 use crate::Pair;
@@ -25,7 +25,7 @@ pub fn no_pair() -> Pair
     ensures { λ r. ⌜ r ≡ noPair ⌝ }
 {
     Pair {
-        even: true,
+        right: true,
         claim: 0,
         base: 0,
         own: 0,
@@ -95,12 +95,12 @@ pub fn grown_to(m: Message, g: Group) -> Message
     }
 }
 
-// All trailers so far count right.
-pub fn all_even(p: Pair) -> bool
+// 0588 counts the segments of its header and trailer pair together: each pair so far does.
+pub fn pairs_right(p: Pair) -> bool
     requires { ⌜ (p .base < 65536) × (p .own < 65536) ⌝ }
-    ensures { λ r. ⌜ r ≡ evenAll p ⌝ }
+    ensures { λ r. ⌜ r ≡ pairsRight p ⌝ }
 {
-    if p.even {
+    if p.right {
         return p.claim == p.base + p.own as u32;
     }
     false

@@ -34,7 +34,7 @@ pub struct Pair {
     pub claim: u32,
     pub base: u32,
     pub own: u16,
-    pub even: bool,
+    pub right: bool,
 }
 
 // A message as far as it was read. Large fields first, so that little padding is copied with every segment.

@@ -6,20 +6,21 @@ ghost use Prim.Native.Nat.{ℕ, _≤_, _<_};
 ghost use lib.ListN.{length};
 ghost use Rattle.syntax.specs.Content.{valueFrom};
 ghost use Rattle.grammar.specs.Elements.{inRange, digits};
+ghost use Rattle.grammar.specs.Rules.{scopeCode};
 ghost use Rattle.elements.specs.Octets.{textAt, askedAt};
 ghost use Rattle.elements.specs.Fields.{Marked};
 ghost use Rattle.message.specs.Heads.{headRefs, headSizes, headFlags};
-ghost use Rattle.message.specs.Summary.{scopeIn, freeAt, bump, grownBy, usrNext};
+ghost use Rattle.message.specs.Summary.{freeAt, moreInLast, grownBy, usrNext};
 ghost use Rattle.message.specs.Steps.{toM, ushM, ustM, usyM, headed, trailed, ownGrown, summaryIn, Roomy, Sought, MovedIs};
 use crate::Group;
 use crate::Message;
 use crate::Pair;
-use crate::heads::bump_header;
+use crate::heads::grow_last;
 use crate::heads::header_named;
 use crate::heads::name_header;
 use crate::heads::push_header;
-use crate::kept::all_even;
 use crate::kept::grown_to;
+use crate::kept::pairs_right;
 use elements::fields::field;
 use elements::fields::field_end;
 use elements::fields::field_start;
@@ -37,7 +38,7 @@ pub enum Moved {
 // 0541 is 1 or 2; in AUTACK it is F01.
 fn scope_right(s: &[u8], at: usize, y: Syntax, marks: &[usize], auto: bool) -> bool
     requires { ⌜ Marked (y .service) (now s) at (now marks) ⌝ }
-    ensures { λ r. ⌜ r ≡ scopeIn auto (askedAt (y .service) (now (s .entry)) at) ⌝ }
+    ensures { λ r. ⌜ r ≡ scopeCode auto (textAt (y .service) (now (s .entry)) at 3 0) ⌝ }
 {
     let v = y.service;
     let x = field(s, at, y, marks, 3, 0);
@@ -101,11 +102,11 @@ pub fn on_ush(
 pub fn in_header(m: Message, g: Group, heads: &mut [usize; 36]) -> Moved
     requires { ⌜ Roomy m (now heads) ⌝ }
     requires { ⌜ (m .segments < 65535) × (length (now heads) ≡ 36) ⌝ }
-    ensures { λ r. ⌜ ((ρ : ℕ) (s : List ℕ) (u w : ℕ) → MovedIs (toM (grownBy (summaryIn ρ s m u w (now (heads .entry))) g (bump (headSizes (now (heads .entry)) (m .headers))))) r ρ s u w (now (heads .exit))) ⌝ }
+    ensures { λ r. ⌜ ((ρ : ℕ) (s : List ℕ) (u w : ℕ) → MovedIs (toM (grownBy (summaryIn ρ s m u w (now (heads .entry))) g (moreInLast (headSizes (now (heads .entry)) (m .headers))))) r ρ s u w (now (heads .exit))) ⌝ }
     ensures { λ r. ⌜ length (now (heads .exit)) ≡ 36 ⌝ }
 {
     let n = m.headers as usize;
-    bump_header(heads, n);
+    grow_last(heads, n);
     Moved::To(grown_to(m, g))
 }
 
@@ -123,7 +124,7 @@ fn in_trailer(m: Message) -> Message
         headers: m.headers,
         sums: u,
         pair: Pair {
-            even: p.even,
+            right: p.right,
             claim: p.claim,
             base: p.base,
             own: p.own + 1,
@@ -169,7 +170,7 @@ fn with_trailer(m: Message, claim: u32, base: u32) -> Message
 {
     let u = m.sums;
     let p = m.pair;
-    let even = all_even(p);
+    let right = pairs_right(p);
     Message {
         group: Group::Trailer(false),
         auto: m.auto,
@@ -177,7 +178,7 @@ fn with_trailer(m: Message, claim: u32, base: u32) -> Message
         headers: m.headers,
         sums: u,
         pair: Pair {
-            even: even,
+            right: right,
             claim: claim,
             base: base,
             own: 1,

@@ -15,6 +15,7 @@ use Rattle.syntax.specs.declared.Version.{Version}
 use Rattle.grammar.specs.Lists.{Snoc, any, among}
 use Rattle.grammar.specs.Segments.{Asked}
 use Rattle.grammar.specs.Elements.{formed, inRange, digits}
+use Rattle.grammar.specs.Rules.{scopeCode}
 use Rattle.grammar.specs.Loads.{loadIn, loadRight, controlRight}
 use Rattle.elements.specs.Kinds.{kindOf}
 use Rattle.elements.specs.Octets.{askedAt}
@@ -23,7 +24,7 @@ use Rattle.elements.specs.FormedLaws.{formed-by}
 use Rattle.message.specs.Heads.{headSizes}
 use Rattle.message.specs.HeadsLaws.{small-more}
 use Rattle.references.specs.Refs.{refsIn}
-use Rattle.message.specs.Summary.{Summary, StateS, busyS, orderS, refsK, countsK, scopeK, scopeIn, isFound, freeAt, bump, atStart, atIdle, atBusy, mayCome, usrMay, usaGroup, uscGroup, grown, grownBy, ushNext, usrNext, ustNext, itemNext, loaded, busyNext, AnswerS, readS, refusedS}
+use Rattle.message.specs.Summary.{Summary, StateS, busyS, orderS, refsK, countsK, scopeK, isFound, freeAt, moreInLast, atStart, atIdle, atBusy, mayCome, usrMay, usaGroup, uscGroup, grown, grownBy, ushNext, usrNext, ustNext, itemNext, loaded, busyNext, AnswerS, readS, refusedS}
 use Rattle.message.specs.Steps.{AnswerM, toM, badM, ustM, stepM, summaryIn, Roomy, MovedIs}
 use Rattle.message.specs.StepsLaws.{ust-digits, moved-to, roomy-small, roomy-grown}
 use Rattle.message.specs.ItemsLaws.{cnt-tag, not-true, not-false}
@@ -64,10 +65,10 @@ module _ (σ : Service) (s : List ℕ) (at : ℕ) (m : Message) (h : List ℕ) (
 
 -- USA and USC, by the group after them
 module _ (σ : Service) (s : List ℕ) (at : ℕ) (m : Message) (h : List ℕ) (r : Moved) (h′ : List ℕ) {q : Group}
-    (g : (ρ : ℕ) (t : List ℕ) (u w : ℕ) → MovedIs (toM (grownBy (summaryIn ρ t m u w h) q (bump (headSizes h (m .headers))))) r ρ t u w h′) where
-  header-by : (d : Group) → q ≡ d → (u w : ℕ) → MovedIs (toM (grownBy (summaryIn (σ .release) s m u w h) d (bump (headSizes h (m .headers))))) r (σ .release) s u w h′
+    (g : (ρ : ℕ) (t : List ℕ) (u w : ℕ) → MovedIs (toM (grownBy (summaryIn ρ t m u w h) q (moreInLast (headSizes h (m .headers))))) r ρ t u w h′) where
+  header-by : (d : Group) → q ≡ d → (u w : ℕ) → MovedIs (toM (grownBy (summaryIn (σ .release) s m u w h) d (moreInLast (headSizes h (m .headers))))) r (σ .release) s u w h′
   header-by d e u w =
-      subst (λ (x : Group). MovedIs (toM (grownBy (summaryIn (σ .release) s m u w h) x (bump (headSizes h (m .headers))))) r (σ .release) s u w h′) e (g (σ .release) s u w)
+      subst (λ (x : Group). MovedIs (toM (grownBy (summaryIn (σ .release) s m u w h) x (moreInLast (headSizes h (m .headers))))) r (σ .release) s u w h′) e (g (σ .release) s u w)
 
   pub usa-arm : {k : Kind} → k ≡ Usa → q ≡ usaGroup (m .group) → (u w : ℕ) → MovedIs (stepM k (summaryIn (σ .release) s m u w h) (askedAt σ s at)) r (σ .release) s u w h′
   usa-arm f e = step-arm σ s at m h r h′ Usa f (header-by (usaGroup (m .group)) e)
@@ -153,7 +154,7 @@ module _ (u : List ℕ) (rs : Snoc (List ℕ)) (S : Summary) (a : Asked) (p : �
   rest-is Unh n m l = absurd (false≢true m)
   rest-is Unt n m l = absurd (false≢true (sym n))
   rest-is Unz n m l = absurd (false≢true m)
-  rest-is Ush n m l = ush-rest (not (among (S .refs) (a .text 2 0))) (scopeIn (S .m .auto) a) (l refl)
+  rest-is Ush n m l = ush-rest (not (among (S .refs) (a .text 2 0))) (scopeCode (S .m .auto) (a .text 3 0)) (l refl)
   rest-is Usa n m l = load-go (l refl) _
   rest-is Usc n m l = load-go (l refl) _
   rest-is Usr n m l = load-go (l refl) _
@@ -201,7 +202,7 @@ module _ (S : Summary) (a : Asked) where
   step-grows Unh h = refl
   step-grows Unt h = refl
   step-grows Unz h = refl
-  step-grows Ush h = ush-grows (not (among (S .refs) (a .text 2 0))) (scopeIn (S .m .auto) a)
+  step-grows Ush h = ush-grows (not (among (S .refs) (a .text 2 0))) (scopeCode (S .m .auto) (a .text 3 0))
   step-grows Usa h = refl
   step-grows Usc h = refl
   step-grows Usr h = usr-grows (S .m .group) h

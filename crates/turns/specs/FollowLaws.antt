@@ -18,15 +18,15 @@ use Rattle.grammar.specs.Loads.{loads, controls, loadIn, controlIn}
 use Rattle.grammar.specs.Rules.{insideS, order, formedS, refs, counts, scopes, amountS, auto, refH, refT, refM, isFree, okItem, whole, filled, one, counted, total, scopeRight}
 use Rattle.grammar.specs.RuleLaws.{check-holds, holds-check}
 use Rattle.grammar.specs.Placing.{growNamed, grow, place, inOpen, inBody, itemB}
-use Rattle.grammar.specs.PlacingLaws.{same-eq, scope-of}
+use Rattle.grammar.specs.PlacingLaws.{same-eq}
 use Rattle.grammar.specs.Verdict.{tested, on, foundAt, tests, refused, decided}
 use Rattle.grammar.specs.Running.{Good}
 use Rattle.elements.specs.Kinds.{ofName, ofKind, kindOf}
 use Rattle.elements.specs.declared.Kind.{Kind}
 use Rattle.elements.specs.declared.Kind.the-variants.{Unb, Unh, Unt, Unz, Ush, Usa, Usc, Usr, Ust, Usb, Usx, Usy, Reserved, Qty, Cnt, Other}
 use Rattle.message.specs.declared.Sums.{Sums}
-use Rattle.message.specs.Summary.{groupOf, sumsOf, summaryOf, flagsOf, StateS, busyS, stateOf, atHeads, atItems, closes, orderK, isFound, freeAt, refsK, countsK, scopeIn, scopeK, ustNext, itemNext, loaded, controlled, nextK, orderS, refsS, countsS, scopeS, nextS, AnswerS, refusedS, testsS, decidedS, told}
-use Rattle.message.specs.FlagLaws.{alike, any-each, any-size, load-sums, control-sums, totals, evens, all-named, Spot, no, yes, spot}
+use Rattle.message.specs.Summary.{groupOf, sumsOf, summaryOf, flagsOf, StateS, busyS, stateOf, atHeads, atItems, closes, orderK, isFound, freeAt, refsK, countsK, scopeK, ustNext, itemNext, loaded, controlled, nextK, orderS, refsS, countsS, scopeS, nextS, AnswerS, refusedS, testsS, decidedS, told}
+use Rattle.message.specs.FlagLaws.{alike, any-each, any-size, load-sums, control-sums, totals, pairs-right, all-named, Spot, no, yes, spot}
 
 -- ---- what is to be shown of a segment of the kind k whose view is a: where it has no place, 7 is broken; where it has one, each test answers as its
 -- rule does, given the rules before it, and the step gives what is kept of the result
@@ -49,10 +49,6 @@ items h nil = refl
 items h (hs ▷ header c us nil) = refl
 items h (hs ▷ header c us (cs ▷ certificate d vs r)) = refl
 
-scope-in : (b : Bool) (g : Segment) → check (scopeRight b (header (elementsOf g) nil nil)) ≡ scopeIn b (asked g)
-scope-in true g = refl
-scope-in false g = refl
-
 module _ (y : Syntax) (u : Leaf) (ms : Snoc Message) (g : Segment) where
   ush : (o : Open) → Good y (busy u ms o) → Follow (busy u ms o) Ush (asked g) (growNamed segments.Ush (elementsOf g) (busy u ms o))
   ush (msg h hs (plain nil) nil) q =
@@ -64,8 +60,7 @@ module _ (y : Syntax) (u : Leaf) (ms : Snoc Message) (g : Segment) where
       (λ i. alike (refs z) (test (not (among (each refH hs) (second (elementsOf g)))))
       (λ p. p .1 .1 .0 .1) (λ p. (q .nine .0, (q .nine .1 .0, ((q .nine .1 .1 .0, p), q .nine .1 .1 .1)))))
       (λ i j. holds-check (counts z) (q .ten))
-      (λ i. alike (scopes z) (scopeRight (auto h) (header (elementsOf g) nil nil)) (λ p. p .1 .1) (λ p. (q .eleven .0, (q .eleven .1, p)))
-      ∙ scope-in (auto h) g)
+      (λ i. alike (scopes z) (scopeRight (auto h) (header (elementsOf g) nil nil)) (λ p. p .1 .1) (λ p. (q .eleven .0, (q .eleven .1, p))))
       (λ i j. refl)
   ush (msg h hs (plain (b ▷ i)) nil) q = nowhere refl
   ush (msg h hs (ack d ls) nil) q = nowhere refl
@@ -80,7 +75,7 @@ module _ (y : Syntax) (u : Leaf) (ms : Snoc Message) (g : Segment) where
       (λ p. p .1 .1 .0 .1 .0) (λ p. (q .seven .0, (q .seven .1 .0, ((q .seven .1 .1 .0 .0, (p, q .seven .1 .1 .0 .1 .1)), q .seven .1 .1 .1)))))
       (λ i. holds-check (refs z) (q .nine))
       (λ i j. holds-check (counts z) (q .ten))
-      (λ i. holds-check (scopes z) (q .eleven .0, (q .eleven .1 .0, scope-of (auto h) d us (us ▷ elementsOf g) nil nil (q .eleven .1 .1))))
+      (λ i. holds-check (scopes z) (q .eleven))
       (λ i j. refl)
   usa (msg h (hs ▷ header d us (cs ▷ certificate e vs none)) (plain nil) nil) q =
       let z : Reading = busy u ms (msg h (hs ▷ header d us (cs ▷ certificate e (vs ▷ elementsOf g) none)) (plain nil) nil) in
@@ -89,7 +84,7 @@ module _ (y : Syntax) (u : Leaf) (ms : Snoc Message) (g : Segment) where
       (λ p. (q .seven .0, (q .seven .1 .0, ((q .seven .1 .1 .0 .0, (q .seven .1 .1 .0 .1 .0, (q .seven .1 .1 .0 .1 .1 .0, (q .seven .1 .1 .0 .1 .1 .1 .0, p)))), q .seven .1 .1 .1)))))
       (λ i. holds-check (refs z) (q .nine))
       (λ i j. holds-check (counts z) (q .ten))
-      (λ i. holds-check (scopes z) (q .eleven .0, (q .eleven .1 .0, scope-of (auto h) d us us (cs ▷ certificate e vs none) (cs ▷ certificate e (vs ▷ elementsOf g) none) (q .eleven .1 .1))))
+      (λ i. holds-check (scopes z) (q .eleven))
       (λ i j. refl)
   usa (msg h (hs ▷ header d us (cs ▷ certificate e vs (some r))) (plain nil) nil) q = nowhere refl
   usa (msg h hs (plain (b ▷ i)) nil) q = nowhere refl
@@ -104,7 +99,7 @@ module _ (y : Syntax) (u : Leaf) (ms : Snoc Message) (g : Segment) where
       (holds-check (order z) (q .seven .0, (q .seven .1 .0, ((q .seven .1 .1 .0 .0, (q .seven .1 .1 .0 .1 .0, (tt, (tt, tt)))), q .seven .1 .1 .1))))
       (λ i. holds-check (refs z) (q .nine))
       (λ i j. holds-check (counts z) (q .ten))
-      (λ i. holds-check (scopes z) (q .eleven .0, (q .eleven .1 .0, scope-of (auto h) d us us nil (nil ▷ certificate (elementsOf g) nil none) (q .eleven .1 .1))))
+      (λ i. holds-check (scopes z) (q .eleven))
       (λ i j. refl)
   usc (msg h (hs ▷ header d us (cs ▷ certificate e vs r)) (plain nil) nil) q =
       let z : Reading = busy u ms (msg h (hs ▷ header d us (cs ▷ certificate e vs r ▷ certificate (elementsOf g) nil none)) (plain nil) nil) in
@@ -113,7 +108,7 @@ module _ (y : Syntax) (u : Leaf) (ms : Snoc Message) (g : Segment) where
       (λ p. (q .seven .0, (q .seven .1 .0, ((q .seven .1 .1 .0 .0, (q .seven .1 .1 .0 .1 .0, (p, (q .seven .1 .1 .0 .1 .1 .1, tt)))), q .seven .1 .1 .1)))))
       (λ i. holds-check (refs z) (q .nine))
       (λ i j. holds-check (counts z) (q .ten))
-      (λ i. holds-check (scopes z) (q .eleven .0, (q .eleven .1 .0, scope-of (auto h) d us us (cs ▷ certificate e vs r) (cs ▷ certificate e vs r ▷ certificate (elementsOf g) nil none) (q .eleven .1 .1))))
+      (λ i. holds-check (scopes z) (q .eleven))
       (λ i j. refl)
   usc (msg h hs (plain (b ▷ i)) nil) q = nowhere refl
   usc (msg h hs (ack d ls) nil) q = nowhere refl
@@ -128,7 +123,7 @@ module _ (y : Syntax) (u : Leaf) (ms : Snoc Message) (g : Segment) where
       (holds-check (order z) (q .seven))
       (λ i. holds-check (refs z) (q .nine))
       (λ i j. holds-check (counts z) (q .ten))
-      (λ i. holds-check (scopes z) (q .eleven .0, (q .eleven .1 .0, scope-of (auto h) d us us (cs ▷ certificate e vs none) (cs ▷ certificate e vs (some (elementsOf g))) (q .eleven .1 .1))))
+      (λ i. holds-check (scopes z) (q .eleven))
       (λ i j. refl)
   usr (msg h (hs ▷ header d us (cs ▷ certificate e vs (some r))) (plain nil) nil) q = nowhere refl
   usr (msg h hs (plain (b ▷ i)) nil) q = nowhere refl
@@ -164,7 +159,7 @@ module _ (y : Syntax) (u : Leaf) (ms : Snoc Message) (g : Segment) where
       → isFound o ≡ true
       → stateOf (busy u ms (msg h hs b (ts ▷ trailer (elementsOf g) none))) ≡ busyS (text u 5 0) (each refM ms) (ustNext (summaryOf (msg h hs b ts)) (asked g) o)
   ust-next h hs b ts o (no k) e = absurd (false≢true e)
-  ust-next h hs b ts o (yes i k l s f) e = rw (evens hs ts, s, f)
+  ust-next h hs b ts o (yes i k l s f) e = rw (pairs-right hs ts, s, f)
 
   ust-refs : (h : Leaf) (hs : Snoc Header) (b : Body) (ts : Snoc Trailer) → Good y (busy u ms (msg h hs b ts))
       → check (refs (busy u ms (msg h hs b (ts ▷ trailer (elementsOf g) none)))) ≡ isFound (freeAt (reference (elementsOf g)) (each refH hs) (flagsOf (each refT ts) (each refH hs)))
@@ -251,7 +246,7 @@ module _ (y : Syntax) (u : Leaf) (ms : Snoc Message) (g : Segment) where
       (λ i. alike (refs z) (test (same (second (elementsOf g)) (reference h)) and every (one (each refT ts)) (each refH hs))
       (λ p. p .1 .1 .1) (λ p. (q .nine .0, (q .nine .1 .0, (q .nine .1 .1, p))))
       ∙ ap (λ (n : Bool). same (second (elementsOf g)) (reference h) && n) (all-named (each refT ts) (each refH hs)))
-      (λ i j. rw (← evens hs ts, ← totals b)
+      (λ i j. rw (← pairs-right hs ts, ← totals b)
       (alike (counts z) (test (eqb (number (elementsOf g) 1) (suc (size (showOpen (msg h hs b ts))))) and every (counted hs) ts and total b)
       (λ p. p .1) (λ p. (q .ten, p))))
       (λ i. holds-check (scopes z) (q .eleven))

@@ -31,7 +31,7 @@ use Rattle.elements.specs.Formed.{formedBy}
 use Rattle.elements.specs.FormedLaws.{and-stop, and-go, formed-by}
 use Rattle.references.specs.Refs.{refsIn, Indexed, Offered, Fitting, OfferIs}
 use Rattle.message.specs.Heads.{headFlags}
-use Rattle.message.specs.Summary.{Summary, StateS, startS, idleS, busyS, atStart, atIdle, atBusy, mayCome, allNamed, evenAll, totalRight, numberIn, orderK, refsK, countsK, scopeK, nextK, orderS, refsS, countsS, scopeS, nextS, opened, fresh, AnswerS, readS, refusedS, decidedS}
+use Rattle.message.specs.Summary.{Summary, StateS, startS, idleS, busyS, atStart, atIdle, atBusy, mayCome, allNamed, pairsRight, totalRight, numberIn, orderK, refsK, countsK, scopeK, nextK, orderS, refsS, countsS, scopeS, nextS, opened, fresh, AnswerS, readS, refusedS, decidedS}
 use Rattle.message.specs.Steps.{summaryIn, Roomy}
 use Rattle.message.specs.StepsLaws.{marked-between, closed-range, unt-digits, unz-digits}
 use Rattle.turns.specs.Held.{phased, stateIn, stretchIn, repeatedRef, afterUnb, afterUnh, afterOther, openSize, Held, decidedFrom, StepIs, Ready}
@@ -435,12 +435,12 @@ module _ (y : Syntax) (s : List ℕ) (st : State) (h l b : List ℕ) (at next : 
             unt-other v d = stop (y .service .release) s h l b next (at-9 (y .version) here ask at unt-may (sym e ∙ not-false q n) (unt-refs ∙ not-true a v)) d
 
             module _ (v : not a ≡ false) {c : Bool}
-                (counts : c ≡ (eqb (numberIn ask 1) (st .message .segments + 1) && (evenAll (st .message .pair) && totalRight (st .message .sums)))) where
+                (counts : c ≡ (eqb (numberIn ask 1) (st .message .segments + 1) && (pairsRight (st .message .pair) && totalRight (st .message .sums)))) where
               unt-counts : countsS here ask ≡ c
               unt-counts =
                   let i : suc (st .message .segments) ≡ st .message .segments + 1 = omega arith in
                   by (λ (z : StateS) (k : Kind). countsK z k ask) (busy-here ph) (g .kind)
-                  ∙ ap (λ (k : ℕ). eqb (numberIn ask 1) k && (evenAll (st .message .pair) && totalRight (st .message .sums))) i ∙ sym counts
+                  ∙ ap (λ (k : ℕ). eqb (numberIn ask 1) k && (pairsRight (st .message .pair) && totalRight (st .message .sums))) i ∙ sym counts
 
               pub unt-wrong : not c ≡ true → {r : Step} → r ≡ Stop (record { number = 10; place = at }) → Told r
               unt-wrong w d =
@@ -486,12 +486,12 @@ module _ {v k n w : ℕ} (e : n ≡ v) (d : w ≡ k) where
   pub counts-wrong : (b : Bool) → (n ≡ w → ⊥) → false ≡ (eqb v k && b)
   counts-wrong b h = and-stop (sym (ne-eqb v k (λ i. h (e ∙ i ∙ sym d)))) b refl
 
-  module _ (h : n ≡ w) {a p : Bool} (even : a ≡ p) where
-    pub counts-odd : (t : Bool) → not a ≡ true → false ≡ (eqb v k && (p && t))
-    counts-odd t i = and-go (sym (eq-eqb v k (sym e ∙ h ∙ d))) refl (and-stop even t (not-true a i))
+  module _ (h : n ≡ w) {a p : Bool} (pairs : a ≡ p) where
+    pub counts-pairs-wrong : (t : Bool) → not a ≡ true → false ≡ (eqb v k && (p && t))
+    counts-pairs-wrong t i = and-go (sym (eq-eqb v k (sym e ∙ h ∙ d))) refl (and-stop pairs t (not-true a i))
 
-    pub counts-even : {t u : Bool} → not a ≡ false → t ≡ u → t ≡ (eqb v k && (p && u))
-    counts-even i j = and-go (sym (eq-eqb v k (sym e ∙ h ∙ d))) refl (and-go even (not-false a i) j)
+    pub counts-pairs-right : {t u : Bool} → not a ≡ false → t ≡ u → t ≡ (eqb v k && (p && u))
+    counts-pairs-right i j = and-go (sym (eq-eqb v k (sym e ∙ h ∙ d))) refl (and-go pairs (not-false a i) j)
 
 pub stretch-is : {a b : ℕ} (m : List ℕ) (p : ℕ) → a ≡ startIn m p 0 → b ≡ endIn m p 0 → _≡_ {A = Stretch} (record { start = a; end = b }) (stretchIn m p)
 stretch-is m p e d = rw (e, d)

@@ -13,7 +13,7 @@ ghost use Rattle.elements.specs.Kinds.{kindOf};
 ghost use Rattle.elements.specs.Octets.{textAt, askedAt};
 ghost use Rattle.elements.specs.Fields.{Marked, Fields, FieldsAs};
 ghost use Rattle.message.specs.Heads.{headFlags};
-ghost use Rattle.message.specs.Summary.{numberIn, evenAll, totalRight, allNamed, mayCome, atBusy};
+ghost use Rattle.message.specs.Summary.{numberIn, pairsRight, totalRight, allNamed, mayCome, atBusy};
 ghost use Rattle.message.specs.Steps.{stepM, summaryIn, Roomy, Sought, MovedIs};
 ghost use Rattle.turns.specs.Held.{unseenAs, seenIn, Entered, Sighted, stateIn, stretchIn, repeatedRef, afterUnb, afterUnh, afterOther, Ready, decidedFrom, StepIs};
 ghost use Rattle.elements.specs.Formed.{looked};
@@ -38,9 +38,9 @@ use message::items::on_cnt;
 use message::items::on_other;
 use message::items::on_qty;
 use message::items::on_usb;
-use message::kept::all_even;
 use message::kept::fresh_message;
 use message::kept::grown_to;
+use message::kept::pairs_right;
 use message::kept::totals_right;
 use message::kept::usa_group;
 use message::kept::usc_group;
@@ -388,14 +388,14 @@ fn counts_right(s: &[u8], at: usize, y: Syntax, m: Message, marks: &[usize]) -> 
     requires { ⌜ Marked (y .service) (now s) at (now marks) ⌝ }
     requires { ⌜ inRange (digits 1 6) (textAt (y .service) (now s) at 1 0) ≡ true ⌝ }
     requires { ⌜ (m .segments < 65535) × (m .pair .base < 65536) × (m .pair .own < 65536) ⌝ }
-    ensures { λ r. ⌜ r ≡ (eqb (numberIn (askedAt (y .service) (now (s .entry)) at) 1) (m .segments + 1) && (evenAll (m .pair) && totalRight (m .sums))) ⌝ }
+    ensures { λ r. ⌜ r ≡ (eqb (numberIn (askedAt (y .service) (now (s .entry)) at) 1) (m .segments + 1) && (pairsRight (m .pair) && totalRight (m .sums))) ⌝ }
 {
     let p = m.pair;
     let u = m.sums;
     if number_in(s, at, y, marks, 1) != wide(m.segments + 1) {
         return false;
     }
-    if !all_even(p) {
+    if !pairs_right(p) {
         return false;
     }
     totals_right(u)

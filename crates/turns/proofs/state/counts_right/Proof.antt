@@ -1,4 +1,4 @@
-use Rattle.turns.specs.WalkingLaws.{counts-wrong, counts-odd, counts-even}
+use Rattle.turns.specs.WalkingLaws.{counts-wrong, counts-pairs-wrong, counts-pairs-right}
 use borrow.Author.Needs.{needs}
 use Rattle.turns.proofs.state.counts_right.Statement.{statement}
 use Rattle.turns.proofs.state.counts_right.Tie as tie
@@ -15,17 +15,17 @@ wide-requires c κs = search needs
 returns : tie.Need-returns
 returns c = counts-wrong (c .before .before .before .number-in .ensures .0) (c .before .wide .ensures) _ (c .if1 .taken)
 
-all-even-requires : tie.Need-all-even-requires
-all-even-requires c κs = search needs
+pairs-right-requires : tie.Need-pairs-right-requires
+pairs-right-requires c κs = search needs
 
 returns-2 : tie.Need-returns-2
-returns-2 c = counts-odd (c .before .before .before .before .before .number-in .ensures .0) (c .before .before .before .wide .ensures) (c .before .before .if1 .left) (c .before .all-even .ensures) _ (c .if2 .taken)
+returns-2 c = counts-pairs-wrong (c .before .before .before .before .before .number-in .ensures .0) (c .before .before .before .wide .ensures) (c .before .before .if1 .left) (c .before .pairs-right .ensures) _ (c .if2 .taken)
 
 totals-right-requires : tie.Need-totals-right-requires
 totals-right-requires c κs = search needs
 
 returns-3 : tie.Need-returns-3
-returns-3 c = counts-even (c .before .before .before .before .before .before .number-in .ensures .0) (c .before .before .before .before .wide .ensures) (c .before .before .before .if1 .left) (c .before .before .all-even .ensures) (c .before .if2 .left) (c .totals-right .ensures)
+returns-3 c = counts-pairs-right (c .before .before .before .before .before .before .number-in .ensures .0) (c .before .before .before .before .wide .ensures) (c .before .before .before .if1 .left) (c .before .before .pairs-right .ensures) (c .before .if2 .left) (c .totals-right .ensures)
 
 pub counts-right-spec : {M : Type 1} → statement M
 counts-right-spec =
@@ -35,7 +35,7 @@ counts-right-spec =
     add-wide
     wide-requires
     returns
-    all-even-requires
+    pairs-right-requires
     returns-2
     totals-right-requires
     returns-3)

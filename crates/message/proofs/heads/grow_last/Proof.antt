@@ -1,8 +1,8 @@
 use borrow.Author.Needs.{needs}
-use Rattle.message.specs.HeadsLaws.{bump-law, bump-none}
+use Rattle.message.specs.HeadsLaws.{grow-last-law, grow-last-none}
 use borrow.Author.Needs.{needs}
-use Rattle.message.proofs.heads.bump_header.Statement.{statement}
-use Rattle.message.proofs.heads.bump_header.Tie as tie
+use Rattle.message.proofs.heads.grow_last.Statement.{statement}
+use Rattle.message.proofs.heads.grow_last.Tie as tie
 
 sub-k : tie.Need-sub-k
 sub-k c = search needs
@@ -29,13 +29,13 @@ element-write-heads : tie.Need-element-write-heads
 element-write-heads c = search needs
 
 returns : tie.Need-returns
-returns c = bump-law _ _ (c .before .if1 .taken) (search needs)
+returns c = grow-last-law _ _ (c .before .if1 .taken) (search needs)
 
 returns-2 : tie.Need-returns-2
-returns-2 c = bump-none _ _ (c .if1 .left)
+returns-2 c = grow-last-none _ _ (c .if1 .left)
 
-pub bump-header-spec : {M : Type 1} → statement M
-bump-header-spec =
+pub grow-last-spec : {M : Type 1} → statement M
+grow-last-spec =
     tie.close
     (tie.spec
     sub-k

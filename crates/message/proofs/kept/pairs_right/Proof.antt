@@ -3,10 +3,10 @@ use mathlib.Core.Bool.{Bool, true, false}
 use borrow.Author.Tests.{eq-eqb, ne-eqb, lt-ltb, le-ltb, ltb-true}
 use native.Mathlib.Omega.{arith}
 use borrow.Author.Needs.{needs}
-use Rattle.message.proofs.kept.all_even.Statement.{statement}
-use Rattle.message.proofs.kept.all_even.Tie as tie
-use Rattle.message.proofs.kept.all_even.Reads as reads
-use Rattle.message.proofs.kept.all_even.Lts as lts
+use Rattle.message.proofs.kept.pairs_right.Statement.{statement}
+use Rattle.message.proofs.kept.pairs_right.Tie as tie
+use Rattle.message.proofs.kept.pairs_right.Reads as reads
+use Rattle.message.proofs.kept.pairs_right.Lts as lts
 
 -- src/kept.rt:104:36
 cast-result : tie.Need-cast-result
@@ -24,5 +24,5 @@ returns c = rw (c .before .before .before .if1 .taken)
 returns-2 : tie.Need-returns-2
 returns-2 c = search needs
 
-pub all-even-spec : {M : Type 1} → statement M
-all-even-spec = tie.close (tie.spec cast-result add-result returns returns-2)
+pub pairs-right-spec : {M : Type 1} → statement M
+pairs-right-spec = tie.close (tie.spec cast-result add-result returns returns-2)
