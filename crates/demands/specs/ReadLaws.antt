@@ -18,7 +18,7 @@ use Rattle.syntax.specs.declared.Syntax.{Syntax}
 use Rattle.grammar.specs.Lists.{Snoc, nil, _▷_, _+++_, joined, list, each, size, any, check, among, sum, holds, every, few, distinct}
 use Rattle.grammar.specs.Segments.{Unb, Unh, Unt, Unz, seg}
 use Rattle.grammar.specs.Interchange.{Leaf, Header, header, Body, plain, ack, Open, msg, Message, message, showHeader, showTrailer, showBody, showOpen, showMessage, shown, idle}
-use Rattle.grammar.specs.Rules.{auto, okHeader, okItem, okBody, okMessage, scopeRight, scopesMessage, refM}
+use Rattle.grammar.specs.Rules.{autack, okHeader, okItem, okBody, okMessage, scopeRight, scopesMessage, refM}
 use Rattle.grammar.specs.Valid.{Interchange, interchange, Valid, inForce, openingIn}
 use Rattle.grammar.specs.Verdict.{Verdict, accepted, verdictOf, loadsB, loadsM, totalsIn, totalsBy, totalsOf}
 use Rattle.grammar.specs.VerdictLaws.{verdict-exact, totals-read}
@@ -114,16 +114,16 @@ items-so hs (plain nil) k = record { items = nil; plainly = refl; free = tt }
 items-so hs (plain (b ▷ i)) k = record { items = b ▷ i; plainly = refl; free = k .1 }
 items-so hs (ack c ls) k = absurd (k .0)
 
-no-auto : (a : Bool) (x : Header) (code : List ℕ) → T (not (same code (octets "F01"))) → holds (scopeRight a x) → scopeH x ≡ code → a ≡ false
-no-auto true (header c us cs) code n k e = absurd (T-not (same code (octets "F01")) n (subst (λ (l : List ℕ). T (same l (octets "F01"))) e k))
-no-auto false x code n k e = refl
+no-autack : (a : Bool) (x : Header) (code : List ℕ) → T (not (same code (octets "F01"))) → holds (scopeRight a x) → scopeH x ≡ code → a ≡ false
+no-autack true (header c us cs) code n k e = absurd (T-not (same code (octets "F01")) n (subst (λ (l : List ℕ). T (same l (octets "F01"))) e k))
+no-autack false x code n k e = refl
 
 module _ (code : List ℕ) (n : T (not (same code (octets "F01")))) where
   body-so : (o : Open) (t : Leaf) (x : Header) (bs ls : Snoc Header) → headersIn o ≡ bs ▷ x +++ ls → scopeH x ≡ code
       → holds (okMessage (message o t)) → holds (scopesMessage (message o t)) → Items (bodyIn o)
   body-so (msg u hs w ts) t x bs ls e c k j =
-      let y = every-left (scopeRight (auto u)) (bs ▷ x) ls (subst (λ (z : Snoc Header). holds (every (scopeRight (auto u)) z)) e j) in
-      items-so hs w (subst (λ (b : Bool). holds (okBody b hs w)) (no-auto (auto u) x code n (y .1) c) (k .0 .1 .1 .0))
+      let y = every-left (scopeRight (autack u)) (bs ▷ x) ls (subst (λ (z : Snoc Header). holds (every (scopeRight (autack u)) z)) e j) in
+      items-so hs w (subst (λ (b : Bool). holds (okBody b hs w)) (no-autack (autack u) x code n (y .1) c) (k .0 .1 .1 .0))
 
 -- those behind one of a row are fewer than all
 few-behind : {A : Type 0} (xs bs ls : Snoc A) (x : A) (n : ℕ) → xs ≡ bs ▷ x +++ ls → holds (few (suc n) xs) → holds (few n ls)

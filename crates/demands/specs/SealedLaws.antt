@@ -16,7 +16,7 @@ use Rattle.syntax.specs.TreeLaws.{off, and-left}
 use Rattle.syntax.specs.declared.Service.{Service}
 use Rattle.grammar.specs.Lists.{Snoc, nil, _▷_, each, among, list}
 use Rattle.grammar.specs.Interchange.{Leaf, Header, Trailer, Body, Open, msg, message, showHeader, showBody}
-use Rattle.grammar.specs.Rules.{auto, refH, refT}
+use Rattle.grammar.specs.Rules.{autack, refH, refT}
 use Rattle.grammar.specs.Named.{placed}
 use Rattle.grammar.specs.TestLaws.{is-true}
 use Rattle.writing.specs.Written.{text, noText}
@@ -127,7 +127,7 @@ module _ (s m r : List ℕ) (f : ℕ) (v x : List ℕ) (w : Succeeds s m r f v x
       let O : Open = msg (w .u) (front H (w .hs)) (w .b) (w .ts ▷ R) in
       let z : same (refT R) r ≡ true = ap (λ (y : List ℕ). same y r) (ref-trailer (serviceIn (w .i)) r (textBy f v)) ∙ same-self r in
       ap answered (asked-of x m (λ i p. some (valueAt p r)) (sealedBy (w .i) m r f v) (placed (message O (grown (w .n))) (w .q)) (sealed-read s m r f v x w l) stays)
-      ∙ ap (λ (c : Bool). orNoHeader (chosenBy refH (front H (w .hs)) r) (cond c (linkText (w .b) r) (behind (chosenBy refT (w .ts ▷ R) r)))) (off (auto (w .u)) (asked .other))
+      ∙ ap (λ (c : Bool). orNoHeader (chosenBy refH (front H (w .hs)) r) (cond c (linkText (w .b) r) (behind (chosenBy refT (w .ts ▷ R) r)))) (off (autack (w .u)) (asked .other))
       ∙ ap (λ (c : Option (Chosen Header)). orNoHeader c (behind (chosenBy refT (w .ts ▷ R) r))) chose
       ∙ ap (λ (c : Bool). filtered (chosen nil H) (behind (cond c (some (chosen (w .ts) R)) (chosenBy refT (w .ts) r)))) z
       ∙ ap (λ (t : List ℕ). orBad (valueBy (filterH H) t)) (released-content (serviceIn (w .i)) (textBy f v))

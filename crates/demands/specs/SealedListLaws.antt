@@ -4,7 +4,7 @@ use native.Mathlib.Omega.{arith}
 use mathlib.Core.Path.{_≡_, refl, ap, _∙_, sym, subst}
 use mathlib.Core.List.{List}
 use mathlib.Core.Option.{some}
-use mathlib.Core.Bool.{Bool, true, false, not, cond, _||_}
+use mathlib.Core.Bool.{Bool, true, false, not, cond, _||_, or-false, or-assoc}
 use lib.Dec.{T, T-not}
 use Rattle.syntax.specs.Octets.{same}
 use Rattle.syntax.specs.ContentLaws.{same-self}
@@ -51,17 +51,9 @@ pub every-map : {A : Type 0} (p q : A → Rule) (s : Snoc A) → ((a : A) → ho
 every-map p q nil k h = tt
 every-map p q (s ▷ a) k h = (every-map p q s k (h .0), k a (h .1))
 
-or-assoc : (a b c : Bool) → (a || (b || c)) ≡ ((a || b) || c)
-or-assoc true b c = refl
-or-assoc false b c = refl
-
 pub among-front : (r : List ℕ) (s : Snoc (List ℕ)) (v : List ℕ) → among (front r s) v ≡ (among s v || same r v)
-among-front r nil v = either (same r v)
-  where
-    either : (b : Bool) → (b || false) ≡ b
-    either true = refl
-    either false = refl
-among-front r (s ▷ a) v = ap (λ (b : Bool). same a v || b) (among-front r s v) ∙ or-assoc (same a v) (among s v) (same r v)
+among-front r nil v = or-false (same r v)
+among-front r (s ▷ a) v = ap (λ (b : Bool). same a v || b) (among-front r s v) ∙ sym (or-assoc (same a v) (among s v) (same r v))
 
 nor : (a b : Bool) → T (not (a || b)) → T (not a) × T (not b)
 nor true b h = absurd h

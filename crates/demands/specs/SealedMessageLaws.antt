@@ -15,7 +15,7 @@ use Rattle.grammar.specs.ListsLaws.{size-join}
 use Rattle.grammar.specs.TestLaws.{passes}
 use Rattle.grammar.specs.Segments.{Unh, seg, number, reference, second}
 use Rattle.grammar.specs.Interchange.{Leaf, Header, Trailer, trailer, Body, plain, ack, msg, Message, message, showHeader, showTrailer, showBody, showOpen, showMessage}
-use Rattle.grammar.specs.Rules.{auto, okHeader, okBody, whole, okMessage, refH, refT, linked, one, refsMessage, sizeAt, counted, countsMessage, scopeRight, scopesMessage}
+use Rattle.grammar.specs.Rules.{autack, okHeader, okBody, whole, okMessage, refH, refT, linked, one, refsMessage, sizeAt, counted, countsMessage, scopeRight, scopesMessage}
 use Rattle.weaving.specs.Seals.{newHeader, newTrailer, grown, sealedMessage, refRight, filterRight, takesMore, isNew, maySeal}
 use Rattle.demands.specs.SealedListLaws.{front, same-swap, each-front, joined-front, every-front, distinct-front, away, aways, wider, longer, first-among}
 use Rattle.demands.specs.SealedNumberLaws.{ref-header, ref-trailer, grown-number, grown-second}
@@ -24,7 +24,7 @@ use Rattle.demands.specs.SealedNumberLaws.{ref-header, ref-trailer, grow
 pub record May (u : Leaf) (hs : Snoc Header) (r : List ℕ) (f : ℕ) : Type 0 where
   pub ref : T (refRight r)
   pub filter : T (filterRight f)
-  pub other : T (not (auto u))
+  pub other : T (not (autack u))
   pub few : T (leb (size hs) 8)
   pub new : T (not (among (each refH hs) r))
 
@@ -32,12 +32,12 @@ pub may : (u : Leaf) (hs : Snoc Header) (b : Body) (ts : Snoc Trailer) (r : List
 may u hs b ts r f h =
     let p : T (refRight r && filterRight f && takesMore (msg u hs b ts)) = and-left (refRight r && filterRight f && takesMore (msg u hs b ts)) (isNew (msg u hs b ts) r) h in
     let w : T (refRight r && filterRight f) = and-left (refRight r && filterRight f) (takesMore (msg u hs b ts)) p in
-    let t : T (not (auto u) && leb (size hs) 8) = and-right (refRight r && filterRight f) (takesMore (msg u hs b ts)) p in
+    let t : T (not (autack u) && leb (size hs) 8) = and-right (refRight r && filterRight f) (takesMore (msg u hs b ts)) p in
     record {
       ref = and-left (refRight r) (filterRight f) w;
       filter = and-right (refRight r) (filterRight f) w;
-      other = and-left (not (auto u)) (leb (size hs) 8) t;
-      few = and-right (not (auto u)) (leb (size hs) 8) t;
+      other = and-left (not (autack u)) (leb (size hs) 8) t;
+      few = and-right (not (autack u)) (leb (size hs) 8) t;
       new = and-right (refRight r && filterRight f && takesMore (msg u hs b ts)) (isNew (msg u hs b ts) r) h;
     }
 
@@ -99,20 +99,20 @@ module _ (r : List ℕ) (f : ℕ) (σ : Service) (t : List ℕ) (u : Leaf) (hs :
   pub order-sealed : holds (okMessage was) → holds (okMessage is)
   order-sealed o = by b (o .0 .1 .0) (o .0 .1 .1 .0) (o .1)
     where
-      by : (b : Body) → holds (every okHeader hs) → holds (okBody (auto u) hs b) → holds (whole (auto u) b)
+      by : (b : Body) → holds (every okHeader hs) → holds (okBody (autack u) hs b) → holds (whole (autack u) b)
           → holds (okMessage (sealedMessage (newHeader r f) (newTrailer σ r t) (message (msg u hs b ts) n)))
       by (plain nil) e k w = ((nine, (every-front okHeader (newHeader r f) hs (tt, (tt, tt)) e, (tt, w))), w)
       by (plain (c ▷ i)) e k w = ((nine, (every-front okHeader (newHeader r f) hs (tt, (tt, tt)) e, (k, w))), w)
-      by (ack c ls) e k w = absurd (T-not (auto u) (q .other) (k .0))
+      by (ack c ls) e k w = absurd (T-not (autack u) (q .other) (k .0))
 
   -- 9
   abbrev refsAs : Snoc (List ℕ) → Snoc (List ℕ) → Bool → Rule
   refsAs hr tr s = (distinct hr and every (one hr) (linked b) and distinct tr and every (one hr) tr) and test s and every (one tr) hr
 
   -- a body of a message that is not AUTACK names no header
-  unlinked : (b : Body) (s : Snoc (List ℕ)) → holds (okBody (auto u) hs b) → holds (every (one s) (linked b))
+  unlinked : (b : Body) (s : Snoc (List ℕ)) → holds (okBody (autack u) hs b) → holds (every (one s) (linked b))
   unlinked (plain b) s o = tt
-  unlinked (ack c ls) s o = absurd (T-not (auto u) (q .other) (o .0))
+  unlinked (ack c ls) s o = absurd (T-not (autack u) (q .other) (o .0))
 
   pub refs-sealed : holds (okMessage was) → holds (refsMessage was) → holds (refsMessage is)
   refs-sealed o k =
@@ -153,4 +153,4 @@ module _ (r : List ℕ) (f : ℕ) (σ : Service) (t : List ℕ) (u : Leaf) (hs :
 
   -- 11
   pub scopes-sealed : holds (scopesMessage was) → holds (scopesMessage is)
-  scopes-sealed k = every-front (scopeRight (auto u)) (newHeader r f) hs (subst (λ (a : Bool). holds (scopeRight a (newHeader r f))) (sym (off (auto u) (q .other))) tt) k
+  scopes-sealed k = every-front (scopeRight (autack u)) (newHeader r f) hs (subst (λ (a : Bool). holds (scopeRight a (newHeader r f))) (sym (off (autack u) (q .other))) tt) k

@@ -3,7 +3,7 @@ use Prim.Native.Nat.{ℕ, zero, suc, _+_, _*_, _-_, _≤_, _<_}
 use native.Mathlib.Omega.{arith}
 use mathlib.Core.List.{List, [], _∷_}
 use mathlib.Core.Path.{_≡_, refl, ap, sym, _∙_, subst}
-use mathlib.Core.Bool.{Bool, true, false, cond, _||_}
+use mathlib.Core.Bool.{Bool, true, false, cond, _||_, or-false, or-true, or-assoc, true≢false}
 use borrow.Author.Tests.{ltb-true, ltb-false, eqb-true, eqb-false, ne-eqb, lt-ltb}
 use lib.Dec.{eqb, ltb}
 use lib.ListN.{length, getD, take, drop, set, length-set, length-drop, drop-of-length-le}
@@ -119,19 +119,6 @@ component-in σ s a p c = span-in (length s) c (atElement p (piecesAt σ s a)) (
 pub part-in : (σ : Service) (s : List ℕ) (a p c : ℕ) {x z : ℕ} → Part x z ≡ componentAt σ s a p c → In (length s) x z
 part-in σ s a p c e = subst (SpanIn (length s)) (sym e) (component-in σ s a p c)
 
--- ---- sums of Bools
-
-or-false : (b : Bool) → (b || false) ≡ b
-or-false true = refl
-or-false false = refl
-
-or-assoc : (a b c : Bool) → (a || (b || c)) ≡ ((a || b) || c)
-or-assoc true b c = refl
-or-assoc false b c = refl
-
-true-false : true ≡ false → ⊥
-true-false h = let w : _≡_ {A = ℕ} 0 1 = cc in omega arith
-
 -- ---- within an element that starts at a: it goes on at j. b: it repeats on the way
 
 pub record Inside (y : Syntax) (s : List ℕ) (a : ℕ) (b : Bool) (j : ℕ) : Type 0 where
@@ -152,12 +139,12 @@ clean-steps : (y : Syntax) (s : List ℕ) (j : ℕ) {q k : ℕ} {r : Edge} → C
 clean-steps y s j e d = edge-steps (y .service) s j (clean-at y s j e d .edge) refl
 
 through-on : {y : Syntax} {s : List ℕ} {i at : ℕ} → cutAt y s at ≡ cutAt y s i → Through y s i at false
-through-on e = record { on = λ h. e; end = λ (h : false ≡ true). absurd (true-false (sym h)) }
+through-on e = record { on = λ h. e; end = λ (h : false ≡ true). absurd (true≢false (sym h)) }
 
 through-end : {y : Syntax} {s : List ℕ} {i q : ℕ} → cutAt y s i ≡ Ends q → Through y s i (q + 1) true
 through-end {y} {s} {i} {q} e =
     let n : q + 1 - 1 ≡ q = omega arith in
-    record { on = λ (h : true ≡ false). absurd (true-false h); end = λ h. (omega arith, rw n e) }
+    record { on = λ (h : true ≡ false). absurd (true≢false h); end = λ h. (omega arith, rw n e) }
 
 through-from : {y : Syntax} {s : List ℕ} {a i at : ℕ} {ends : Bool} → cutAt y s i ≡ cutAt y s a → Through y s i at ends → Through y s a at ends
 through-from e t = record { on = λ h. t .on h ∙ e; end = λ h. (t .end h .0, sym e ∙ t .end h .1) }
@@ -194,7 +181,7 @@ module _ {y : Syntax} {s : List ℕ} {a j : ℕ} {b : Bool} (g : Inside y s a b 
           next = g .next ∙ ap (atElement 1) (w .first) ∙ rw t;
           count = g .count ∙ ap elements (w .first) ∙ rw t;
           any = g .any ∙ ap (λ (ps : List Piece). b || anyRepeats ps) (w .first) ∙ rw t;
-          on = λ (h : true ≡ false). absurd (true-false h);
+          on = λ (h : true ≡ false). absurd (true≢false h);
         }
 
     pub inside-next : k ≡ 4 → PassedAs y s a (Behind (q + 1) false b)
@@ -214,10 +201,6 @@ module _ {y : Syntax} {s : List ℕ} {a j : ℕ} {b : Bool} (g : Inside y s a b 
           any = g .any ∙ ap (λ (ps : List Piece). b || anyRepeats ps) (w .first) ∙ rw t (or-true b);
           cuts = goes-on (λ z. omega arith);
         }
-      where
-        or-true : (b : Bool) → (b || true) ≡ true
-        or-true true = refl
-        or-true false = refl
 
     pub inside-on : k ≡ 2 → Inside y s a b (q + 1)
     inside-on t =
@@ -507,15 +490,15 @@ module _ {m : List ℕ} {n p : ℕ} (g : Cleared m n p) where
 -- ---- the pass
 
 rest-on : (σ : Service) (s : List ℕ) (i : ℕ) (ends : Bool) → ends ≡ false → rest σ s ends i ≡ piecesAt σ s i
-rest-on σ s i true h = absurd (true-false h)
+rest-on σ s i true h = absurd (true≢false h)
 rest-on σ s i false h = refl
 
 rest-off : (σ : Service) (s : List ℕ) (i : ℕ) (ends : Bool) → ends ≡ true → rest σ s ends i ≡ []
 rest-off σ s i true h = refl
-rest-off σ s i false h = absurd (true-false (sym h))
+rest-off σ s i false h = absurd (true≢false (sym h))
 
 count-on : (ends : Bool) (x : ℕ) → ends ≡ false → cond ends 0 (suc x) ≡ suc x
-count-on true x h = absurd (true-false h)
+count-on true x h = absurd (true≢false h)
 count-on false x h = refl
 
 one-more : (n : ℕ) → n + 1 ≡ suc n
@@ -527,7 +510,7 @@ left s ends i = cond ends 0 (suc (length s - i))
 
 count-off : (ends : Bool) (x : ℕ) → ends ≡ true → cond ends 0 (suc x) ≡ 0
 count-off true x h = refl
-count-off false x h = absurd (true-false (sym h))
+count-off false x h = absurd (true≢false (sym h))
 
 pub noted-kept : {ps : List Piece} {m m′ : List ℕ} {b : ℕ} → Noted ps m b → ((x : ℕ) → x < b + 8 → getD m′ x 0 ≡ getD m x 0) → Noted ps m′ b
 noted-kept {ps} {m} {m′} {b} g k =
@@ -630,7 +613,7 @@ module _ {y : Syntax} {s : List ℕ} {a : ℕ} {m : List ℕ} {i : ℕ} {ends b 
             next = at-next (n + 1) (piecesAt (y .service) s a) ∙ ap (atElement 1) (ap (λ (x : ℕ). atElement x (piecesAt (y .service) s a)) (one-more n) ∙ here) ∙ w .pass .next;
             count = omega arith;
             any = g .any ∙ ap (λ (ps : List Piece). b || anyRepeats ps) (rest-on (y .service) s i ends t) ∙ ap (λ (x : Bool). b || x) (w .pass .any) ∙
-                or-assoc b c _ ∙ ap (λ (x : Bool). x || anyRepeats (rest (y .service) s ends′ at)) (sym e);
+                sym (or-assoc b c _) ∙ ap (λ (x : Bool). x || anyRepeats (rest (y .service) s ends′ at)) (sym e);
             done = λ p l u. pick p l u (ltb p n) refl;
             free = record {
               room = w .long;

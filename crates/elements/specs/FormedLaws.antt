@@ -2,7 +2,7 @@
 use Prim.Native.Nat.{ℕ, zero, suc, _+_, _-_, _≤_, _<_}
 use native.Mathlib.Omega.{arith}
 use mathlib.Core.Path.{_≡_, refl, ap, sym, _∙_}
-use mathlib.Core.Bool.{Bool, true, false, cond, not, _&&_, false≢true}
+use mathlib.Core.Bool.{Bool, true, false, cond, not, _&&_, false≢true, and-true}
 use mathlib.Core.List.{List, [], _∷_}
 use mathlib.Core.Option.{Option}
 use borrow.Author.Tests.{le-leb, lt-leb, eq-eqb, ne-eqb}
@@ -45,11 +45,7 @@ module _ {r a : Bool} (e : r ≡ a) where
   and-go t g = rw (← e, t) g
 
   pub and-end : r ≡ (a && true)
-  and-end = e ∙ last a
-    where
-      last : (a : Bool) → a ≡ (a && true)
-      last true = refl
-      last false = refl
+  and-end = e ∙ sym (and-true a)
 
   pub not-stop : (b : Bool) → r ≡ true → false ≡ (not a && b)
   not-stop b t = rw (← e, t)
@@ -278,11 +274,7 @@ module _ (σ : Service) (s : List ℕ) (a : ℕ) {size : ℕ} {again : Bool} {m 
 counted-kind : (v : Version) (a : Asked) (q c : Bool) → same (a .tag) (octets "QTY") ≡ q → same (a .tag) (octets "CNT") ≡ c →
     formedKind v Free a ≡ formedBy v (ofKind Free (a .tag)) a
 counted-kind v a true true e f = absurd (false≢true (sym (ap (λ (t : List ℕ). same t (octets "CNT")) (same-eq (a .tag) (octets "QTY") (rw e tt))) ∙ f))
-counted-kind v a true false e f = rw (e, f) (last (not (a .anyRepeated)))
-  where
-    last : (b : Bool) → (b && true) ≡ b
-    last true = refl
-    last false = refl
+counted-kind v a true false e f = rw (e, f) (and-true (not (a .anyRepeated)))
 counted-kind v a false true e f = rw (e, f)
 counted-kind v a false false e f = rw (e, f)
 

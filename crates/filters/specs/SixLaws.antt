@@ -4,7 +4,7 @@ use native.Mathlib.Omega.{arith}
 use mathlib.Core.List.{List, [], _∷_, _++_}
 use mathlib.Core.Path.{_≡_, refl, sym, _∙_}
 use mathlib.Core.Bool.{Bool, true, false, cond}
-use mathlib.Core.Option.{Option, none, some}
+use mathlib.Core.Option.{Option, none, some, Option·none-ne-some}
 use lib.Dec.{T, ltb, eqb, eqb→eq, eqb·suc-zero}
 use lib.ListN.{length}
 use borrow.Author.Tests.{lt-ltb, le-ltb, ltb-true, ltb-false, eqb-true}
@@ -115,16 +115,13 @@ sized p q r s =
 
 -- ---- a text that stands for a value is that value's text, and the value is octets
 
-never : {w : List ℕ} → none ≡ some w → ⊥
-never {w} q = let z : _≡_ {A = ℕ} 0 1 = cc in omega arith
-
 last-of : (l : Bool) {w v : List ℕ} → cond l (some w) none ≡ some v → (l ≡ true) × (v ≡ w)
 last-of true q = (refl, cc)
-last-of false q = absurd (never q)
+last-of false q = absurd (Option·none-ne-some _ q)
 
 not-last : (l : Bool) {v : List ℕ} → cond l none none ≡ some v → ⊥
-not-last true q = never q
-not-last false q = never q
+not-last true q = Option·none-ne-some _ q
+not-last false q = Option·none-ne-some _ q
 
 nil-of : (s : List ℕ) → eqb (length s) 0 ≡ true → s ≡ []
 nil-of [] e = refl
@@ -134,7 +131,7 @@ nil-of (x ∷ s) e = let z : false ≡ true = sym (eqb·suc-zero (length s)) ∙
     tf z = let y : _≡_ {A = ℕ} 0 1 = cc in omega arith
 
 more-of : (p : List ℕ) (r : Option (List ℕ)) {v : List ℕ} → before p r ≡ some v → (w : List ℕ) × (r ≡ some w) × (v ≡ p ++ w)
-more-of p none q = absurd (never q)
+more-of p none q = absurd (Option·none-ne-some _ q)
 more-of p (some w) q = (w, refl, cc)
 
 module _ (a b c d : ℕ) (t v : List ℕ) where
@@ -169,9 +166,9 @@ module _ (a b c d : ℕ) (t v : List ℕ) where
 
 pub six-back : (t v : List ℕ) → sixValue t ≡ some v → (sixText v ≡ t) × Octets v
 six-back [] v q = let e : v ≡ [] = cc in (rw e, rw e tt)
-six-back (a ∷ []) v q = absurd (never q)
-six-back (a ∷ b ∷ []) v q = absurd (never q)
-six-back (a ∷ b ∷ c ∷ []) v q = absurd (never q)
+six-back (a ∷ []) v q = absurd (Option·none-ne-some _ q)
+six-back (a ∷ b ∷ []) v q = absurd (Option·none-ne-some _ q)
+six-back (a ∷ b ∷ c ∷ []) v q = absurd (Option·none-ne-some _ q)
 six-back (a ∷ b ∷ c ∷ d ∷ t) v q = back a b c d t v _ (sized (bitsOf a) (bitsOf b) (bitsOf c) (bitsOf d)) q (six-back t)
 
 pub six-length : (v : List ℕ) → length (sixText v) ≡ 4 * ((length v + 2) / 3)

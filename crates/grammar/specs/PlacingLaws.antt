@@ -13,7 +13,7 @@ use Rattle.syntax.specs.TreeLaws.{and-left, and-right}
 use Rattle.grammar.specs.Lists.{Snoc, nil, _▷_, map, _+++_, joined, size, Rule, holds, every}
 use Rattle.grammar.specs.Segments.{Name, Unb, Unh, Unt, Unz, Ush, Usa, Usc, Usr, Ust, Usb, Usx, Usy, Kind, Named, Reserved, Free, Entry, entry, tags, kindIn, elementsOf, kindOf, textOf, withTag, seg}
 use Rattle.grammar.specs.Interchange.{Leaf, Certificate, certificate, Header, header, Trailer, trailer, Link, link, Body, plain, ack, Open, msg, Message, message, Reading, start, idle, busy, done, showCertificate, showHeader, showTrailer, showLink, showBody, showOpen, showMessage, shown}
-use Rattle.grammar.specs.Rules.{order, refs, counts, scopes, auto, isFree, okItem, okBody, okTrailers, whole, filled, firm}
+use Rattle.grammar.specs.Rules.{order, refs, counts, scopes, autack, isFree, okItem, okBody, okTrailers, whole, filled, firm}
 use Rattle.grammar.specs.Placing.{usaC, usrC, usaH, uscH, usrH, lastly, usrT, usyL, inHeaders, inBody, usbB, usxB, usyB, itemB, usrO, ustO, inOpen, begun, opened, closed, ended, growNamed, grow, place}
 
 -- ---- a segment of a name has that name's tag
@@ -288,11 +288,11 @@ shut-order (busy u ms (msg h (hs ▷ header d (us ▷ a) nil) (plain nil) nil)) 
 shut-order (busy u ms (msg h (hs ▷ header d us (cs ▷ certificate e nil none)) (plain nil) nil)) f o = (o .0, (o .1 .0, ((o .1 .1 .0 .0, (o .1 .1 .0 .1 .0, (fewer (size cs) 2 (o .1 .1 .0 .1 .1 .0), o .1 .1 .0 .1 .1 .1 .0))), o .1 .1 .1)))
 shut-order (busy u ms (msg h (hs ▷ header d us (cs ▷ certificate e (vs ▷ a) none)) (plain nil) nil)) f o = (o .0, (o .1 .0, ((o .1 .1 .0 .0, (o .1 .1 .0 .1 .0, (o .1 .1 .0 .1 .1 .0, (o .1 .1 .0 .1 .1 .1 .0, fewer (size vs) 3 (o .1 .1 .0 .1 .1 .1 .1))))), o .1 .1 .1)))
 shut-order (busy u ms (msg h (hs ▷ header d us (cs ▷ certificate e vs (some a))) (plain nil) nil)) f o = o
-shut-order (busy u ms (msg h hs (plain (b ▷ i)) nil)) f o = (o .0, (o .1 .0, (o .1 .1 .0, (plain-of (auto h) hs b (o .1 .1 .1 .0 .0) (o .1 .1 .1 .0 .1 .0), o .1 .1 .1 .1))))
+shut-order (busy u ms (msg h hs (plain (b ▷ i)) nil)) f o = (o .0, (o .1 .0, (o .1 .1 .0, (plain-of (autack h) hs b (o .1 .1 .1 .0 .0) (o .1 .1 .1 .0 .1 .0), o .1 .1 .1 .1))))
 shut-order (busy u ms (msg h hs (ack d nil) nil)) f o = (o .0, (o .1 .0, (o .1 .1 .0, (tt, o .1 .1 .1 .1))))
 shut-order (busy u ms (msg h hs (ack d (ls ▷ link x nil)) nil)) f o = (o .0, (o .1 .0, (o .1 .1 .0, ((o .1 .1 .1 .0 .0, (o .1 .1 .1 .0 .1 .0, firm-of ls (o .1 .1 .1 .0 .1 .1))), o .1 .1 .1 .1))))
 shut-order (busy u ms (msg h hs (ack d (ls ▷ link x (ys ▷ y))) nil)) f o = o
-shut-order (busy u ms (msg h hs b (ts ▷ trailer t none))) f o = (o .0, (o .1 .0, (o .1 .1 .0, (o .1 .1 .1 .0, trail-of (auto h) b ts (o .1 .1 .1 .1)))))
+shut-order (busy u ms (msg h hs b (ts ▷ trailer t none))) f o = (o .0, (o .1 .0, (o .1 .1 .0, (o .1 .1 .1 .0, trail-of (autack h) b ts (o .1 .1 .1 .1)))))
 shut-order (busy u ms (msg h hs b (ts ▷ trailer t (some a)))) f o = o
 
 -- 9 is kept when the last segment is taken off

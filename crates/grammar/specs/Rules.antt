@@ -27,8 +27,8 @@ inside y x = every (insideS y) (shown x)
 -- ---- 7: "segment out of order"
 
 -- "A message of type AUTACK": 0065 has exactly that content
-abbrev pub auto : Leaf → Bool
-auto h = same (second h) (octets "AUTACK")
+abbrev pub autack : Leaf → Bool
+autack h = same (second h) (octets "AUTACK")
 
 -- "0 to 3 USA", "0 to 2 times (USC, ..)"
 abbrev pub okCertificate : Certificate → Rule
@@ -71,10 +71,10 @@ okTrailers a b (ts ▷ t) = whole a b
 
 -- "0 to 9 header groups"
 abbrev pub okOpen : Open → Rule
-okOpen (msg h hs b ts) = few 9 hs and every okHeader hs and okBody (auto h) hs b and okTrailers (auto h) b ts
+okOpen (msg h hs b ts) = few 9 hs and every okHeader hs and okBody (autack h) hs b and okTrailers (autack h) b ts
 
 abbrev pub okMessage : Message → Rule
-okMessage (message (msg h hs b ts) t) = okOpen (msg h hs b ts) and whole (auto h) b
+okMessage (message (msg h hs b ts) t) = okOpen (msg h hs b ts) and whole (autack h) b
 
 -- "one or more messages"
 abbrev pub order : Reading → Rule
@@ -173,7 +173,7 @@ abbrev pub scopeRight : Bool → Header → Rule
 scopeRight a (header c us cs) = test (scopeCode a (text c 3 0))
 
 abbrev pub scopesOpen : Open → Rule
-scopesOpen (msg h hs b ts) = every (scopeRight (auto h)) hs
+scopesOpen (msg h hs b ts) = every (scopeRight (autack h)) hs
 
 abbrev pub scopesMessage : Message → Rule
 scopesMessage (message o t) = scopesOpen o

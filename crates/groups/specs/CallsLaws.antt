@@ -3,7 +3,7 @@ use Prim.Native.Nat.{ℕ, _+_, _≤_}
 use native.Mathlib.Omega.{arith}
 use mathlib.Core.Path.{_≡_, ap, _∙_, sym, subst}
 use mathlib.Core.List.{List, [], _++_, append-nil}
-use mathlib.Core.Option.{none, some}
+use mathlib.Core.Option.{none, some, Option·none-ne-some}
 use mathlib.Core.Bool.{Bool, true, false, cond}
 use lib.Dec.{T}
 use lib.ListN.{drop}
@@ -45,7 +45,7 @@ use Rattle.groups.specs.declared.calls.Named.the-variants.{Message as He
 -- ---- a message of the reading, by its 0062
 
 pub none-some : {A B : Type 0} {a : A} → none ≡ some a → B
-none-some e = let z : _≡_ {A = ℕ} 0 1 = cc in absurd (omega arith)
+none-some {a = a} e = absurd (Option·none-ne-some a e)
 
 module _ (σ : Service) (p : ℕ) (u : Leaf) (r : List ℕ) where
   -- what holds for every message holds for it

@@ -11,6 +11,7 @@ use Rattle.syntax.specs.declared.Service.{Service}
 use Rattle.grammar.specs.Lists.{Snoc, nil, _▷_}
 use Rattle.grammar.specs.Segments.{tagText, elementsOf, reference}
 use Rattle.grammar.specs.Interchange.{Leaf, Link, link, Body, plain, ack}
+use Rattle.message.specs.Summary.{orElse}
 use Rattle.groups.specs.declared.links.Places.{Places}
 use Rattle.groups.specs.declared.links.Linked.{Linked}
 use Rattle.groups.specs.declared.links.Linked.the-variants.{At, Nowhere}
@@ -20,10 +21,6 @@ use Rattle.groups.specs.declared.links.Linked.the-variants.{At, Nowhere}
 -- a USX, and a USY under it
 pub data Tie : Type 0 where
   tie : Leaf → Leaf → Tie
-
-abbrev pub orElse : {A : Type 0} → Option A → Option A → Option A
-orElse none o = o
-orElse (some a) o = some a
 
 -- the first USY, of those under one USX, that names the header r
 abbrev pub firstUsy : Leaf → Snoc Leaf → List ℕ → Option Tie

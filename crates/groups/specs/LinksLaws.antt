@@ -31,7 +31,8 @@ use Rattle.walk.specs.SectionLaws.{plain-content}
 use Rattle.groups.specs.Stand.{Row, Stand}
 use Rattle.groups.specs.StandLaws.{list-join, stand-front, stand-back, row-first, row-asked, row-rest}
 use Rattle.groups.specs.Groups.{nameAt}
-use Rattle.groups.specs.Links.{Tie, tie, orElse, firstUsy, firstLink, tieIn, taggedAt, isTagged, isUsyOf, linkFrom}
+use Rattle.message.specs.Summary.{orElse}
+use Rattle.groups.specs.Links.{Tie, tie, firstUsy, firstLink, tieIn, taggedAt, isTagged, isUsyOf, linkFrom}
 use Rattle.groups.specs.declared.links.Places.{Places}
 use Rattle.groups.specs.declared.links.Linked.{Linked}
 use Rattle.groups.specs.declared.links.Linked.the-variants.{At, Nowhere}

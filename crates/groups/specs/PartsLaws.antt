@@ -12,7 +12,7 @@ use Rattle.syntax.specs.declared.Syntax.{Syntax}
 use Rattle.grammar.specs.Lists.{Snoc, nil, _▷_, _+++_, joined, list, size, holds}
 use Rattle.grammar.specs.Segments.{Unh, Unt, seg}
 use Rattle.grammar.specs.Interchange.{Leaf, Header, Trailer, Body, Open, msg, message, showHeader, showTrailer, showBody, showOpen, showMessage}
-use Rattle.grammar.specs.Rules.{auto, okMessage, refH, refT}
+use Rattle.grammar.specs.Rules.{autack, okMessage, refH, refT}
 use Rattle.grammar.specs.Valid.{Interchange}
 use Rattle.grammar.specs.Verdict.{Verdict, accepted, refusedWith, verdictOf}
 use Rattle.grammar.specs.Places.{wide}
@@ -160,4 +160,4 @@ module _ {s m : List ℕ} {y : Syntax} {c : Layout} {rows : List ℕ} (h : Holds
           → TieAt (y .service) s (tieIn (bodyIn o) r) (linkFrom (y .service) (c .body) (c .body) (list (showBody (bodyIn o))) r)
       by (msg u hs b ts) l w k =
           subst (λ (i : ℕ). TieAt (y .service) s (tieIn b r) (linkFrom (y .service) i i (list (showBody b)) r)) (sym (l .body))
-          (tied (y .service) r s (bodyAt (y .service) (h .q) (msg u hs b ts)) (auto u) hs b (k .0 .1 .1 .0) (body-stands (y .service) s (h .q) u hs b ts (h .t) w))
+          (tied (y .service) r s (bodyAt (y .service) (h .q) (msg u hs b ts)) (autack u) hs b (k .0 .1 .1 .0) (body-stands (y .service) s (h .q) u hs b ts (h .t) w))

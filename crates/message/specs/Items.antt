@@ -6,4 +6,4 @@ use Rattle.message.specs.declared.Message.{Message}
 
 -- in the group g, with these sums
 abbrev pub grownWith : Message → Group → Sums → Message
-grownWith m g u = record { group = g; auto = m .auto; segments = suc (m .segments); headers = m .headers; sums = u; pair = m .pair }
+grownWith m g u = record { group = g; autack = m .autack; segments = suc (m .segments); headers = m .headers; sums = u; pair = m .pair }

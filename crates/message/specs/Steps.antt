@@ -27,7 +27,7 @@ pub data AnswerM : Type 0 where
   badM : ℕ → AnswerM
 
 abbrev pub ushM : Summary → Asked → AnswerM
-ushM S a = cond (not (among (S .refs) (a .text 2 0))) (cond (scopeCode (S .m .auto) (a .text 3 0)) (toM (ushNext S a)) (badM 11)) (badM 9)
+ushM S a = cond (not (among (S .refs) (a .text 2 0))) (cond (scopeCode (S .m .autack) (a .text 3 0)) (toM (ushNext S a)) (badM 11)) (badM 9)
 
 abbrev pub ustM : Summary → Asked → Option ℕ → AnswerM
 ustM S a none = badM 9
@@ -66,12 +66,12 @@ summaryIn ρ s m a e h =
 
 -- one segment more: a header's USH, a trailer's UST, and the USR of the trailer group now open
 abbrev pub headed : Message → Message
-headed m = record { group = Header 0; auto = m .auto; segments = suc (m .segments); headers = suc (m .headers); sums = m .sums; pair = m .pair }
+headed m = record { group = Header 0; autack = m .autack; segments = suc (m .segments); headers = suc (m .headers); sums = m .sums; pair = m .pair }
 
 abbrev pub trailed : Message → ℕ → ℕ → Message
 trailed m claim base = record {
   group = Trailer false;
-  auto = m .auto;
+  autack = m .autack;
   segments = suc (m .segments);
   headers = m .headers;
   sums = m .sums;
@@ -79,7 +79,7 @@ trailed m claim base = record {
 }
 
 abbrev pub ownGrown : Message → Message
-ownGrown m = record { group = Trailer true; auto = m .auto; segments = suc (m .segments); headers = m .headers; sums = m .sums; pair = ownMore (m .pair) }
+ownGrown m = record { group = Trailer true; autack = m .autack; segments = suc (m .segments); headers = m .headers; sums = m .sums; pair = ownMore (m .pair) }
 
 -- what keeps every sum within its type: nothing is more than the segments so far, a load less than 10^12 grams
 pub record Roomy (m : Message) (h : List ℕ) : Type 0 where

@@ -68,18 +68,18 @@ module _ (σ : Service) (s : List ℕ) (a : ℕ) {x : List ℕ} (e : x ≡ partO
   scope-text : (t : List ℕ) → same (content (σ .release) x) t ≡ same (textAt σ s a 3 0) t
   scope-text t = ap (λ (z : List ℕ). same (content (σ .release) z) t) e
 
-  module _ {auto : Bool} where
-    pub scope-auto : {r : Bool} → auto ≡ true → r ≡ same (content (σ .release) x) (octets "F01") → r ≡ scopeCode auto (textAt σ s a 3 0)
-    scope-auto t q = q ∙ scope-text (octets "F01") ∙ ap (λ (b : Bool). scopeCode b (textAt σ s a 3 0)) (sym t)
+  module _ {autack : Bool} where
+    pub scope-autack : {r : Bool} → autack ≡ true → r ≡ same (content (σ .release) x) (octets "F01") → r ≡ scopeCode autack (textAt σ s a 3 0)
+    scope-autack t q = q ∙ scope-text (octets "F01") ∙ ap (λ (b : Bool). scopeCode b (textAt σ s a 3 0)) (sym t)
 
-    module _ (t : auto ≡ false) {p : Bool} (q : p ≡ same (content (σ .release) x) (octets "1")) where
-      scope-is : (b : Bool) → p ≡ b → scopeCode auto (textAt σ s a 3 0) ≡ (b || same (textAt σ s a 3 0) (octets "2"))
+    module _ (t : autack ≡ false) {p : Bool} (q : p ≡ same (content (σ .release) x) (octets "1")) where
+      scope-is : (b : Bool) → p ≡ b → scopeCode autack (textAt σ s a 3 0) ≡ (b || same (textAt σ s a 3 0) (octets "2"))
       scope-is b h = ap (λ (z : Bool). scopeCode z (textAt σ s a 3 0)) t ∙ ap (λ (z : Bool). z || same (textAt σ s a 3 0) (octets "2")) (sym (scope-text (octets "1")) ∙ sym q ∙ h)
 
-      pub scope-one : p ≡ true → true ≡ scopeCode auto (textAt σ s a 3 0)
+      pub scope-one : p ≡ true → true ≡ scopeCode autack (textAt σ s a 3 0)
       scope-one h = sym (scope-is true h)
 
-      pub scope-two : {r : Bool} → p ≡ false → r ≡ same (content (σ .release) x) (octets "2") → r ≡ scopeCode auto (textAt σ s a 3 0)
+      pub scope-two : {r : Bool} → p ≡ false → r ≡ same (content (σ .release) x) (octets "2") → r ≡ scopeCode autack (textAt σ s a 3 0)
       scope-two h f = f ∙ scope-text (octets "2") ∙ sym (scope-is false h)
 
 -- ---- numbers
@@ -210,7 +210,7 @@ module _ {m : Message} {h : List ℕ} (g : Roomy m h) where
 -- ---- USH
 
 module _ (σ : Service) (s : List ℕ) (a : ℕ) (m : Message) (h : List ℕ) where
-  ush-is : (u w : ℕ) (b c : Bool) → among (headRefs (σ .release) s h (m .headers)) (textAt σ s a 2 0) ≡ b → scopeCode (m .auto) (textAt σ s a 3 0) ≡ c
+  ush-is : (u w : ℕ) (b c : Bool) → among (headRefs (σ .release) s h (m .headers)) (textAt σ s a 2 0) ≡ b → scopeCode (m .autack) (textAt σ s a 3 0) ≡ c
       → ushM (summaryIn (σ .release) s m u w h) (askedAt σ s a) ≡ cond (not b) (cond c (toM (ushNext (summaryIn (σ .release) s m u w h) (askedAt σ s a))) (badM 11)) (badM 9)
   ush-is u w b c p q = rw (p, q)
 
@@ -220,9 +220,9 @@ module _ (σ : Service) (s : List ℕ) (a : ℕ) (m : Message) (h : List ℕ) wh
 
     pub ush-named : (h′ : List ℕ) → b ≡ true → (u w : ℕ) → MovedIs (ushM (summaryIn (σ .release) s m u w h) (askedAt σ s a)) (Bad 9) (σ .release) s u w h′
     ush-named h′ t u w =
-        subst (λ (A : AnswerM). MovedIs A (Bad 9) (σ .release) s u w h′) (sym (ush-is u w true (scopeCode (m .auto) (textAt σ s a 3 0)) (ush-among true t) refl)) refl
+        subst (λ (A : AnswerM). MovedIs A (Bad 9) (σ .release) s u w h′) (sym (ush-is u w true (scopeCode (m .autack) (textAt σ s a 3 0)) (ush-among true t) refl)) refl
 
-    module _ (t : b ≡ false) {c : Bool} (f : c ≡ scopeCode (m .auto) (textAt σ s a 3 0)) where
+    module _ (t : b ≡ false) {c : Bool} (f : c ≡ scopeCode (m .autack) (textAt σ s a 3 0)) where
       pub ush-scope : (h′ : List ℕ) → c ≡ false → (u w : ℕ) → MovedIs (ushM (summaryIn (σ .release) s m u w h) (askedAt σ s a)) (Bad 11) (σ .release) s u w h′
       ush-scope h′ k u w = subst (λ (A : AnswerM). MovedIs A (Bad 11) (σ .release) s u w h′) (sym (ush-is u w false false (ush-among false t) (sym f ∙ k))) refl
 

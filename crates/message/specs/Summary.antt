@@ -12,7 +12,7 @@ use Rattle.grammar.specs.Segments.{Asked, text, number, reference}
 use Rattle.grammar.specs.Interchange.{Leaf, certificate, Header, header, Trailer, trailer, Link, link, Body, plain, ack, Open, msg, Reading, start, idle, busy, done, showHeader, showTrailer, showOpen}
 use Rattle.grammar.specs.Loads.{loads, controls, loadIn, controlIn, loadRight}
 use Rattle.grammar.specs.Elements.{formed}
-use Rattle.grammar.specs.Rules.{auto, refH, refT, refM, sizeAt, counted, scopeCode}
+use Rattle.grammar.specs.Rules.{autack, refH, refT, refM, sizeAt, counted, scopeCode}
 use Rattle.grammar.specs.Verdict.{Test, tested, Answer, read, refused}
 use Rattle.elements.specs.Kinds.{kindOf}
 use Rattle.elements.specs.declared.Kind.{Kind}
@@ -88,7 +88,7 @@ sizeH h = size (showHeader h)
 
 abbrev pub keptOf : Open → Kept
 keptOf (msg h hs b ts) =
-    record { group = groupOf (msg h hs b ts); auto = auto h; segments = size (showOpen (msg h hs b ts)); headers = size (each refH hs); sums = sumsOf b; pair = pairOf hs ts }
+    record { group = groupOf (msg h hs b ts); autack = autack h; segments = size (showOpen (msg h hs b ts)); headers = size (each refH hs); sums = sumsOf b; pair = pairOf hs ts }
 
 abbrev pub flagsOf : Snoc (List ℕ) → Snoc (List ℕ) → Snoc Bool
 flagsOf names refs = each (among names) refs
@@ -189,20 +189,20 @@ usyMay (InTrailer r) = false
 abbrev pub mayCome : Kind → Kept → Bool
 mayCome Unb m = false
 mayCome Unh m = false
-mayCome Unt m = closes (m .auto) (m .group)
+mayCome Unt m = closes (m .autack) (m .group)
 mayCome Unz m = false
 mayCome Ush m = atHeads (m .group) && ltb (m .headers) 9
 mayCome Usa m = usaMay (m .group)
 mayCome Usc m = uscMay (m .group)
 mayCome Usr m = usrMay (m .group)
-mayCome Ust m = closes (m .auto) (m .group)
-mayCome Usb m = atHeads (m .group) && (m .auto && ltb 0 (m .headers))
+mayCome Ust m = closes (m .autack) (m .group)
+mayCome Usb m = atHeads (m .group) && (m .autack && ltb 0 (m .headers))
 mayCome Usx m = usxMay (m .group)
 mayCome Usy m = usyMay (m .group)
 mayCome Reserved m = false
-mayCome Qty m = atItems (m .group) && not (m .auto)
-mayCome Cnt m = atItems (m .group) && not (m .auto)
-mayCome Other m = atItems (m .group) && not (m .auto)
+mayCome Qty m = atItems (m .group) && not (m .autack)
+mayCome Cnt m = atItems (m .group) && not (m .autack)
+mayCome Other m = atItems (m .group) && not (m .autack)
 
 -- ---- by the kinds that matter
 
@@ -320,7 +320,7 @@ countsK doneS k a = true
 abbrev pub scopeK : StateS → Kind → Asked → Bool
 scopeK startS k a = true
 scopeK (idleS u rs) k a = true
-scopeK (busyS u rs S) k a = atBusy (scopeCode (S .m .auto) (a .text 3 0)) true true true true k
+scopeK (busyS u rs S) k a = atBusy (scopeCode (S .m .autack) (a .text 3 0)) true true true true k
 scopeK doneS k a = true
 
 -- ---- the step; it matters only where the tests are passed
@@ -357,14 +357,14 @@ uscGroup (InTrailer r) = InTrailer r
 
 -- one segment more, in the group g
 abbrev pub grown : Kept → Group → Kept
-grown m g = record { group = g; auto = m .auto; segments = suc (m .segments); headers = m .headers; sums = m .sums; pair = m .pair }
+grown m g = record { group = g; autack = m .autack; segments = suc (m .segments); headers = m .headers; sums = m .sums; pair = m .pair }
 
 abbrev pub grownBy : Summary → Group → Snoc ℕ → Summary
 grownBy S g sizes = record { m = grown (S .m) g; ref = S .ref; refs = S .refs; sizes = sizes; flags = S .flags }
 
 abbrev pub ushNext : Summary → Asked → Summary
 ushNext S a = record {
-  m = record { group = InHeader 0; auto = S .m .auto; segments = suc (S .m .segments); headers = suc (S .m .headers); sums = S .m .sums; pair = S .m .pair };
+  m = record { group = InHeader 0; autack = S .m .autack; segments = suc (S .m .segments); headers = suc (S .m .headers); sums = S .m .sums; pair = S .m .pair };
   ref = S .ref;
   refs = S .refs ▷ a .text 2 0;
   sizes = S .sizes ▷ 1;
@@ -382,7 +382,7 @@ usrNext S (InCertificate n m r) = grownBy S (InCertificate n m true) (moreInLast
 usrNext S InBody = S
 usrNext S (InAck l y) = S
 usrNext S (InTrailer r) = record {
-  m = record { group = InTrailer true; auto = S .m .auto; segments = suc (S .m .segments); headers = S .m .headers; sums = S .m .sums; pair = ownMore (S .m .pair) };
+  m = record { group = InTrailer true; autack = S .m .autack; segments = suc (S .m .segments); headers = S .m .headers; sums = S .m .sums; pair = ownMore (S .m .pair) };
   ref = S .ref;
   refs = S .refs;
   sizes = S .sizes;
@@ -395,7 +395,7 @@ ustNext S a none = S
 ustNext S a (some i) = record {
   m = record {
     group = InTrailer false;
-    auto = S .m .auto;
+    autack = S .m .autack;
     segments = suc (S .m .segments);
     headers = S .m .headers;
     sums = S .m .sums;
@@ -409,7 +409,7 @@ ustNext S a (some i) = record {
 
 abbrev pub itemNext : Summary → Sums → Summary
 itemNext S s = record {
-  m = record { group = InBody; auto = S .m .auto; segments = suc (S .m .segments); headers = S .m .headers; sums = s; pair = S .m .pair };
+  m = record { group = InBody; autack = S .m .autack; segments = suc (S .m .segments); headers = S .m .headers; sums = s; pair = S .m .pair };
   ref = S .ref;
   refs = S .refs;
   sizes = S .sizes;
@@ -418,7 +418,7 @@ itemNext S s = record {
 
 abbrev pub usbNext : Summary → Summary
 usbNext S = record {
-  m = record { group = InAck false false; auto = S .m .auto; segments = suc (S .m .segments); headers = S .m .headers; sums = noSums; pair = S .m .pair };
+  m = record { group = InAck false false; autack = S .m .autack; segments = suc (S .m .segments); headers = S .m .headers; sums = noSums; pair = S .m .pair };
   ref = S .ref;
   refs = S .refs;
   sizes = S .sizes;
@@ -460,7 +460,7 @@ busyNext Other u rs S a = busyS u rs (itemNext S (S .m .sums))
 -- a message begun by its UNH
 abbrev pub opened : Asked → Summary
 opened a = record {
-  m = record { group = Opened; auto = same (a .text 2 0) (octets "AUTACK"); segments = 1; headers = 0; sums = noSums; pair = noPair };
+  m = record { group = Opened; autack = same (a .text 2 0) (octets "AUTACK"); segments = 1; headers = 0; sums = noSums; pair = noPair };
   ref = a .text 1 0;
   refs = nil;
   sizes = nil;
@@ -519,4 +519,4 @@ told (refused n p) = refusedS n p
 
 -- the state of a message just begun
 abbrev pub fresh : Bool → Kept
-fresh a = record { group = Opened; auto = a; segments = 1; headers = 0; sums = noSums; pair = noPair }
+fresh a = record { group = Opened; autack = a; segments = 1; headers = 0; sums = noSums; pair = noPair }

@@ -37,7 +37,7 @@ fn with_sums(m: Message, g: Group, u: Sums) -> Moved
     let p = m.pair;
     Moved::To(Message {
         group: g,
-        auto: m.auto,
+        autack: m.autack,
         segments: m.segments + 1,
         headers: m.headers,
         sums: u,

@@ -33,14 +33,14 @@ pub fn no_pair() -> Pair
 }
 
 // A message begun by its UNH.
-pub fn fresh_message(auto: bool) -> Message
-    ensures { λ r. ⌜ r ≡ fresh auto ⌝ }
+pub fn fresh_message(autack: bool) -> Message
+    ensures { λ r. ⌜ r ≡ fresh autack ⌝ }
 {
     let u = no_sums();
     let p = no_pair();
     Message {
         group: Group::Opened,
-        auto: auto,
+        autack: autack,
         segments: 1,
         headers: 0,
         sums: u,
@@ -87,7 +87,7 @@ pub fn grown_to(m: Message, g: Group) -> Message
     let p = m.pair;
     Message {
         group: g,
-        auto: m.auto,
+        autack: m.autack,
         segments: m.segments + 1,
         headers: m.headers,
         sums: u,

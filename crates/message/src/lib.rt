@@ -44,5 +44,5 @@ pub struct Message {
     pub segments: u32,
     pub group: Group,
     pub headers: u16,
-    pub auto: bool,
+    pub autack: bool,
 }

@@ -34,13 +34,13 @@ fn at_items(g: Group) -> bool
 }
 
 // Whether a trailer or UNT may come.
-fn may_close(auto: bool, g: Group) -> bool
-    ensures { λ r. ⌜ r ≡ closes auto g ⌝ }
+fn may_close(autack: bool, g: Group) -> bool
+    ensures { λ r. ⌜ r ≡ closes autack g ⌝ }
 {
     match g {
-        Group::Opened => !auto,
-        Group::Header(_) => !auto,
-        Group::Certificate(_, _, _) => !auto,
+        Group::Opened => !autack,
+        Group::Header(_) => !autack,
+        Group::Certificate(_, _, _) => !autack,
         Group::Body => true,
         Group::Ack(_, filled) => filled,
         Group::Trailer(_) => true,
@@ -131,22 +131,22 @@ fn ush_may(g: Group, headers: u16) -> bool
     false
 }
 
-fn usb_may(g: Group, auto: bool, headers: u16) -> bool
-    ensures { λ r. ⌜ r ≡ (atHeads g && (auto && ltb 0 headers)) ⌝ }
+fn usb_may(g: Group, autack: bool, headers: u16) -> bool
+    ensures { λ r. ⌜ r ≡ (atHeads g && (autack && ltb 0 headers)) ⌝ }
 {
     if at_heads(g) {
-        if auto {
+        if autack {
             return 0 < headers;
         }
     }
     false
 }
 
-fn item_may(g: Group, auto: bool) -> bool
-    ensures { λ r. ⌜ r ≡ (atItems g && not auto) ⌝ }
+fn item_may(g: Group, autack: bool) -> bool
+    ensures { λ r. ⌜ r ≡ (atItems g && not autack) ⌝ }
 {
     if at_items(g) {
-        return !auto;
+        return !autack;
     }
     false
 }
@@ -156,24 +156,24 @@ pub fn may_come(k: Kind, m: Message) -> bool
     ensures { λ r. ⌜ r ≡ mayCome k m ⌝ }
 {
     let g = m.group;
-    let auto = m.auto;
+    let autack = m.autack;
     let headers = m.headers;
     match k {
         Kind::Unb => false,
         Kind::Unh => false,
-        Kind::Unt => may_close(auto, g),
+        Kind::Unt => may_close(autack, g),
         Kind::Unz => false,
         Kind::Ush => ush_may(g, headers),
         Kind::Usa => usa_may(g),
         Kind::Usc => usc_may(g),
         Kind::Usr => usr_may(g),
-        Kind::Ust => may_close(auto, g),
-        Kind::Usb => usb_may(g, auto, headers),
+        Kind::Ust => may_close(autack, g),
+        Kind::Usb => usb_may(g, autack, headers),
         Kind::Usx => usx_may(g),
         Kind::Usy => usy_may(g),
         Kind::Reserved => false,
-        Kind::Qty => item_may(g, auto),
-        Kind::Cnt => item_may(g, auto),
-        Kind::Other => item_may(g, auto),
+        Kind::Qty => item_may(g, autack),
+        Kind::Cnt => item_may(g, autack),
+        Kind::Other => item_may(g, autack),
     }
 }

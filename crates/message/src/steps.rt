@@ -36,13 +36,13 @@ pub enum Moved {
 }
 
 // 0541 is 1 or 2; in AUTACK it is F01.
-fn scope_right(s: &[u8], at: usize, y: Syntax, marks: &[usize], auto: bool) -> bool
+fn scope_right(s: &[u8], at: usize, y: Syntax, marks: &[usize], autack: bool) -> bool
     requires { ⌜ Marked (y .service) (now s) at (now marks) ⌝ }
-    ensures { λ r. ⌜ r ≡ scopeCode auto (textAt (y .service) (now (s .entry)) at 3 0) ⌝ }
+    ensures { λ r. ⌜ r ≡ scopeCode autack (textAt (y .service) (now (s .entry)) at 3 0) ⌝ }
 {
     let v = y.service;
     let x = field(s, at, y, marks, 3, 0);
-    if auto {
+    if autack {
         return content_is(x, v.release, b"F01");
     }
     if content_is(x, v.release, b"1") {
@@ -60,7 +60,7 @@ fn with_header(m: Message) -> Message
     let p = m.pair;
     Message {
         group: Group::Header(0),
-        auto: m.auto,
+        autack: m.autack,
         segments: m.segments + 1,
         headers: m.headers + 1,
         sums: u,
@@ -89,7 +89,7 @@ pub fn on_ush(
     if header_named(s, v.release, heads, n, x) {
         return Moved::Bad(9);
     }
-    if !scope_right(s, at, y, marks, m.auto) {
+    if !scope_right(s, at, y, marks, m.autack) {
         return Moved::Bad(11);
     }
     let b = field_start(marks, 2, 0);
@@ -119,7 +119,7 @@ fn in_trailer(m: Message) -> Message
     let p = m.pair;
     Message {
         group: Group::Trailer(true),
-        auto: m.auto,
+        autack: m.autack,
         segments: m.segments + 1,
         headers: m.headers,
         sums: u,
@@ -173,7 +173,7 @@ fn with_trailer(m: Message, claim: u32, base: u32) -> Message
     let right = pairs_right(p);
     Message {
         group: Group::Trailer(false),
-        auto: m.auto,
+        autack: m.autack,
         segments: m.segments + 1,
         headers: m.headers,
         sums: u,

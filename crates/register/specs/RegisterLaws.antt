@@ -31,8 +31,8 @@ use Rattle.walk.specs.declared.sections.Section.{Section}
 use Rattle.groups.specs.CallsLaws.{begins as begun-so}
 use Rattle.writing.specs.Laid.{Laid}
 use Rattle.writing.specs.LaidLaws.{laid-same, laid-length, laid-part, laid-more, laid-none}
-use Rattle.writing.specs.Written.{Text, text, noText, refusedAs, Writes}
-use Rattle.writing.specs.WrittenLaws.{writes-none, writes-long, writes-full, writes-done}
+use Rattle.writing.specs.Written.{Text, text, noText, refusedAs, Writes, tooLong}
+use Rattle.writing.specs.WrittenLaws.{writes-none, writes-over, writes-fit}
 use Rattle.writing.specs.declared.Written.{Written}
 use Rattle.writing.specs.declared.Written.the-variants.{Length, Refused}
 use Rattle.register.specs.Register.{highest, entryOf, entriesOf, registerBy, registerOf, entryAt, sectionAt, entriesRead, LaysAll, checkRefused, checkedAs}
@@ -246,16 +246,15 @@ module _ (s : List ℕ) (x : Start) (e : begunOf s ≡ Begins x) where
     long : m ≡ length (registerAt (x .syntax .service) (x .at) (w .u) (w .ms))
     long = w .long ∙ sym (register-length (x .syntax .service) (x .at) (w .u) (w .ms))
 
-    pub write-long : {out : List ℕ} {r : Written} → 65535 < m → r ≡ refusedAs 15 0 → Writes (registerOf s) out r out
-    write-long {out} {r} h q = subst (λ (t : Text). Writes t out r out) (sym (register-so w)) (writes-long long h q)
+    -- by what `too_long` answers
+    module _ {out : List ℕ} {b : Bool} (d : b ≡ tooLong (length out) m) where
+      pub write-over : {r : Written} → b ≡ true → r ≡ refusedAs 15 0 → Writes (registerOf s) out r out
+      write-over {r} h q = subst (λ (t : Text). Writes t out r out) (sym (register-so w)) (writes-over long d h q)
 
-    pub write-full : {out : List ℕ} {r : Written} → m ≤ 65535 → length out < m → r ≡ refusedAs 15 0 → Writes (registerOf s) out r out
-    write-full {out} {r} l h q = subst (λ (t : Text). Writes t out r out) (sym (register-so w)) (writes-full long l h q)
-
-    pub write-done : {out : List ℕ} {r : Written} {out′ : List ℕ} → m ≤ 65535 → m ≤ length out → (r ≡ Length m) × Laid out 0 (registerAt (x .syntax .service) (x .at) (w .u) (w .ms)) m out′
-        → Writes (registerOf s) out r out′
-    write-done {out} {r} {out′} l h q =
-        subst (λ (t : Text). Writes t out r out′) (sym (register-so w)) (subst (λ (r : Written). Writes (text (registerAt (x .syntax .service) (x .at) (w .u) (w .ms))) out r out′) (sym (q .0)) (writes-done long l h (q .1)))
+      pub write-fit : {r : Written} {out′ : List ℕ} → b ≡ false → (r ≡ Length m) × Laid out 0 (registerAt (x .syntax .service) (x .at) (w .u) (w .ms)) m out′ → Writes (registerOf s) out r out′
+      write-fit {r} {out′} h q =
+          subst (λ (t : Text). Writes t out r out′) (sym (register-so w))
+          (subst (λ (r : Written). Writes (text (registerAt (x .syntax .service) (x .at) (w .u) (w .ms))) out r out′) (sym (q .0)) (writes-fit long d h (q .1)))
 
     -- the check: it is compared with what would be written
     pub check-long : (r : List ℕ) → 65535 < m → checkRefused 13 0 ≡ checkedAs (registerOf s) r

@@ -27,6 +27,7 @@ use walk::sections::next_section;
 use walk::sections::unread;
 use writing::Written;
 use writing::refused;
+use writing::too_long;
 
 pub enum Checked {
     Same,
@@ -154,10 +155,7 @@ fn write_from(s: &[u8], from: usize, t: &[u8; 256], y: Syntax, out: &mut [u8]) -
     match lay(s, from, t, y, &mut none) {
         Written::Refused(f) => Written::Refused(f),
         Written::Length(m) => {
-            if 65535 < m {
-                return refused(15);
-            }
-            if out.len() < m {
+            if too_long(out.len(), m) {
                 return refused(15);
             }
             fill(s, from, t, y, m, out)

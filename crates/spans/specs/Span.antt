@@ -5,12 +5,12 @@ use mathlib.Core.Option.{Option, none, some}
 use Rattle.syntax.specs.declared.Service.{Service}
 use Rattle.grammar.specs.Lists.{Snoc, nil, _▷_, _+++_, any, Rule, test, check, every}
 use Rattle.grammar.specs.Interchange.{Leaf, msg, Message, message, idle, shown}
-use Rattle.grammar.specs.Rules.{auto}
+use Rattle.grammar.specs.Rules.{autack}
 use Rattle.grammar.specs.Places.{wide}
 
 -- a message of type AUTACK
-abbrev pub autoM : Message → Bool
-autoM (message (msg h hs b ts) t) = auto h
+abbrev pub autackM : Message → Bool
+autackM (message (msg h hs b ts) t) = autack h
 
 -- the messages before the run, those of the run, and those behind it
 pub data Parted : Type 0 where
@@ -18,15 +18,15 @@ pub data Parted : Type 0 where
 
 -- one message more. The run begins with the first that is no AUTACK, and each later one that is none draws into the run what lay behind it
 abbrev pub joinedBy : Parted → Message → Parted
-joinedBy (parted b nil a) m = cond (autoM m) (parted (b ▷ m) nil nil) (parted b (nil ▷ m) nil)
-joinedBy (parted b (r ▷ x) a) m = cond (autoM m) (parted b (r ▷ x) (a ▷ m)) (parted b (r ▷ x +++ a ▷ m) nil)
+joinedBy (parted b nil a) m = cond (autackM m) (parted (b ▷ m) nil nil) (parted b (nil ▷ m) nil)
+joinedBy (parted b (r ▷ x) a) m = cond (autackM m) (parted b (r ▷ x) (a ▷ m)) (parted b (r ▷ x +++ a ▷ m) nil)
 
 abbrev pub partedOf : Snoc Message → Parted
 partedOf nil = parted nil nil nil
 partedOf (ms ▷ m) = joinedBy (partedOf ms) m
 
 abbrev pub other : Message → Rule
-other m = test (not (autoM m))
+other m = test (not (autackM m))
 
 -- "An F01 run fails with 13 if .. it holds no message or an AUTACK lies inside it."
 abbrev pub runRight : Snoc Message → Bool

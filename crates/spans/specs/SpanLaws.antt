@@ -7,10 +7,10 @@ use mathlib.Core.Path.{_≡_, refl, ap, sym, _∙_, subst}
 use Rattle.grammar.specs.Lists.{Snoc, nil, _▷_, _+++_, any, Rule, test, holds, every}
 use Rattle.grammar.specs.Interchange.{Message}
 use Rattle.grammar.specs.PlacingLaws.{regroup}
-use Rattle.spans.specs.Span.{autoM, Parted, parted, joinedBy, partedOf}
+use Rattle.spans.specs.Span.{autackM, Parted, parted, joinedBy, partedOf}
 
 abbrev pub autack : Message → Rule
-autack m = test (autoM m)
+autack m = test (autackM m)
 
 -- the first of the messages s and m
 abbrev firstWith : Snoc Message → Message → Message
@@ -32,8 +32,8 @@ pub record Parts (ms b r a : Snoc Message) : Type 0 where
   pub before : holds (every autack b)
   pub behind : holds (every autack a)
   -- the first message of the run and the last are none
-  pub first : (m : Message) → firstOf r ≡ some m → autoM m ≡ false
-  pub last : (m : Message) → lastOf r ≡ some m → autoM m ≡ false
+  pub first : (m : Message) → firstOf r ≡ some m → autackM m ≡ false
+  pub last : (m : Message) → lastOf r ≡ some m → autackM m ≡ false
   -- where there is no run, all lie before it
   pub alone : any r ≡ false → a ≡ nil
 
@@ -50,16 +50,16 @@ first-kept r x (a ▷ n) m = first-kept r x a n
 no-message : {A : Type 0} {m : Message} → _≡_ {A = Option Message} none (some m) → A
 no-message e = let z : _≡_ {A = ℕ} 0 1 = cc in absurd (omega arith)
 
-same-message : {m k : Message} → _≡_ {A = Option Message} (some m) (some k) → autoM m ≡ false → autoM k ≡ false
-same-message {m} {k} q e = let z : k ≡ m = cc in ap autoM z ∙ e
+same-message : {m k : Message} → _≡_ {A = Option Message} (some m) (some k) → autackM m ≡ false → autackM k ≡ false
+same-message {m} {k} q e = let z : k ≡ m = cc in ap autackM z ∙ e
 
 parts-on : (ms : Snoc Message) (m : Message) (q : Parted) → PartsOf ms q → PartsOf (ms ▷ m) (joinedBy q m)
-parts-on ms m (parted b nil a) p = by (autoM m) refl
+parts-on ms m (parted b nil a) p = by (autackM m) refl
   where
     ends : ms ≡ b
     ends = p .whole ∙ ap (λ (s : Snoc Message). b +++ s) (p .alone refl)
 
-    by : (c : Bool) → autoM m ≡ c → PartsOf (ms ▷ m) (cond c (parted (b ▷ m) nil nil) (parted b (nil ▷ m) nil))
+    by : (c : Bool) → autackM m ≡ c → PartsOf (ms ▷ m) (cond c (parted (b ▷ m) nil nil) (parted b (nil ▷ m) nil))
     by true e = record {
       whole = ap (λ (s : Snoc Message). s ▷ m) ends;
       before = (p .before, rw e tt);
@@ -76,9 +76,9 @@ parts-on ms m (parted b nil a) p = by (autoM m) refl
       last = λ k q. same-message q e;
       alone = λ n. refl;
     }
-parts-on ms m (parted b (r ▷ x) a) p = by (autoM m) refl
+parts-on ms m (parted b (r ▷ x) a) p = by (autackM m) refl
   where
-    by : (c : Bool) → autoM m ≡ c → PartsOf (ms ▷ m) (cond c (parted b (r ▷ x) (a ▷ m)) (parted b (r ▷ x +++ a ▷ m) nil))
+    by : (c : Bool) → autackM m ≡ c → PartsOf (ms ▷ m) (cond c (parted b (r ▷ x) (a ▷ m)) (parted b (r ▷ x +++ a ▷ m) nil))
     by true e = record {
       whole = ap (λ (s : Snoc Message). s ▷ m) (p .whole);
       before = p .before;

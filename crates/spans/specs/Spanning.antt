@@ -53,7 +53,7 @@ stepOf Broken a unh end = Broken
 -- a section more: only a message that it closed counts
 abbrev pub sectionOf : Sofar → Bool → Layout → Sofar
 sectionOf k false c = k
-sectionOf k true c = stepOf k (c .auto) (c .unh) (c .end)
+sectionOf k true c = stepOf k (c .autack) (c .unh) (c .end)
 
 -- ---- at the end
 

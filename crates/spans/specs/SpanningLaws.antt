@@ -1,7 +1,7 @@
 -- Laws of the walk for the F01 run: a message more, a section more, and the end.
 use Prim.Native.Nat.{ℕ, _+_, _≤_}
 use native.Mathlib.Omega.{arith}
-use mathlib.Core.Bool.{Bool, true, false, cond, not, _&&_}
+use mathlib.Core.Bool.{Bool, true, false, cond, not, _&&_, and-true, and-false}
 use mathlib.Core.List.{List}
 use mathlib.Core.Option.{Option, none, some}
 use mathlib.Core.Path.{_≡_, refl, ap, sym, _∙_, subst}
@@ -18,9 +18,9 @@ use Rattle.grammar.specs.PlacesLaws.{wide-join}
 use Rattle.grammar.specs.TestLaws.{is-true}
 use Rattle.grammar.specs.Verdict.{read}
 use Rattle.walk.specs.RunLaws.{Fresh, answerFrom, Walking, ReadAll, unreadAs}
-use Rattle.walk.specs.Sections.{autoO, Stays, begins, ends, breaks, SectionBy, Passing}
+use Rattle.walk.specs.Sections.{autackO, Stays, begins, ends, breaks, SectionBy, Passing}
 use Rattle.walk.specs.SectionLaws.{Looping, looping-start, looping-on, unread-start}
-use Rattle.spans.specs.Span.{autoM, Parted, parted, joinedBy, partedOf, other, runRight, Span, span, spanBy}
+use Rattle.spans.specs.Span.{autackM, Parted, parted, joinedBy, partedOf, other, runRight, Span, span, spanBy}
 use Rattle.spans.specs.SpanLaws.{PartsOf, parts}
 use Rattle.spans.specs.Spanning.{sofarBy, sofarAt, stepOf, sectionOf, startOf, endOf, toldAs, WholeBy, SpanIs}
 use Rattle.walk.specs.declared.sections.Section.{Section}
@@ -32,21 +32,13 @@ use Rattle.spans.specs.declared.span.Spanned.{Spanned}
 
 -- ---- whether a run is right, with a message more
 
-and-true : (b : Bool) → (b && true) ≡ b
-and-true true = refl
-and-true false = refl
-
-and-false : (b : Bool) → (b && false) ≡ false
-and-false true = refl
-and-false false = refl
-
 -- a message that is no AUTACK leaves the run as right as it was
-right-more : (r : Snoc Message) (x m : Message) → autoM m ≡ false → runRight (r ▷ x ▷ m) ≡ runRight (r ▷ x)
+right-more : (r : Snoc Message) (x m : Message) → autackM m ≡ false → runRight (r ▷ x ▷ m) ≡ runRight (r ▷ x)
 right-more r x m e = ap (λ (b : Bool). check (every other (r ▷ x)) && not b) e ∙ and-true (check (every other (r ▷ x)))
 
 -- an AUTACK drawn into it breaks it
-right-broken : (r : Snoc Message) (n m : Message) → T (autoM n) → runRight (r ▷ n ▷ m) ≡ false
-right-broken r n m t = ap (λ (b : Bool). check (every other r) && not b && not (autoM m)) (is-true (autoM n) t) ∙ ap (λ (b : Bool). b && not (autoM m)) (and-false (check (every other r)))
+right-broken : (r : Snoc Message) (n m : Message) → T (autackM n) → runRight (r ▷ n ▷ m) ≡ false
+right-broken r n m t = ap (λ (b : Bool). check (every other r) && not b && not (autackM m)) (is-true (autackM n) t) ∙ ap (λ (b : Bool). b && not (autackM m)) (and-false (check (every other r)))
 
 -- ---- what is kept, with a message more
 
@@ -82,29 +74,29 @@ module _ (σ : Service) (p : ℕ) (u : Leaf) where
   abbrev runOf : Snoc Message → Snoc Message → Run
   runOf b r = record { start = behindAt b; end = behindAt (b +++ r) }
 
-  sofar-on : (ms : Snoc Message) (m : Message) (q : Parted) → PartsOf ms q → sofarBy σ p u (joinedBy q m) ≡ stepOf (sofarBy σ p u q) (autoM m) (behindAt ms) (behindAt (ms ▷ m))
-  sofar-on ms m (parted b nil a) h = by (autoM m) refl
+  sofar-on : (ms : Snoc Message) (m : Message) (q : Parted) → PartsOf ms q → sofarBy σ p u (joinedBy q m) ≡ stepOf (sofarBy σ p u q) (autackM m) (behindAt ms) (behindAt (ms ▷ m))
+  sofar-on ms m (parted b nil a) h = by (autackM m) refl
     where
       before : b ≡ ms
       before = sym (h .whole ∙ ap (λ (s : Snoc Message). b +++ s) (h .alone refl))
 
-      by : (c : Bool) → autoM m ≡ c → sofarBy σ p u (cond c (parted (b ▷ m) nil nil) (parted b (nil ▷ m) nil)) ≡ stepOf Before c (behindAt ms) (behindAt (ms ▷ m))
+      by : (c : Bool) → autackM m ≡ c → sofarBy σ p u (cond c (parted (b ▷ m) nil nil) (parted b (nil ▷ m) nil)) ≡ stepOf Before c (behindAt ms) (behindAt (ms ▷ m))
       by true e = refl
       by false e =
           ap (λ (g : Bool). cond (not g) (Inside (runOf b (nil ▷ m))) Broken) e
           ∙ ap (λ (s : Snoc Message). Inside (record { start = behindAt s; end = behindAt (s ▷ m) })) before
-  sofar-on ms m (parted b (r ▷ x) nil) h = by (autoM m) refl
+  sofar-on ms m (parted b (r ▷ x) nil) h = by (autackM m) refl
     where
-      by : (c : Bool) → autoM m ≡ c
+      by : (c : Bool) → autackM m ≡ c
           → sofarBy σ p u (cond c (parted b (r ▷ x) (nil ▷ m)) (parted b (r ▷ x ▷ m) nil)) ≡ stepOf (sofarBy σ p u (parted b (r ▷ x) nil)) c (behindAt ms) (behindAt (ms ▷ m))
       by true e = kept-behind (runOf b (r ▷ x)) (behindAt ms) (behindAt (ms ▷ m)) (runRight (r ▷ x))
       by false e =
           ap (λ (g : Bool). cond g (Inside (runOf b (r ▷ x ▷ m))) Broken) (right-more r x m e)
           ∙ ap (λ (s : Snoc Message). cond (runRight (r ▷ x)) (Inside (record { start = behindAt b; end = behindAt (s ▷ m) })) Broken) (sym (h .whole))
           ∙ kept-inside (runOf b (r ▷ x)) (behindAt ms) (behindAt (ms ▷ m)) (runRight (r ▷ x))
-  sofar-on ms m (parted b (r ▷ x) (a ▷ n)) h = by (autoM m) refl
+  sofar-on ms m (parted b (r ▷ x) (a ▷ n)) h = by (autackM m) refl
     where
-      by : (c : Bool) → autoM m ≡ c
+      by : (c : Bool) → autackM m ≡ c
           → sofarBy σ p u (cond c (parted b (r ▷ x) (a ▷ n ▷ m)) (parted b (r ▷ x +++ (a ▷ n) ▷ m) nil))
           ≡ stepOf (sofarBy σ p u (parted b (r ▷ x) (a ▷ n))) c (behindAt ms) (behindAt (ms ▷ m))
       by true e = kept-still (runOf b (r ▷ x)) (behindAt ms) (behindAt (ms ▷ m)) (runRight (r ▷ x))
@@ -157,8 +149,8 @@ stays-sofar σ p (begins u) = refl
 stays-sofar σ p (ends u ms z) = refl
 stays-sofar σ p (breaks u ms o) = refl
 
-auto-closed : (o : Open) (t : Leaf) → autoM (message o t) ≡ autoO o
-auto-closed (msg h hs b ts) t = refl
+autack-closed : (o : Open) (t : Leaf) → autackM (message o t) ≡ autackO o
+autack-closed (msg h hs b ts) t = refl
 
 -- where a message ends that stands behind others
 closed-wide : (σ : Service) (u : Leaf) (ms : Snoc Message) (o : Open) (t : Leaf)
@@ -195,7 +187,7 @@ module _ {y : Syntax} {s : List ℕ} {from : ℕ} {x : State} {h l b : List ℕ}
           let z = v .4 .1 in
           let a = v .4 .2 in
           let n = w .placed ∙ ap (λ (r : Reading). from + wide (y .service) (shown r)) e in
-          let d : c .layout .auto ≡ autoM (message o t) = a .auto ∙ sym (auto-closed o t) in
+          let d : c .layout .autack ≡ autackM (message o t) = a .autack ∙ sym (autack-closed o t) in
           let f : c .layout .unh ≡ from + wide (y .service) (shown (idle u ms)) = a .unh ∙ n in
           let j : c .layout .end ≡ from + wide (y .service) (shown (idle u (ms ▷ message o t))) =
           let a1 = a .end in
@@ -211,7 +203,7 @@ module _ {y : Syntax} {s : List ℕ} {from : ℕ} {x : State} {h l b : List ℕ}
     where
       by : (f : Bool) → SectionBy f y s i (w .tree) (g .walks .tree) (c .layout) rows → endOf (sectionOf k f (c .layout)) ≤ length s
       by false v = n
-      by true v = ends-within k (c .layout .auto) (c .layout .unh) (c .layout .end) (length s) n (v .4 .2 .inside)
+      by true v = ends-within k (c .layout .autack) (c .layout .unh) (c .layout .end) (length s) n (v .4 .2 .inside)
 
 -- ---- the walk: what holds at its head
 

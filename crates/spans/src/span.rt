@@ -36,12 +36,12 @@ enum Sofar {
 }
 
 // One message more, from its UNH at `unh` to `end`.
-fn joined(k: Sofar, auto: bool, unh: usize, end: usize) -> Sofar
-    ensures { λ r. ⌜ r ≡ stepOf k auto unh end ⌝ }
+fn joined(k: Sofar, autack: bool, unh: usize, end: usize) -> Sofar
+    ensures { λ r. ⌜ r ≡ stepOf k autack unh end ⌝ }
 {
     match k {
         Sofar::Before => {
-            if auto {
+            if autack {
                 return Sofar::Before;
             }
             Sofar::Inside(Run {
@@ -50,7 +50,7 @@ fn joined(k: Sofar, auto: bool, unh: usize, end: usize) -> Sofar
             })
         }
         Sofar::Inside(x) => {
-            if auto {
+            if autack {
                 return Sofar::Behind(x);
             }
             Sofar::Inside(Run {
@@ -59,7 +59,7 @@ fn joined(k: Sofar, auto: bool, unh: usize, end: usize) -> Sofar
             })
         }
         Sofar::Behind(x) => {
-            if auto {
+            if autack {
                 return Sofar::Behind(x);
             }
             Sofar::Broken
@@ -73,7 +73,7 @@ fn after_section(k: Sofar, closed: bool, c: Layout) -> Sofar
     ensures { λ r. ⌜ r ≡ sectionOf k closed c ⌝ }
 {
     if closed {
-        return joined(k, c.auto, c.unh, c.end);
+        return joined(k, c.autack, c.unh, c.end);
     }
     k
 }

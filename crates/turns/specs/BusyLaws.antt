@@ -154,7 +154,7 @@ module _ (u : List ℕ) (rs : Snoc (List ℕ)) (S : Summary) (a : Asked) (p : �
   rest-is Unh n m l = absurd (false≢true m)
   rest-is Unt n m l = absurd (false≢true (sym n))
   rest-is Unz n m l = absurd (false≢true m)
-  rest-is Ush n m l = ush-rest (not (among (S .refs) (a .text 2 0))) (scopeCode (S .m .auto) (a .text 3 0)) (l refl)
+  rest-is Ush n m l = ush-rest (not (among (S .refs) (a .text 2 0))) (scopeCode (S .m .autack) (a .text 3 0)) (l refl)
   rest-is Usa n m l = load-go (l refl) _
   rest-is Usc n m l = load-go (l refl) _
   rest-is Usr n m l = load-go (l refl) _
@@ -202,7 +202,7 @@ module _ (S : Summary) (a : Asked) where
   step-grows Unh h = refl
   step-grows Unt h = refl
   step-grows Unz h = refl
-  step-grows Ush h = ush-grows (not (among (S .refs) (a .text 2 0))) (scopeCode (S .m .auto) (a .text 3 0))
+  step-grows Ush h = ush-grows (not (among (S .refs) (a .text 2 0))) (scopeCode (S .m .autack) (a .text 3 0))
   step-grows Usa h = refl
   step-grows Usc h = refl
   step-grows Usr h = usr-grows (S .m .group) h

@@ -15,7 +15,7 @@ use Rattle.grammar.specs.Segments as segments
 use Rattle.grammar.specs.Segments.{Name, Named, Free, Asked, asked, text, number, reference, second, elementsOf, tagText}
 use Rattle.grammar.specs.Interchange.{Leaf, certificate, Header, header, Trailer, trailer, link, Body, plain, ack, Open, msg, Message, message, Reading, start, idle, busy, done, showOpen}
 use Rattle.grammar.specs.Loads.{loads, controls, loadIn, controlIn}
-use Rattle.grammar.specs.Rules.{insideS, order, formedS, refs, counts, scopes, amountS, auto, refH, refT, refM, isFree, okItem, whole, filled, one, counted, total, scopeRight}
+use Rattle.grammar.specs.Rules.{insideS, order, formedS, refs, counts, scopes, amountS, autack, refH, refT, refM, isFree, okItem, whole, filled, one, counted, total, scopeRight}
 use Rattle.grammar.specs.RuleLaws.{check-holds, holds-check}
 use Rattle.grammar.specs.Placing.{growNamed, grow, place, inOpen, inBody, itemB}
 use Rattle.grammar.specs.PlacingLaws.{same-eq}
@@ -60,7 +60,7 @@ module _ (y : Syntax) (u : Leaf) (ms : Snoc Message) (g : Segment) where
       (λ i. alike (refs z) (test (not (among (each refH hs) (second (elementsOf g)))))
       (λ p. p .1 .1 .0 .1) (λ p. (q .nine .0, (q .nine .1 .0, ((q .nine .1 .1 .0, p), q .nine .1 .1 .1)))))
       (λ i j. holds-check (counts z) (q .ten))
-      (λ i. alike (scopes z) (scopeRight (auto h) (header (elementsOf g) nil nil)) (λ p. p .1 .1) (λ p. (q .eleven .0, (q .eleven .1, p))))
+      (λ i. alike (scopes z) (scopeRight (autack h) (header (elementsOf g) nil nil)) (λ p. p .1 .1) (λ p. (q .eleven .0, (q .eleven .1, p))))
       (λ i j. refl)
   ush (msg h hs (plain (b ▷ i)) nil) q = nowhere refl
   ush (msg h hs (ack d ls) nil) q = nowhere refl
@@ -140,14 +140,14 @@ module _ (y : Syntax) (u : Leaf) (ms : Snoc Message) (g : Segment) where
 
   -- what a trailer or UNT asks of the body: nothing after a trailer
   ends : (h : Leaf) (hs : Snoc Header) (b : Body) (ts : Snoc Trailer) → Good y (busy u ms (msg h hs b ts))
-      → check (whole (auto h) b) ≡ closes (auto h) (groupOf (msg h hs b ts))
+      → check (whole (autack h) b) ≡ closes (autack h) (groupOf (msg h hs b ts))
   ends h nil (plain nil) nil q = refl
   ends h (hs ▷ header d us nil) (plain nil) nil q = refl
   ends h (hs ▷ header d us (cs ▷ certificate e vs r)) (plain nil) nil q = refl
-  ends h hs (plain (b ▷ i)) nil q = holds-check (test (not (auto h))) (q .seven .1 .1 .1 .0 .0)
+  ends h hs (plain (b ▷ i)) nil q = holds-check (test (not (autack h))) (q .seven .1 .1 .1 .0 .0)
   ends h hs (ack d nil) nil q = refl
   ends h hs (ack d (ls ▷ link e ys)) nil q = alike (every filled (ls ▷ link e ys)) (test (any ys)) (λ p. p .1) (λ p. (q .seven .1 .1 .1 .0 .1 .1, p))
-  ends h hs b (ts ▷ trailer t r) q = holds-check (whole (auto h) b) (q .seven .1 .1 .1 .1)
+  ends h hs b (ts ▷ trailer t r) q = holds-check (whole (autack h) b) (q .seven .1 .1 .1 .1)
 
   -- what the search for the header that a UST names finds
   ust-found : (hs : Snoc Header) (names : Snoc (List ℕ)) (o : Option ℕ) → Spot (reference (elementsOf g)) hs names o
@@ -173,7 +173,7 @@ module _ (y : Syntax) (u : Leaf) (ms : Snoc Message) (g : Segment) where
   ust (msg h hs b ts) q =
       let z : Reading = busy u ms (msg h hs b (ts ▷ trailer (elementsOf g) none)) in
       here z
-      (alike (order z) (whole (auto h) b)
+      (alike (order z) (whole (autack h) b)
       (λ p. p .1 .1 .1 .1) (λ p. (q .seven .0, (q .seven .1 .0, (q .seven .1 .1 .0, (q .seven .1 .1 .1 .0, p)))))
       ∙ ends h hs b ts q)
       (λ i. ust-refs h hs b ts q)
@@ -186,9 +186,9 @@ module _ (y : Syntax) (u : Leaf) (ms : Snoc Message) (g : Segment) where
       let z : Reading = busy u ms (msg h hs (ack (elementsOf g) nil) nil) in
       here z
       (rw (heads h hs)
-      (alike (order z) (test (auto h) and test (any hs))
+      (alike (order z) (test (autack h) and test (any hs))
       (λ p. (p .1 .1 .1 .0 .0, p .1 .1 .1 .0 .1 .0)) (λ p. (q .seven .0, (q .seven .1 .0, (q .seven .1 .1 .0, ((p .0, (p .1, tt)), tt)))))
-      ∙ ap (λ (b : Bool). auto h && b) (any-size refH hs)))
+      ∙ ap (λ (b : Bool). autack h && b) (any-size refH hs)))
       (λ i. holds-check (refs z) (q .nine))
       (λ i j. holds-check (counts z) (q .ten))
       (λ i. holds-check (scopes z) (q .eleven))
@@ -242,7 +242,7 @@ module _ (y : Syntax) (u : Leaf) (ms : Snoc Message) (g : Segment) where
   unt (msg h hs b ts) q =
       let z : Reading = idle u (ms ▷ message (msg h hs b ts) (elementsOf g)) in
       here z
-      (alike (order z) (whole (auto h) b) (λ p. p .1 .1) (λ p. (q .seven .0, (q .seven .1, p))) ∙ ends h hs b ts q)
+      (alike (order z) (whole (autack h) b) (λ p. p .1 .1) (λ p. (q .seven .0, (q .seven .1, p))) ∙ ends h hs b ts q)
       (λ i. alike (refs z) (test (same (second (elementsOf g)) (reference h)) and every (one (each refT ts)) (each refH hs))
       (λ p. p .1 .1 .1) (λ p. (q .nine .0, (q .nine .1 .0, (q .nine .1 .1, p))))
       ∙ ap (λ (n : Bool). same (second (elementsOf g)) (reference h) && n) (all-named (each refT ts) (each refH hs)))
@@ -279,9 +279,9 @@ module _ (y : Syntax) (u : Leaf) (ms : Snoc Message) (g : Segment) where
 
   -- 7 asks only that the message is no AUTACK; and what is kept then, given its sums
   item-placed : (h : Leaf) (hs : Snoc Header) (b : Snoc Segment) → Good y (busy u ms (msg h hs (plain b) nil)) → holds (every okItem b) → T (isFree (segments.kindOf g))
-      → check (order (busy u ms (msg h hs (plain (b ▷ g)) nil))) ≡ not (auto h)
+      → check (order (busy u ms (msg h hs (plain (b ▷ g)) nil))) ≡ not (autack h)
   item-placed h hs b q e f =
-      alike (order (busy u ms (msg h hs (plain (b ▷ g)) nil))) (test (not (auto h)))
+      alike (order (busy u ms (msg h hs (plain (b ▷ g)) nil))) (test (not (autack h)))
       (λ p. p .1 .1 .1 .0 .0) (λ p. (q .seven .0, (q .seven .1 .0, (q .seven .1 .1 .0, ((p, (e, f)), tt)))))
 
   item-next : (h : Leaf) (hs : Snoc Header) (b : Snoc Segment) (s : Sums) → sumsOf (plain (b ▷ g)) ≡ s

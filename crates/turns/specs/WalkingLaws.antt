@@ -278,7 +278,7 @@ module _ (y : Syntax) (s : List ℕ) (st : State) (h l b : List ℕ) (at next : 
           stop (y .service .release) s h l′ b next (at-9 (y .version) here ask at unh-order (sym e ∙ not-false q n) (unh-refs used)) d
 
       module _ {l′ : List ℕ} {k : ℕ} (o : Fitting l b (st .count) (content (y .service .release) x) k l′) {z : List ℕ} (name : z ≡ partOf s (componentAt (y .service) s at 2 0))
-          {c : Bool} (auto : c ≡ same (content (y .service .release) z) (octets "AUTACK")) {m : Message} (new : m ≡ fresh c)
+          {c : Bool} (autack : c ≡ same (content (y .service .release) z) (octets "AUTACK")) {m : Message} (new : m ≡ fresh c)
           {w : Stretch} (u : w ≡ stretchIn marks 1) where
         unh-part : slice (w .start) (w .end) s ≡ x
         unh-part = between (g .noted refl .marks) 1 (omega arith) (omega arith) u ∙ sym field
@@ -305,7 +305,7 @@ module _ (y : Syntax) (s : List ℕ) (st : State) (h l b : List ℕ) (at next : 
         unh-is : stateIn (y .service .release) s (afterUnh st k w m) h l′ ≡ nextS here ask
         unh-is =
             ap (λ (x : Summary). busyS unbs (refsIn l′ (st .count)) x)
-            (fresh-summary (y .service .release) s h (w .start) (w .end) ask new (auto ∙ ap (λ (t : List ℕ). same (content (y .service .release) t) (octets "AUTACK")) name)
+            (fresh-summary (y .service .release) s h (w .start) (w .end) ask new (autack ∙ ap (λ (t : List ℕ). same (content (y .service .release) t) (octets "AUTACK")) name)
             (ap (content (y .service .release)) (between (g .noted refl .marks) 1 (omega arith) (omega arith) u)))
             ∙ ap (λ (rs : Snoc (List ℕ)). busyS unbs rs (opened ask)) (o .same)
             ∙ sym (by (λ (x : StateS) (k : Kind). nextK x k ask) (idle-here ph) (g .kind))

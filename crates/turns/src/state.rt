@@ -336,8 +336,8 @@ fn on_unh(
     ) {
         Found::Nothing => stopped(9, at),
         Found::At(i) => {
-            let auto = content_is(field(s, at, y, marks, 2, 0), v.release, b"AUTACK");
-            let m = fresh_message(auto);
+            let autack = content_is(field(s, at, y, marks, 2, 0), v.release, b"AUTACK");
+            let m = fresh_message(autack);
             Step::On(after_unh(st, i, stretch_in(marks, 1), m))
         }
     }

@@ -7,7 +7,7 @@ use Rattle.grammar.specs.Segments.{text}
 use Rattle.grammar.specs.Interchange.{Leaf, Header, header, Trailer, trailer, Body, Open, message}
 use Rattle.grammar.specs.Verdict.{verdictOf}
 use Rattle.grammar.specs.Named.{Placed, placed}
-use Rattle.walk.specs.Sections.{autoO}
+use Rattle.walk.specs.Sections.{autackO}
 use Rattle.writing.specs.Written.{Text, noText}
 use Rattle.filters.specs.Filters.{valueBy, orBad}
 use Rattle.groups.specs.Groups.{Chosen, chosen}
@@ -42,7 +42,7 @@ abbrev pub linkText : Body → List ℕ → List ℕ
 linkText b r = usyText (tieIn b r)
 
 abbrev pub valueText : Open → List ℕ → List ℕ
-valueText o r = cond (autoO o) (linkText (bodyIn o) r) (trailerText o r)
+valueText o r = cond (autackO o) (linkText (bodyIn o) r) (trailerText o r)
 
 -- ---- the call: 1 to 12, then 13 where there is no such message or header, then 14
 

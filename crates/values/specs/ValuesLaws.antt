@@ -27,7 +27,7 @@ use Rattle.grammar.specs.Places.{wide}
 use Rattle.grammar.specs.Named.{Placed, placed}
 use Rattle.walk.specs.Layout.{headsAt, tailAt}
 use Rattle.walk.specs.RunLaws.{long-print}
-use Rattle.walk.specs.Sections.{autoO}
+use Rattle.walk.specs.Sections.{autackO}
 use Rattle.walk.specs.declared.sections.Layout.{Layout}
 use Rattle.writing.specs.Written.{Text, noText, Writes}
 use Rattle.filters.specs.Filters.{valueBy, orBad}
@@ -125,11 +125,11 @@ module _ {s m : List ℕ} {y : Syntax} {c : Layout} {rows : List ℕ} (h : Holds
         ap (content (y .service .release)) d ∙ ap (λ (v : Asked). v .text 2 1) (stand-asked (y .service) s (x .usy) (h .fits) (seg Usy (t .y)) (t .usy))
         ∙ sym (ap usyText (t .tied))
 
-  pub text-linked : (z : List ℕ) → c .auto ≡ true → content (y .service .release) z ≡ linkText (bodyIn (h .o)) r → content (y .service .release) z ≡ valueText (h .o) r
-  text-linked z e d = d ∙ sym (ap (λ (b : Bool). cond b (linkText (bodyIn (h .o)) r) (trailerText (h .o) r)) (sym (h .laid .auto) ∙ e))
+  pub text-linked : (z : List ℕ) → c .autack ≡ true → content (y .service .release) z ≡ linkText (bodyIn (h .o)) r → content (y .service .release) z ≡ valueText (h .o) r
+  text-linked z e d = d ∙ sym (ap (λ (b : Bool). cond b (linkText (bodyIn (h .o)) r) (trailerText (h .o) r)) (sym (h .laid .autack) ∙ e))
 
-  pub text-trailed : (z : List ℕ) → c .auto ≡ false → content (y .service .release) z ≡ trailerText (h .o) r → content (y .service .release) z ≡ valueText (h .o) r
-  text-trailed z e d = d ∙ sym (ap (λ (b : Bool). cond b (linkText (bodyIn (h .o)) r) (trailerText (h .o) r)) (sym (h .laid .auto) ∙ e))
+  pub text-trailed : (z : List ℕ) → c .autack ≡ false → content (y .service .release) z ≡ trailerText (h .o) r → content (y .service .release) z ≡ valueText (h .o) r
+  text-trailed z e d = d ∙ sym (ap (λ (b : Bool). cond b (linkText (bodyIn (h .o)) r) (trailerText (h .o) r)) (sym (h .laid .autack) ∙ e))
 
 -- ---- the call
 

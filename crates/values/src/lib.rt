@@ -98,7 +98,7 @@ fn value_text<'a>(
     requires { ⌜ T (fit (y .service)) × (c .trailers ≤ 9) × (length (now rows) ≡ 18) ⌝ }
     ensures { λ r. ⌜ ((m : List ℕ) (h : Holds (now (s .entry)) m y c (now (rows .entry))) → content (y .service .release) (now r) ≡ valueText (h .o) (now (header .entry))) ⌝ }
 {
-    if c.auto {
+    if c.autack {
         return link_text(s, t, y, c, header);
     }
     trailer_text(s, t, y, c, rows, header)

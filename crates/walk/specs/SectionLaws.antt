@@ -44,7 +44,7 @@ use Rattle.turns.specs.Held.{phased, stateIn}
 use Rattle.walk.specs.Layout.{spotsOf, spotStep, rowStep, RowRoom, Rows}
 use Rattle.walk.specs.LayoutLaws.{place-on, spots-on, spots-open, rows-on, rows-open, room-on}
 use Rattle.walk.specs.RunLaws.{unreadAs, isBusy, Fresh as Empty, answerFrom, Walking, ReadAll, Onward, long-print, walking-start, unread-idle}
-use Rattle.walk.specs.Sections.{nameableIn, laidOut, autoO, Stays, begins, ends, breaks, Within, UntBy, AtUnt, SectionBy, Passing, SectionIs, UntIs, Between, ReachedIs}
+use Rattle.walk.specs.Sections.{nameableIn, laidOut, autackO, Stays, begins, ends, breaks, Within, UntBy, AtUnt, SectionBy, Passing, SectionIs, UntIs, Between, ReachedIs}
 use Rattle.walk.specs.declared.layout.Spots.{Spots}
 use Rattle.walk.specs.declared.sections.Layout.{Layout}
 use Rattle.walk.specs.declared.sections.Section.{Section}
@@ -155,8 +155,8 @@ kept-group (msg h hs b ts) = refl
 kept-headers : (o : Open) → keptOf o .headers ≡ size (headersIn o)
 kept-headers (msg h hs b ts) = each-size refH hs
 
-kept-auto : (o : Open) → keptOf o .auto ≡ autoO o
-kept-auto (msg h hs b ts) = refl
+kept-autack : (o : Open) → keptOf o .autack ≡ autackO o
+kept-autack (msg h hs b ts) = refl
 
 sums-loads : (b : Body) → sumsOf b .loads ≡ size (loadsB b)
 sums-loads (plain b) = refl
@@ -305,7 +305,7 @@ module _ {y : Syntax} {s : List ℕ} {from p : ℕ} {u : Leaf} {ms : Snoc Messag
                   headers = rw k (sym (ap (λ (m : Kept). m .headers) n) ∙ kept-headers (w .o));
                   trailers = rw (k, w .spots);
                   starts = w .starts;
-                  auto = rw k (sym (ap (λ (m : Kept). m .auto) n) ∙ kept-auto (w .o));
+                  autack = rw k (sym (ap (λ (m : Kept). m .autack) n) ∙ kept-autack (w .o));
                   loads = rw k (sym (ap (λ (m : Kept). m .sums .loads) n) ∙ kept-loads (w .o) (elementsOf (f .g)));
                   grams = rw k (sym (ap (λ (m : Kept). m .sums .grams) n) ∙ kept-grams (w .o) (elementsOf (f .g)));
                   reference = rw k (now-open .ref);

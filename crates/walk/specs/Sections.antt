@@ -15,7 +15,7 @@ use Rattle.syntax.specs.declared.Syntax.{Syntax}
 use Rattle.grammar.specs.Lists.{Snoc, nil, _▷_, size, sum}
 use Rattle.grammar.specs.Segments.{Unt, seg}
 use Rattle.grammar.specs.Interchange.{Leaf, Open, msg, Message, message, Reading, start, idle, busy, done, showOpen}
-use Rattle.grammar.specs.Rules.{auto, refO}
+use Rattle.grammar.specs.Rules.{autack, refO}
 use Rattle.grammar.specs.Verdict.{loadsM, refused}
 use Rattle.grammar.specs.Places.{wide, headersIn, trailersIn}
 use Rattle.walk.specs.Layout.{headsAt, bodyAt, tailAt, spotsOf, Rows}
@@ -41,7 +41,7 @@ laidOut x q at next = record {
   end = next;
   headers = x .message .headers;
   trailers = q .trailers;
-  auto = x .message .auto;
+  autack = x .message .autack;
   loads = x .message .sums .loads;
   grams = x .message .sums .grams;
   reference = x .unh;
@@ -56,8 +56,8 @@ abbrev pub endedAs : Bool → ℕ → Reached
 endedAs true i = Over
 endedAs false i = misplacedAs i
 
-abbrev pub autoO : Open → Bool
-autoO (msg h hs b ts) = auto h
+abbrev pub autackO : Open → Bool
+autackO (msg h hs b ts) = autack h
 
 -- ---- what is told of the message o, closed by the UNT t, whose UNH stands at p in the octets s
 
@@ -76,7 +76,7 @@ pub record Laid (σ : Service) (s : List ℕ) (p : ℕ) (o : Open) (t : Leaf) (c
   pub trailers : c .trailers ≡ size (trailersIn o)
   pub starts : Rows σ p o rows
   -- whether it is an AUTACK; its loads and their grams; its 0062
-  pub auto : c .auto ≡ autoO o
+  pub autack : c .autack ≡ autackO o
   pub loads : c .loads ≡ size (loadsM (message o t))
   pub grams : c .grams ≡ sum (loadsM (message o t))
   pub reference : content (σ .release) (slice (c .reference .start) (c .reference .end) s) ≡ refO o

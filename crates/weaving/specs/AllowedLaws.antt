@@ -16,7 +16,7 @@ use Rattle.grammar.specs.Interchange.{Header, Open, msg, showHeader}
 use Rattle.grammar.specs.Rules.{refH}
 use Rattle.grammar.specs.Places.{headersIn}
 use Rattle.walk.specs.Layout.{headsAt}
-use Rattle.walk.specs.Sections.{autoO}
+use Rattle.walk.specs.Sections.{autackO}
 use Rattle.walk.specs.declared.sections.Layout.{Layout}
 use Rattle.groups.specs.Groups.{Chosen, chosen, chosenBy, soughtIn, rangeOf}
 use Rattle.groups.specs.Parts.{headerNamed}
@@ -103,7 +103,7 @@ module _ {s m : List ℕ} {y : Syntax} {c : Layout} {rows : List ℕ} (h : Holds
 
 -- ---- "nine headers already; AUTACK"
 
-more-by : (o : Open) {a : Bool} {n : ℕ} → a ≡ autoO o → n ≡ size (headersIn o) → (not a && ltb n 9) ≡ takesMore o
+more-by : (o : Open) {a : Bool} {n : ℕ} → a ≡ autackO o → n ≡ size (headersIn o) → (not a && ltb n 9) ≡ takesMore o
 more-by (msg u hs b ts) {a} {n} e d = rw (← e, ← d) (ap (λ (x : Bool). not a && x) (less n))
   where
     less : (k : ℕ) → ltb k 9 ≡ leb k 8
@@ -123,9 +123,9 @@ module _ {s m : List ℕ} {y : Syntax} {c : Layout} {rows : List ℕ} (h : Holds
     pub seal-filter : b ≡ false → false ≡ maySeal (h .o) r f
     seal-filter z = rw (← e, d, ← k, z)
 
-    module _ {g : Bool} (z : b ≡ true) (l : g ≡ (not (c .auto) && ltb (c .headers) 9)) where
+    module _ {g : Bool} (z : b ≡ true) (l : g ≡ (not (c .autack) && ltb (c .headers) 9)) where
       pub seal-full : g ≡ false → false ≡ maySeal (h .o) r f
-      seal-full w = rw (← e, d, ← k, z, ← more-by (h .o) (h .laid .auto) (h .laid .headers), ← l, w)
+      seal-full w = rw (← e, d, ← k, z, ← more-by (h .o) (h .laid .autack) (h .laid .headers), ← l, w)
 
       pub seal-new : {x : Bool} → g ≡ true → x ≡ isNew (h .o) r → x ≡ maySeal (h .o) r f
-      seal-new w q = q ∙ rw (← e, d, ← k, z, ← more-by (h .o) (h .laid .auto) (h .laid .headers), ← l, w)
+      seal-new w q = q ∙ rw (← e, d, ← k, z, ← more-by (h .o) (h .laid .autack) (h .laid .headers), ← l, w)

@@ -15,7 +15,7 @@ use Rattle.syntax.specs.declared.Syntax.{Syntax}
 use Rattle.grammar.specs.Lists.{Snoc, nil, _▷_, _+++_, each, size, among, list}
 use Rattle.grammar.specs.Segments.{number}
 use Rattle.grammar.specs.Interchange.{Leaf, Header, header, Trailer, trailer, Open, msg, Message, message, showHeader, showBody}
-use Rattle.grammar.specs.Rules.{auto, refH, refM}
+use Rattle.grammar.specs.Rules.{autack, refH, refM}
 use Rattle.grammar.specs.Valid.{Interchange, interchange, print}
 use Rattle.writing.specs.Decimal.{decimalOf}
 use Rattle.filters.specs.Hex.{hexText}
@@ -97,7 +97,7 @@ filterRight f = eqb f 2 || eqb f 7
 
 -- ".. that isn't AUTACK", and has eight headers at most
 abbrev pub takesMore : Open → Bool
-takesMore (msg u hs b ts) = not (auto u) && leb (size hs) 8
+takesMore (msg u hs b ts) = not (autack u) && leb (size hs) 8
 
 -- "new in the message"
 abbrev pub isNew : Open → List ℕ → Bool

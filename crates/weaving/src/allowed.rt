@@ -75,9 +75,9 @@ fn is_new(
 
 // Whether the message can take a further seal.
 fn has_room(c: Layout) -> bool
-    ensures { λ r. ⌜ r ≡ (not (c .auto) && ltb (c .headers) 9) ⌝ }
+    ensures { λ r. ⌜ r ≡ (not (c .autack) && ltb (c .headers) 9) ⌝ }
 {
-    if c.auto {
+    if c.autack {
         return false;
     }
     c.headers < 9

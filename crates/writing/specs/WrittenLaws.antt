@@ -1,12 +1,12 @@
 -- A call that measures its text, refuses what is too long, and then lays it.
-use Prim.Native.Nat.{ℕ, _≤_, _<_}
+use Prim.Native.Nat.{ℕ, _≤_}
 use native.Mathlib.Omega.{arith}
 use mathlib.Core.Bool.{Bool, true, false, cond, false≢true}
 use mathlib.Core.List.{List}
 use mathlib.Core.Path.{_≡_, refl, sym, _∙_, subst}
 use lib.Dec.{ltb}
 use lib.ListN.{length}
-use borrow.Author.Tests.{lt-ltb, le-ltb, ltb-false}
+use borrow.Author.Tests.{ltb-false}
 use Rattle.writing.specs.Laid.{Laid}
 use Rattle.writing.specs.LaidLaws.{laid-front}
 use Rattle.writing.specs.Written.{text, noText, refusedAs, tooLong, Writes, Text}
@@ -40,14 +40,3 @@ module _ {t : List ℕ} {m : ℕ} (e : m ≡ length t) where
     writes-fit h g =
         let f : length t ≤ length out = omega (arith, e, room-for (length out) m (sym d ∙ h)) in
         record { answer = rw (← e, ← d, h); octets = laid-front g f ∙ rw (← e, ← d, h) }
-
-  pub writes-long : {out : List ℕ} {r : Written} → 65535 < m → r ≡ refusedAs 15 0 → Writes (text t) out r out
-  writes-long h q = record { answer = q ∙ rw (← e, lt-ltb _ _ h); octets = rw (← e, lt-ltb _ _ h) }
-
-  pub writes-full : {out : List ℕ} {r : Written} → m ≤ 65535 → length out < m → r ≡ refusedAs 15 0 → Writes (text t) out r out
-  writes-full l h q = record { answer = q ∙ rw (← e, le-ltb _ _ l, lt-ltb _ _ h); octets = rw (← e, le-ltb _ _ l, lt-ltb _ _ h) }
-
-  pub writes-done : {out out′ : List ℕ} {k : ℕ} → m ≤ 65535 → m ≤ length out → Laid out 0 t k out′ → Writes (text t) out (Length m) out′
-  writes-done {out} l h g =
-      let f : length t ≤ length out = omega arith in
-      record { answer = rw (← e, le-ltb _ _ l, le-ltb _ _ h); octets = laid-front g f ∙ rw (← e, le-ltb _ _ l, le-ltb _ _ h) }

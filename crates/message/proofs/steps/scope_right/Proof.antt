@@ -1,4 +1,4 @@
-use Rattle.message.specs.StepsLaws.{scope-auto, scope-one, scope-two}
+use Rattle.message.specs.StepsLaws.{scope-autack, scope-one, scope-two}
 use borrow.Author.Needs.{needs}
 use Rattle.message.proofs.steps.scope_right.Statement.{statement}
 use Rattle.message.proofs.steps.scope_right.Tie as tie
@@ -21,7 +21,7 @@ content-is-requires c κs = search needs
 
 -- src/steps.rt:35:9
 returns : tie.Need-returns
-returns c = scope-auto (c .before .before .before .before .before .before .before .args .y .service) (c .before .before .before .before .before .before .before .args .s .now) (c .before .before .before .before .before .before .before .args .at) (c .before .before .before .field .ensures) (c .before .before .if1 .taken) (c .content-is .ensures)
+returns c = scope-autack (c .before .before .before .before .before .before .before .args .y .service) (c .before .before .before .before .before .before .before .args .s .now) (c .before .before .before .before .before .before .before .args .at) (c .before .before .before .field .ensures) (c .before .before .if1 .taken) (c .content-is .ensures)
 
 -- src/steps.rt:37:33
 slice-aggregate-content-is-2 : tie.Need-slice-aggregate-content-is-2
