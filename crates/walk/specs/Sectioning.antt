@@ -17,11 +17,9 @@ use Rattle.turns.specs.declared.state.State.{State}
 use Rattle.turns.specs.declared.state.Ahead.{Ahead}
 use Rattle.walk.specs.Layout.{spotStep, rowStep, RowRoom}
 use Rattle.walk.specs.RunLaws.{isDone, isBusy, Walking, Onward, Going, going, onward-far, walking-read, walking-short, walking-over}
-use Rattle.walk.specs.Sections.{laidOut, misplacedAs, endedAs, Starting, AtUnt, Passing, SectionIs, Between, ReachedIs}
+use Rattle.walk.specs.Sections.{laidOut, passedAs, leftOpen, misplacedAs, endedAs, Starting, UntIs, SectionIs, Between, ReachedIs}
 use Rattle.walk.specs.SectionLaws.{Since, row-room, within-on, within-close, section-open, section-other, section-closed}
 use Rattle.walk.specs.declared.layout.Spots.{Spots}
-use Rattle.walk.specs.declared.sections.Layout.{Layout}
-use Rattle.walk.specs.declared.sections.Section.{Section}
 use Rattle.walk.specs.declared.sections.Reached.{Reached}
 use Rattle.walk.specs.declared.sections.Reached.the-variants.{On, Over, Stop}
 
@@ -106,11 +104,10 @@ module _ {y : Syntax} {s : List ℕ} {x₀ : State} {h₀ l₀ b₀ : List ℕ} 
     -- no message is open behind the segment
     pub close-so : {x : State} {h l b : List ℕ} {i : ℕ} {q : Spots} {rows : List ℕ} → SoFar y s x₀ h₀ l₀ b₀ i₀ x h l b i q rows
         → ((from : ℕ) (w : Walking y s from x h l b i) → Onward w a h′ l′ b′) → isBusy (a .state .phase) ≡ false → length rows ≡ 18
-        → {z : Bool} → z ≡ isBusy (x .phase) → {c : Layout} → c ≡ laidOut x q i (a .next)
-        → {r : Section} → r ≡ record { state = a .state; next = a .next; closed = z; layout = c } → (from : ℕ) (w : Walking y s from x₀ h₀ l₀ b₀ i₀) → SectionIs w (On r) h′ l′ b′ rows
-    close-so {rows = rows} ahead f t n m {c = c} j e from w =
-        subst (λ (k : Section). Passing w k h′ l′ b′ rows)
-        (sym (e ∙ ap (λ (k : Bool). record { state = a .state; next = a .next; closed = k; layout = c }) (m ∙ g .between)))
+        → {r : Reached} → r ≡ passedAs x q i a → (from : ℕ) (w : Walking y s from x₀ h₀ l₀ b₀ i₀) → SectionIs w r h′ l′ b′ rows
+    close-so {q = q} {rows = rows} ahead f t n e from w =
+        subst (λ (k : Reached). SectionIs w k h′ l′ b′ rows)
+        (sym (e ∙ ap (λ (k : Bool). On (record { state = a .state; next = a .next; closed = k; layout = laidOut x₀ q i₀ (a .next) })) (g .between)))
         (record {
           walks = f from w .walks;
           far = let o = onward-far w (f from w) in omega (arith, o);
@@ -118,21 +115,21 @@ module _ {y : Syntax} {s : List ℕ} {x₀ : State} {h₀ l₀ b₀ : List ℕ} 
           by = section-other w (g .between) (f from w) t;
           between = λ k. absurd (false≢true (sym t ∙ k));
         })
-    close-so {rows = rows} (inside v k) f t n m {c = c} j {r} e from w =
+    close-so {x = x} {i = i} {q = q} {rows = rows} (inside v k) f t n {r} e from w =
         let u = k from w in
-        section-closed w (u .tree) h′ l′ b′ rows (On r)
-        (subst (λ (k : Section). AtUnt y s from i₀ (u .u) (u .ms) k h′ l′ b′ rows)
-        (sym (e ∙ ap (λ (k : Bool). record { state = a .state; next = a .next; closed = k; layout = c }) (m ∙ v)))
-        (record { walks = f from (u .within .walks) .walks; long = n; by = within-close (u .within) (f from (u .within .walks)) t j 0 }))
+        section-closed w (u .tree) h′ l′ b′ rows r
+        (subst (λ (k : Reached). UntIs y s from i₀ (u .u) (u .ms) k h′ l′ b′ rows)
+        (sym (e ∙ ap (λ (k : Bool). On (record { state = a .state; next = a .next; closed = k; layout = laidOut x q i (a .next) })) v))
+        (record { walks = f from (u .within .walks) .walks; long = n; by = within-close (u .within) (f from (u .within .walks)) t refl 0 }))
 
   -- the octets are over
   pub end-so : {x : State} {h l b : List ℕ} {i : ℕ} {q : Spots} {rows : List ℕ} → SoFar y s x₀ h₀ l₀ b₀ i₀ x h l b i q rows → length s ≤ i → length rows ≡ 18
-      → {c : Layout} {r : Section} → r ≡ record { state = x; next = i; closed = false; layout = c } → (from : ℕ) (w : Walking y s from x₀ h₀ l₀ b₀ i₀) → SectionIs w (On r) h l b rows
+      → {r : Reached} → r ≡ leftOpen x q i → (from : ℕ) (w : Walking y s from x₀ h₀ l₀ b₀ i₀) → SectionIs w r h l b rows
   end-so ahead z n e from w = let o = g .left in absurd (omega (arith, o, z))
   end-so {h = h} {l = l} {b = b} {rows = rows} (inside v k) z n {r = r} e from w =
       let u = k from w in
-      section-closed w (u .tree) h l b rows (On r)
-      (subst (λ (k : Section). AtUnt y s from i₀ (u .u) (u .ms) k h l b rows) (sym e)
+      section-closed w (u .tree) h l b rows r
+      (subst (λ (k : Reached). UntIs y s from i₀ (u .u) (u .ms) k h l b rows) (sym e)
       (record { walks = u .within .walks; long = n; by = (u .within .o, (u .within .tree, z)) }))
 
 -- ---- a slice of all the octets holds the octets

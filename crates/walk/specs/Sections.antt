@@ -26,6 +26,7 @@ use Rattle.walk.specs.declared.sections.Section.{Section}
 use Rattle.walk.specs.declared.sections.Reached.{Reached}
 use Rattle.walk.specs.declared.sections.Reached.the-variants.{On, Over, Stop}
 use Rattle.turns.specs.declared.state.State.{State}
+use Rattle.turns.specs.declared.state.Ahead.{Ahead}
 
 -- how many headers a trailer at `a` chooses from: all n, none where no UST stands there
 abbrev pub nameableIn : List ℕ → ℕ → ℕ → ℕ
@@ -47,7 +48,15 @@ laidOut x q at next = record {
   reference = x .unh;
 }
 
--- "7: .. or something behind UNZ": octets that stand there, or the end where UNZ is missing
+-- behind a section whose last segment stands at i, and behind which is a: a message that was open before it is closed
+abbrev pub passedAs : State → Spots → ℕ → Ahead → Reached
+passedAs x q i a = On (record { state = a .state; next = a .next; closed = isBusy (x .phase); layout = laidOut x q i (a .next) })
+
+-- the octets are over, and a message is open
+abbrev pub leftOpen : State → Spots → ℕ → Reached
+leftOpen x q i = On (record { state = x; next = i; closed = false; layout = laidOut x q i i })
+
+-- 7: "input ends early; octets after UNZ", at the first of them or at the end
 abbrev pub misplacedAs : ℕ → Reached
 misplacedAs i = Stop (record { number = 7; place = i })
 
@@ -144,6 +153,11 @@ abbrev pub SectionIs : {y : Syntax} {s : List ℕ} {from : ℕ} {x : State} {h l
 SectionIs w (On c) h′ l′ b′ rows = Passing w c h′ l′ b′ rows
 SectionIs w Over h′ l′ b′ rows = ⊥
 SectionIs {y = y} {s = s} {from = from} w (Stop f) h′ l′ b′ rows = answerFrom y s from ≡ refused (f .number) (f .place)
+
+-- of every walk so far
+pub record SectionEnds (y : Syntax) (s : List ℕ) (x : State) (h l b : List ℕ) (i : ℕ) (r : Reached) (h′ l′ b′ rows m : List ℕ) : Type 0 where
+  pub reached : (from : ℕ) (w : Walking y s from x h l b i) → SectionIs w r h′ l′ b′ rows
+  pub marks : length m ≡ 40
 
 -- ---- a section, or the end
 

@@ -7,8 +7,9 @@ ghost use Rattle.syntax.specs.Octets.{same};
 ghost use Rattle.syntax.specs.Repertoire.{Table};
 ghost use Rattle.elements.specs.Octets.{textAt};
 ghost use Rattle.message.specs.Heads.{headRef, headFlag};
+ghost use Rattle.walk.specs.Layout.{spotStep, rowStep, RowRoom};
 ghost use Rattle.walk.specs.RunLaws.{unreadAs, isDone, isBusy, Walking};
-ghost use Rattle.walk.specs.Sections.{nameableIn, laidOut, misplacedAs, endedAs, Starting, SectionIs, Between, ReachedIs};
+ghost use Rattle.walk.specs.Sections.{nameableIn, laidOut, passedAs, leftOpen, misplacedAs, endedAs, Starting, SectionEnds, Between, ReachedIs};
 use crate::advance::advance;
 use crate::layout::Spots;
 use crate::layout::opened;
@@ -21,6 +22,7 @@ use syntax::content::content_is;
 use syntax::content::part;
 use syntax::reading::component_part;
 use turns::state::Advanced;
+use turns::state::Ahead;
 use turns::state::Phase;
 use turns::state::State;
 use turns::state::Stretch;
@@ -146,15 +148,50 @@ fn laid_out(st: State, x: Spots, at: usize, next: usize) -> Layout
     }
 }
 
-fn passed(state: State, next: usize, closed: bool, layout: Layout) -> Section
-    ensures { λ r. ⌜ r ≡ record { state = state; next = next; closed = closed; layout = layout } ⌝ }
+// Whether no message is open behind the segment.
+fn is_outside(a: Ahead) -> bool
+    ensures { λ r. ⌜ r ≡ not (isBusy (a .state .phase)) ⌝ }
 {
-    Section {
-        state: state,
-        next: next,
-        closed: closed,
-        layout: layout,
-    }
+    let z = a.state;
+    let p = z.phase;
+    !is_busy(p)
+}
+
+// Behind a section: the state, and of a message that was open at `at`, before its last segment, the layout.
+fn passed(st: State, x: Spots, at: usize, a: Ahead) -> Reached
+    ensures { λ r. ⌜ r ≡ passedAs st x at a ⌝ }
+{
+    let p = st.phase;
+    let z = a.state;
+    Reached::On(Section {
+        state: z,
+        next: a.next,
+        closed: is_busy(p),
+        layout: laid_out(st, x, at, a.next),
+    })
+}
+
+// The spots behind the segment at `at`, and in `rows` where its group starts.
+fn spots_behind(x: Spots, rows: &mut [usize; 18], a: Ahead, at: usize) -> Spots
+    requires { ⌜ RowRoom (a .state .message .group) (a .state .message .headers) (x .trailers) ⌝ }
+    ensures { λ r. ⌜ r ≡ spotStep (a .state .message .group) x at (a .next) ⌝ }
+    ensures { λ r. ⌜ now (rows .exit) ≡ rowStep (a .state .message .group) (now (rows .entry)) (a .state .message .headers) (x .trailers) at ⌝ }
+{
+    let z = a.state;
+    let m = z.message;
+    spotted(x, rows, m, at, a.next)
+}
+
+// The octets are over, and a message is open.
+fn left_open(st: State, x: Spots, at: usize) -> Reached
+    ensures { λ r. ⌜ r ≡ leftOpen st x at ⌝ }
+{
+    Reached::On(Section {
+        state: st,
+        next: at,
+        closed: false,
+        layout: laid_out(st, x, at, at),
+    })
 }
 
 // A section by octets whose place no store can change: what stands at `from`, between messages or before UNB. Each UST names a header not yet named:
@@ -162,58 +199,46 @@ fn passed(state: State, next: usize, closed: bool, layout: Layout) -> Section
 // each segment.
 fn section_in(
     s: &[u8],
-    from: usize,
+    mut at: usize,
     t: &[u8; 256],
     y: Syntax,
-    begun: State,
+    mut st: State,
     marks: &mut [usize],
     heads: &mut [usize; 36],
     names: &mut [u64],
     slots: &mut [u16],
     rows: &mut [usize; 18],
 ) -> Reached
-    requires { ⌜ Table y (now t) ⌝ }
-    requires { ⌜ Starting y (now s) begun (now heads) (now names) (now slots) from (now rows) (now marks) ⌝ }
-    ensures { λ r. ⌜ ((b : ℕ) (w : Walking y (now (s .entry)) b begun (now (heads .entry)) (now (names .entry)) (now (slots .entry)) from) → SectionIs w r (now (heads .exit)) (now (names .exit)) (now (slots .exit)) (now (rows .exit))) ⌝ }
-    ensures { λ r. ⌜ length (now (marks .exit)) ≡ 40 ⌝ }
+    requires { ⌜ Table y (now t) × Starting y (now s) st (now heads) (now names) (now slots) at (now rows) (now marks) ⌝ }
+    ensures { λ r. ⌜ SectionEnds y (now (s .entry)) st (now (heads .entry)) (now (names .entry)) (now (slots .entry)) at r (now (heads .exit)) (now (names .exit)) (now (slots .exit)) (now (rows .exit)) (now (marks .exit)) ⌝ }
 {
-    let mut st = begun;
-    let mut x = opened(from, from);
-    let mut at = from;
+    let mut x = opened(at, at);
     while at < s.len() {
         let m = st.message;
         let n = nameable(s, at, m.headers as usize);
         let mut found = n;
-        let mut i: usize = 0;
-        while i < n {
+        for i in 0..n {
             if names_free(s, at, t, y, heads, i) {
                 found = i;
                 break;
             }
-            i += 1;
         }
         match advance(s, at, t, y, st, marks, heads, names, slots, found) {
             Advanced::Stop(f) => return Reached::Stop(f),
             Advanced::On(a) => {
-                let z = a.state;
-                let p = z.phase;
-                let k = z.message;
-                if !is_busy(p) {
-                    let b = st.phase;
-                    let l = laid_out(st, x, at, a.next);
-                    return Reached::On(passed(z, a.next, is_busy(b), l));
+                if is_outside(a) {
+                    return passed(st, x, at, a);
                 }
-                x = spotted(x, rows, k, at, a.next);
-                st = z;
+                x = spots_behind(x, rows, a, at);
+                st = a.state;
                 at = a.next;
             }
         }
     }
-    let l = laid_out(st, x, at, at);
-    Reached::On(passed(st, at, false, l))
+    left_open(st, x, at)
 }
 
-// Octets behind UNZ, or none where UNZ is missing: 7.
+// The input ends early, or octets stand after UNZ: 7.
 fn misplaced(at: usize) -> Reached
     ensures { λ r. ⌜ r ≡ misplacedAs at ⌝ }
 {

@@ -60,7 +60,7 @@ same-length-3 c = search needs
 
 -- src/sections.rt:238:1
 returns-3 : tie.Need-returns-3
-returns-3 c = (section-whole (c .before .before .before .before .before .before .before .before .before .before .before .before .before .before .before .before .before .before .before .before .args .y) (c .before .before .before .before .before .before .before .before .before .before .before .before .before .before .before .before .before .before .before .before .args .s .now) (c .before .before .before .before .before .before .before .before .before .before .before .before .before .before .before .before .before .before .before .before .args .st) (c .before .before .before .before .before .before .before .before .before .before .before .before .before .before .before .before .before .before .before .before .args .heads .now) (c .before .before .before .before .before .before .before .before .before .before .before .before .before .before .before .before .before .before .before .before .args .names .now) (c .before .before .before .before .before .before .before .before .before .before .before .before .before .before .before .before .before .before .before .before .args .slots .now) (c .before .before .before .before .before .before .before .before .before .before .before .before .before .before .before .before .before .before .before .before .args .from) (c .before .before .before .before .before .before .section-in .result) (c .before .before .before .before .before .before .section-in .last .1 .1 .1 .1 .1 .1 .0) (c .before .before .before .before .before .before .section-in .last .1 .1 .1 .1 .1 .1 .1 .0) (c .before .before .before .before .before .before .section-in .last .1 .1 .1 .1 .1 .1 .1 .1 .0) (c .before .before .before .before .before .before .section-in .last .1 .1 .1 .1 .1 .1 .1 .1 .1 .0) (c .before .before .before .before .before .before .before .before .before .before .before .before .before .before .if1 .left) (c .before .before .before .before .before .before .section-in .ensures .0), c .before .before .before .before .before .before .section-in .ensures .1)
+returns-3 c = (section-whole (c .before .before .before .before .before .before .before .before .before .before .before .before .before .before .before .before .before .before .before .before .args .y) (c .before .before .before .before .before .before .before .before .before .before .before .before .before .before .before .before .before .before .before .before .args .s .now) (c .before .before .before .before .before .before .before .before .before .before .before .before .before .before .before .before .before .before .before .before .args .st) (c .before .before .before .before .before .before .before .before .before .before .before .before .before .before .before .before .before .before .before .before .args .heads .now) (c .before .before .before .before .before .before .before .before .before .before .before .before .before .before .before .before .before .before .before .before .args .names .now) (c .before .before .before .before .before .before .before .before .before .before .before .before .before .before .before .before .before .before .before .before .args .slots .now) (c .before .before .before .before .before .before .before .before .before .before .before .before .before .before .before .before .before .before .before .before .args .from) (c .before .before .before .before .before .before .section-in .result) (c .before .before .before .before .before .before .section-in .last .1 .1 .1 .1 .1 .1 .0) (c .before .before .before .before .before .before .section-in .last .1 .1 .1 .1 .1 .1 .1 .0) (c .before .before .before .before .before .before .section-in .last .1 .1 .1 .1 .1 .1 .1 .1 .0) (c .before .before .before .before .before .before .section-in .last .1 .1 .1 .1 .1 .1 .1 .1 .1 .0) (c .before .before .before .before .before .before .before .before .before .before .before .before .before .before .if1 .left) (c .before .before .before .before .before .before .section-in .ensures .reached), c .before .before .before .before .before .before .section-in .ensures .marks)
 
 pub next-section-spec : {M : Type 1} → statement M
 next-section-spec =
