@@ -142,9 +142,9 @@ struct gurandepi_range gurandepi_f01(const uint8_t *autack, size_t autack_length
                                      const uint8_t *header, size_t header_length);
 
 /*
- * The value that a header's seal carries, of any scope, as octets: read by the filter that the header names (hexadecimal or
- * base 64). Refuses with 1 to 12; 13: no such message or header; 14: the filter is unknown, the text is bad, empty or not
- * there; 15.
+ * The value that a header's seal carries, of any scope, as octets: read by the filter that the header names (hexadecimal,
+ * where an odd number of digits is read as if one 0 stood before them, or base 64). Refuses with 1 to 12; 13: no such
+ * message or header; 14: the filter is unknown, the text is bad, empty or not there; 15.
  */
 struct gurandepi_written gurandepi_value(const uint8_t *interchange, size_t interchange_length,
                                          const uint8_t *message, size_t message_length,

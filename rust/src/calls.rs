@@ -176,8 +176,9 @@ pub fn f01<'r>(autack: &[u8], referenced: &'r [u8], message: &[u8], header: &[u8
     given(r.number, r.place, || part(i, r.start, r.end))
 }
 
-/// The value that a header's seal carries, of any scope, read by the filter that the header names. It is written to the
-/// front of `out` and handed back; on a refusal `out` is left as it was.
+/// The value that a header's seal carries, of any scope, read by the filter that the header names; an odd number of
+/// hexadecimal digits is read as if one 0 stood before them. It is written to the front of `out` and handed back; on a
+/// refusal `out` is left as it was.
 ///
 /// ```
 /// # let p7 = std::fs::read("../examples/p7.edi").unwrap();

@@ -13,7 +13,7 @@ p10 = refl
 pub lower-case : valueBy (octets "2") (octets "0fA0") ≡ none
 lower-case = refl
 
-pub odd : valueBy (octets "2") (octets "0FA") ≡ none
+pub odd : valueBy (octets "2") (octets "FA0") ≡ some (15 ∷ 160 ∷ [])
 odd = refl
 
 pub empty : valueBy (octets "2") [] ≡ none

@@ -1,15 +1,18 @@
 // Code 2: upper-case hex, high half first.
 ghost use mathlib.Core.Path.{_≡_};
 ghost use mathlib.Core.List.{[], _∷_};
-ghost use Prim.Native.Nat.{_+_, _/_, _%_, _<_};
-ghost use lib.ListN.{length};
+ghost use Prim.Native.Nat.{_+_, _/_, _%_, _≤_, _<_};
+ghost use lib.ListN.{length, drop};
 ghost use Rattle.syntax.specs.Content.{content};
 ghost use Rattle.writing.specs.Laid.{Laid};
-ghost use Rattle.filters.specs.Hex.{halfOf, hexDigit, hexText, hexValue};
+ghost use Rattle.filters.specs.Hex.{halfOf, hexDigit, hexText, hexPairs, hexValue};
 ghost use Rattle.filters.specs.Decoding.{Decodes};
 use crate::Decoded;
 use crate::pieces::Pair;
 use crate::pieces::next_pair;
+use syntax::content::Next;
+use syntax::content::content_length;
+use syntax::content::next_octet;
 use writing::put;
 use writing::store;
 
@@ -32,12 +35,13 @@ fn half_of(c: u8) -> u8
     c - 55
 }
 
-// Lays the octets that the content of `x` stands for at the front of `out`, as far as there is room.
-pub fn hex_into(out: &mut [u8], x: &[u8], release: u8) -> Decoded
-    ensures { λ r. ⌜ Decodes (hexValue (content release (now (x .entry)))) (now (out .entry)) 0 r (now (out .exit)) ⌝ }
+// Two characters an octet, from `from` on; the octets are laid from `laid` on, as far as there is room.
+fn hex_from(out: &mut [u8], x: &[u8], from: usize, laid: usize, release: u8) -> Decoded
+    requires { ⌜ laid ≤ from ⌝ }
+    ensures { λ r. ⌜ Decodes (hexPairs (content release (drop from (now (x .entry))))) (now (out .entry)) laid r (now (out .exit)) ⌝ }
 {
-    let mut i: usize = 0;
-    let mut n: usize = 0;
+    let mut i = from;
+    let mut n = laid;
     loop {
         match next_pair(x, i, release) {
             Pair::Over => {
@@ -61,6 +65,34 @@ pub fn hex_into(out: &mut [u8], x: &[u8], release: u8) -> Decoded
             }
         }
     }
+}
+
+// The same where one zero stands before the content.
+fn hex_behind_zero(out: &mut [u8], x: &[u8], release: u8) -> Decoded
+    ensures { λ r. ⌜ Decodes (hexPairs (48 ∷ content release (now (x .entry)))) (now (out .entry)) 0 r (now (out .exit)) ⌝ }
+{
+    match next_octet(x, 0, release) {
+        Next::Over => Decoded::Bad,
+        Next::Octet(c, j) => {
+            let a = half_of(c);
+            if 15 < a {
+                return Decoded::Bad;
+            }
+            store(&mut *out, 0, a);
+            hex_from(&mut *out, x, j, 1, release)
+        }
+    }
+}
+
+// Lays the octets that the content of `x` stands for at the front of `out`, as far as there is room.
+pub fn hex_into(out: &mut [u8], x: &[u8], release: u8) -> Decoded
+    ensures { λ r. ⌜ Decodes (hexValue (content release (now (x .entry)))) (now (out .entry)) 0 r (now (out .exit)) ⌝ }
+{
+    let n = content_length(x, release);
+    if n % 2 == 0 {
+        return hex_from(&mut *out, x, 0, 0, release);
+    }
+    hex_behind_zero(&mut *out, x, release)
 }
 
 fn hex_digit(n: u8) -> u8
