@@ -1,10 +1,10 @@
 -- The table of classes has its rule, and what a class says of an octet.
-use Prim.Native.Nat.{ℕ, zero, suc, _+_, _≤_, _<_}
+use Prim.Native.Nat.{ℕ, zero, suc, _+_, _-_, _≤_, _<_}
 use native.Mathlib.Omega.{arith}
 use mathlib.Core.List.{List, [], _∷_}
 use mathlib.Core.Path.{_≡_, refl, ap, sym, _∙_}
-use mathlib.Core.Bool.{Bool, true, false, cond, _&&_}
-use borrow.Author.Tests.{eqb-true, eqb-false, leb-true, ltb-true, ltb-false, lt-ltb, le-ltb, le-leb}
+use mathlib.Core.Bool.{Bool, true, false, cond, not, _&&_, _||_, false≢true}
+use borrow.Author.Tests.{eqb-true, eqb-false, leb-true, leb-false, ltb-true, ltb-false, lt-ltb, le-ltb, le-leb}
 use lib.Dec.{eqb, leb, ltb}
 use lib.ListN.{length, getD, set, length-set, replicate, getD-replicate, List·getD-eq-default}
 use lib.Seq.{getD-set-same, getD-set-other, set-out}
@@ -94,66 +94,103 @@ below-all f (suc n) x e h = by (eqb x n) refl (below-all f n x (and-r (f n) _ e)
     by true q r = rw (eqb-true x n q) (and-l (f n) _ e)
     by false q r = let d = eqb-false x n q in r (omega (arith, d))
 
--- the ranges of the repertoires: 1 inside, 0 what a tag may have
-abbrev lettered : ℕ → ℕ → ℕ
-lettered x r = cond (leb 65 x && ltb x 91) 0 (cond (leb 48 x && ltb x 58) 0 r)
+-- one rule for a stretch of octets
+abbrev isIt : Bool → Bool → Bool
+isIt true b = b
+isIt false b = not b
 
-abbrev rangedA : ℕ → ℕ
-rangedA x = cond (leb 37 x && ltb x 64) 1 (cond (leb 32 x && ltb x 35) 1 outsideClass)
+is-it : (v b : Bool) → isIt v b ≡ true → v ≡ b
+is-it true b e = sym e
+is-it false true e = e
+is-it false false e = refl
 
-abbrev ranged : Level → ℕ → ℕ
-ranged A x = lettered x (rangedA x)
-ranged B x = lettered x (cond (leb 97 x && ltb x 123) 1 (rangedA x))
-ranged C x = lettered x (cond (leb 160 x && ltb x 256) 1 (cond (leb 32 x && ltb x 127) 1 outsideClass))
+stretch : (f : ℕ → Bool) (v : Bool) (lo n b : ℕ) → below (λ (k : ℕ). isIt v (f (lo + k))) n ≡ true → lo ≤ b → b < lo + n → v ≡ f b
+stretch f v lo n b e g h =
+    let z : lo + (b - lo) ≡ b = omega arith in
+    is-it v (f b) (ap (λ (k : ℕ). isIt v (f k)) (sym z) ∙ below-all (λ (k : ℕ). isIt v (f (lo + k))) n (b - lo) e (omega arith))
 
-right : (l : Level) (x : ℕ) → x < 256 → ranged l x ≡ dataClass (tagOctet x) (inside l x)
+-- the octets of a stretch are all inside the level that is asked, or all outside
+pub stretch-of : {l : Level} {b : ℕ} (k : Level) (v : Bool) (lo n : ℕ) → below (λ (i : ℕ). isIt v (inside k (lo + i))) n ≡ true
+    → l ≡ k → lo ≤ b → b < lo + n → v ≡ inside l b
+stretch-of {l} {b} k v lo n e h g m = stretch (inside k) v lo n b e g m ∙ ap (λ (l : Level). inside l b) (sym h)
+
+-- the class by the two tests
+module _ (l : Level) (b : ℕ) {i : Bool} (e : i ≡ inside l b) where
+  pub class-outside : not i ≡ true → outsideClass ≡ dataClass (tagOctet b) (inside l b)
+  class-outside h = by i e h
+    where
+      by : (i : Bool) → i ≡ inside l b → not i ≡ true → outsideClass ≡ dataClass (tagOctet b) (inside l b)
+      by true e h = absurd (false≢true h)
+      by false e h = rw (← e)
+
+  module _ (h : not i ≡ false) {g : Bool} (d : g ≡ tagOctet b) where
+    inner : (i : Bool) → i ≡ inside l b → not i ≡ false → cond g 0 1 ≡ dataClass (tagOctet b) (inside l b)
+    inner true e h = rw (← e, ← d)
+    inner false e h = absurd (false≢true (sym h))
+
+    pub class-tagged : g ≡ true → 0 ≡ dataClass (tagOctet b) (inside l b)
+    class-tagged k = ap (λ (q : Bool). cond q 0 1) (sym k) ∙ inner i e h
+
+    pub class-other : g ≡ false → 1 ≡ dataClass (tagOctet b) (inside l b)
+    class-other k = ap (λ (q : Bool). cond q 0 1) (sym k) ∙ inner i e h
+
+-- ---- the table of what is inside, octet by octet
+
+pub record Basing (l : Level) (i : ℕ) (t : List ℕ) : Type 0 where
+  pub size : length t ≡ 256
+  pub done : (x : ℕ) → x < i → getD t x 0 ≡ dataClass (tagOctet x) (inside l x)
+
+pub basing-start : {l : Level} {t : List ℕ} → Blank t → Basing l 0 t
+basing-start z = record { size = ap length z; done = λ x h. let w : ⊥ = omega arith in absurd w }
+
+pub basing-end : {l : Level} {i : ℕ} {t : List ℕ} → Basing l i t → 256 ≤ i → Base l t
+basing-end g h = record { size = g .size; rule = λ b k. g .done b (omega arith) }
+
+-- the octets from a on, n of them, are of one class, in a repertoire
+abbrev Alike : Level → ℕ → ℕ → Type 0
+Alike l a n = below (λ (k : ℕ). eqb (dataClass (tagOctet (a + k)) (inside l (a + k))) (dataClass (tagOctet a) (inside l a))) n ≡ true
+
+basing-fill : {l : Level} {a : ℕ} (n : ℕ) {c : ℕ} {t u : List ℕ} → Basing l a t → a + n ≤ 256 → Alike l a n → Filled a (a + n) c t u → c ≡ dataClass (tagOctet a) (inside l a) → Basing l (a + n) u
+basing-fill {l} {a} n {c} {t} {u} g m e f q = record {
+  size = f .size ∙ g .size;
+  done = λ x k. f .at x (let z = g .size in omega arith) ∙ by x k (leb a x) refl;
+}
+  where
+    by : (x : ℕ) → x < a + n → (b : Bool) → leb a x ≡ b → cond (b && ltb x (a + n)) c (getD t x 0) ≡ dataClass (tagOctet x) (inside l x)
+    by x k true p =
+        let h : a ≤ x = leb-true a x p in
+        let z : a + (x - a) ≡ x = omega arith in
+        let w = eqb-true _ _ (below-all (λ (k : ℕ). eqb (dataClass (tagOctet (a + k)) (inside l (a + k))) (dataClass (tagOctet a) (inside l a))) n (x - a) e (omega arith)) in
+        rw (lt-ltb x (a + n) k) (q ∙ sym w ∙ ap (λ (y : ℕ). dataClass (tagOctet y) (inside l y)) z)
+    by x k false p = g .done x (let h : x < a = leb-false a x p in h)
+
+-- what holds of each level
+by-level : (P : Level → Type 0) → P A → P B → P C → (l : Level) → P l
+by-level P a b c A = a
+by-level P a b c B = b
+by-level P a b c C = c
+
+abbrev classIn : Level → ℕ → ℕ
+classIn l b = dataClass (tagOctet b) (inside l b)
+
+-- each stretch is of one class in every repertoire
+pub base-by : {l : Level} {c0 c1 c2 c3 c4 c5 c6 c7 c8 c9 c10 c11 c12 : ℕ} {t0 t1 t2 t3 t4 t5 t6 t7 t8 t9 t10 t11 t12 t13 : List ℕ} → Blank t0 → Filled 0 32 c0 t0 t1 → c0 ≡ classIn l 0 → Filled 32 35 c1 t1 t2 → c1 ≡ classIn l 32 → Filled 35 37 c2 t2 t3 → c2 ≡ classIn l 35 → Filled 37 48 c3 t3 t4 → c3 ≡ classIn l 37 → Filled 48 58 c4 t4 t5 → c4 ≡ classIn l 48 → Filled 58 64 c5 t5 t6 → c5 ≡ classIn l 58 → Filled 64 65 c6 t6 t7 → c6 ≡ classIn l 64 → Filled 65 91 c7 t7 t8 → c7 ≡ classIn l 65 → Filled 91 97 c8 t8 t9 → c8 ≡ classIn l 91 → Filled 97 123 c9 t9 t10 → c9 ≡ classIn l 97 → Filled 123 127 c10 t10 t11 → c10 ≡ classIn l 123 → Filled 127 160 c11 t11 t12 → c11 ≡ classIn l 127 → Filled 160 256 c12 t12 t13 → c12 ≡ classIn l 160 → Base l t13
 unfolding inside
-right A x h = eqb-true _ _ (below-all (λ (x : ℕ). eqb (ranged A x) (dataClass (tagOctet x) (inside A x))) 256 x refl h)
-right B x h = eqb-true _ _ (below-all (λ (x : ℕ). eqb (ranged B x) (dataClass (tagOctet x) (inside B x))) 256 x refl h)
-right C x h = eqb-true _ _ (below-all (λ (x : ℕ). eqb (ranged C x) (dataClass (tagOctet x) (inside C x))) 256 x refl h)
-
-module _ {o : List ℕ} (z : Blank o) where
-  blank : (x : ℕ) → x < 256 → getD o x 0 ≡ outsideClass
-  blank x h = ap (λ (l : List ℕ). getD l x 0) z ∙ getD-replicate 256 x outsideClass 0 h
-
-  full : length o ≡ 256
-  full = ap length z
-
-  -- the last two stores are those of digits and letters
-  module _ {l : Level} {r : ℕ → ℕ} {t u v : List ℕ} (n : length t ≡ 256) (in-t : (x : ℕ) → x < 256 → getD t x 0 ≡ r x)
-      (is : (x : ℕ) → x < 256 → lettered x (r x) ≡ dataClass (tagOctet x) (inside l x)) (a : Filled 48 58 0 t u) (b : Filled 65 91 0 u v) where
-    tags : Base l v
-    tags = record {
-      size = b .size ∙ a .size ∙ n;
-      rule = λ x h.
-          let k = a .size in
-          b .at x (omega arith) ∙ ap (λ (q : ℕ). cond (leb 65 x && ltb x 91) 0 q)
-          (a .at x (omega arith) ∙ ap (λ (q : ℕ). cond (leb 48 x && ltb x 58) 0 q) (in-t x h)) ∙ is x h;
-    }
-
-  module _ {t u : List ℕ} (a : Filled 32 127 1 o t) (b : Filled 160 256 1 t u) where
-    pub base-c : {v w : List ℕ} → Filled 48 58 0 u v → Filled 65 91 0 v w → Base C w
-    base-c = tags (b .size ∙ a .size ∙ full)
-        (λ x h.
-        let k = a .size in let m = full in
-        b .at x (omega arith) ∙ ap (λ (q : ℕ). cond (leb 160 x && ltb x 256) 1 q)
-        (a .at x (omega arith) ∙ ap (λ (q : ℕ). cond (leb 32 x && ltb x 127) 1 q) (blank x h)))
-        (right C)
-
-  module _ {t u : List ℕ} (a : Filled 32 35 1 o t) (b : Filled 37 64 1 t u) where
-    in-a : (x : ℕ) → x < 256 → getD u x 0 ≡ rangedA x
-    in-a x h =
-        let k = a .size in let m = full in
-        b .at x (omega arith) ∙ ap (λ (q : ℕ). cond (leb 37 x && ltb x 64) 1 q)
-        (a .at x (omega arith) ∙ ap (λ (q : ℕ). cond (leb 32 x && ltb x 35) 1 q) (blank x h))
-
-    pub base-a : {v w : List ℕ} → Filled 48 58 0 u v → Filled 65 91 0 v w → Base A w
-    base-a = tags (b .size ∙ a .size ∙ full) in-a (right A)
-
-    pub base-b : {v w p : List ℕ} → Filled 97 123 1 u v → Filled 48 58 0 v w → Filled 65 91 0 w p → Base B p
-    base-b c =
-        tags (c .size ∙ b .size ∙ a .size ∙ full)
-        (λ x h. let k = a .size in let m = full in let n = b .size in c .at x (omega arith) ∙ ap (λ (q : ℕ). cond (leb 97 x && ltb x 123) 1 q) (in-a x h)) (right B)
+base-by {l} z f0 e0 f1 e1 f2 e2 f3 e3 f4 e4 f5 e5 f6 e6 f7 e7 f8 e8 f9 e9 f10 e10 f11 e11 f12 e12 =
+    let g1 : Basing l 32 _ = basing-fill 32 (basing-start z) (omega arith) (by-level (λ (l : Level). Alike l 0 32) refl refl refl l) f0 e0 in
+    let g2 : Basing l 35 _ = basing-fill 3 g1 (omega arith) (by-level (λ (l : Level). Alike l 32 3) refl refl refl l) f1 e1 in
+    let g3 : Basing l 37 _ = basing-fill 2 g2 (omega arith) (by-level (λ (l : Level). Alike l 35 2) refl refl refl l) f2 e2 in
+    let g4 : Basing l 48 _ = basing-fill 11 g3 (omega arith) (by-level (λ (l : Level). Alike l 37 11) refl refl refl l) f3 e3 in
+    let g5 : Basing l 58 _ = basing-fill 10 g4 (omega arith) (by-level (λ (l : Level). Alike l 48 10) refl refl refl l) f4 e4 in
+    let g6 : Basing l 64 _ = basing-fill 6 g5 (omega arith) (by-level (λ (l : Level). Alike l 58 6) refl refl refl l) f5 e5 in
+    let g7 : Basing l 65 _ = basing-fill 1 g6 (omega arith) (by-level (λ (l : Level). Alike l 64 1) refl refl refl l) f6 e6 in
+    let g8 : Basing l 91 _ = basing-fill 26 g7 (omega arith) (by-level (λ (l : Level). Alike l 65 26) refl refl refl l) f7 e7 in
+    let g9 : Basing l 97 _ = basing-fill 6 g8 (omega arith) (by-level (λ (l : Level). Alike l 91 6) refl refl refl l) f8 e8 in
+    let g10 : Basing l 123 _ = basing-fill 26 g9 (omega arith) (by-level (λ (l : Level). Alike l 97 26) refl refl refl l) f9 e9 in
+    let g11 : Basing l 127 _ = basing-fill 4 g10 (omega arith) (by-level (λ (l : Level). Alike l 123 4) refl refl refl l) f10 e10 in
+    let g12 : Basing l 160 _ = basing-fill 33 g11 (omega arith) (by-level (λ (l : Level). Alike l 127 33) refl refl refl l) f11 e11 in
+    let g13 : Basing l 256 _ = basing-fill 96 g12 (omega arith) (by-level (λ (l : Level). Alike l 160 96) refl refl refl l) f12 e12 in
+    basing-end g13 (omega arith)
 
 -- ---- the six stores of `table`
 

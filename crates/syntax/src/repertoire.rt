@@ -2,10 +2,11 @@
 ghost use mathlib.Core.Path.{_≡_};
 ghost use Prim.Native.Nat.{_+_, _≤_, _<_};
 ghost use lib.ListN.{set};
-ghost use Rattle.syntax.specs.Repertoire.{classOf, Blank, Base, Table};
+ghost use Rattle.syntax.specs.Repertoire.{tagOctet, inside, dataClass, classOf, Blank, Base, Table};
 ghost use Rattle.syntax.specs.RepertoireLaws.{Filled};
 use crate::Level;
 use crate::Syntax;
+use crate::cutting::tag_octet;
 
 // The classes at which a scan stops. The others are 4 at most, so four octets add up to 16 at most, or to 64 at least where one stops it.
 pub const TERMINATOR: u8 = 64;
@@ -18,6 +19,51 @@ pub(crate) fn wide(b: u8) -> usize
     ensures { λ r. ⌜ (r ≡ b) × (r < 256) ⌝ }
 {
     b as usize
+}
+
+// The repertoire test, as document 01 prints it: is the octet inside?
+pub fn is_inside(l: Level, b: u8) -> bool
+    ensures { λ r. ⌜ r ≡ inside l b ⌝ }
+{
+    match l {
+        // "UNOA: A to Z, 0 to 9, space and . , - ( ) / = ' + : ? ! " % & * ; < >"
+        Level::A => match b {
+            b' '..=b'"' => true, // space ! "
+            b'%'..=b'/' => true, // % & ' ( ) * + , - . /
+            b'0'..=b'9' => true,
+            b':'..=b'?' => true, // : ; < = > ?
+            b'A'..=b'Z' => true,
+            _ => false,
+        },
+        // "UNOB adds a to z."
+        Level::B => match b {
+            b' '..=b'"' => true, // space ! "
+            b'%'..=b'/' => true, // % & ' ( ) * + , - . /
+            b'0'..=b'9' => true,
+            b':'..=b'?' => true, // : ; < = > ?
+            b'A'..=b'Z' | b'a'..=b'z' => true,
+            _ => false,
+        },
+        // "UNOC: 0x20 to 0x7E and 0xA0 to 0xFF."
+        Level::C => match b {
+            0x20..=0x7E => true,
+            0xA0..=0xFF => true,
+            _ => false,
+        },
+    }
+}
+
+// Its class where it serves for nothing: what a tag may have, other data, outside.
+fn data_class(l: Level, b: u8) -> u8
+    ensures { λ r. ⌜ r ≡ dataClass (tagOctet b) (inside l b) ⌝ }
+{
+    if !is_inside(l, b) {
+        return OUTSIDE;
+    }
+    if tag_octet(b) {
+        return 0;
+    }
+    1
 }
 
 // The octets from `a` to `e`, both included, are of class `c`.
@@ -33,32 +79,24 @@ fn fill(t: &mut [u8; 256], a: u8, e: u8, c: u8)
     }
 }
 
-// What is inside, and of that what a tag may have, for every octet at once. The table is filled where it stands: to copy it costs more than to fill it.
+// The same for every octet at once. In each of these stretches all octets are of one class, whatever the repertoire, so its first one is asked.
 fn base(t: &mut [u8; 256], l: Level)
     requires { ⌜ Blank (now t) ⌝ }
     ensures { λ r. ⌜ Base l (now (t .exit)) ⌝ }
 {
-    match l {
-        Level::A => {
-            fill(t, 32, 34, 1);
-            fill(t, 37, 63, 1);
-            fill(t, 48, 57, 0);
-            fill(t, 65, 90, 0);
-        }
-        Level::B => {
-            fill(t, 32, 34, 1);
-            fill(t, 37, 63, 1);
-            fill(t, 97, 122, 1);
-            fill(t, 48, 57, 0);
-            fill(t, 65, 90, 0);
-        }
-        Level::C => {
-            fill(t, 32, 126, 1);
-            fill(t, 160, 255, 1);
-            fill(t, 48, 57, 0);
-            fill(t, 65, 90, 0);
-        }
-    }
+    fill(t, 0, 31, data_class(l, 0));
+    fill(t, 32, 34, data_class(l, 32));
+    fill(t, 35, 36, data_class(l, 35));
+    fill(t, 37, 47, data_class(l, 37));
+    fill(t, 48, 57, data_class(l, 48));
+    fill(t, 58, 63, data_class(l, 58));
+    fill(t, 64, 64, data_class(l, 64));
+    fill(t, 65, 90, data_class(l, 65));
+    fill(t, 91, 96, data_class(l, 91));
+    fill(t, 97, 122, data_class(l, 97));
+    fill(t, 123, 126, data_class(l, 123));
+    fill(t, 127, 159, data_class(l, 127));
+    fill(t, 160, 255, data_class(l, 160));
 }
 
 fn put(t: &mut [u8; 256], b: u8, c: u8)
