@@ -236,7 +236,7 @@ refused-by : (U : List ℕ) (RS : Snoc (List ℕ)) (p : ℕ) (A : AnswerM) (n ρ
 refused-by U RS p (toM S) n ρ s h l b i u w g = absurd g
 refused-by U RS p (badM k) n ρ s h l b i u w g = (g, refl)
 
-module _ (ρ : ℕ) (s : List ℕ) (st : State) (h l b : List ℕ) (p q : ℕ) (g : Held ρ s st h l b p) (e : st .phase ≡ Busy) (d : p + 4 ≤ q) where
+module _ (ρ : ℕ) (s : List ℕ) (st : State) (h l b : List ℕ) (p i q : ℕ) (g : Held ρ s st h l b i) (e : st .phase ≡ Busy) (d : i + 4 ≤ q) where
   held-on : {z : Message} {h′ : List ℕ} → Roomy z h′ → length h′ ≡ 36 → z .segments ≡ suc (st .message .segments) →
       Held ρ s (afterOther st Busy (st .count) z) h′ l b q
   held-on {z} f o n = record {
@@ -244,10 +244,8 @@ module _ (ρ : ℕ) (s : List ℕ) (st : State) (h l b : List ℕ) (p q : ℕ) (
     roomy = f;
     begun = omega (arith, n);
     long = o;
-    names = g .names;
-    short = g .short;
     taken =
-        let t : 8 * st .count + 4 * st .message .segments ≤ p = subst (λ (x : Phase). 8 * st .count + 4 * openSize x (st .message) ≤ p) e (g .taken) in
+        let t : 8 * st .count + 4 * st .message .segments ≤ i = subst (λ (x : Phase). 8 * st .count + 4 * openSize x (st .message) ≤ i) e (g .taken) in
         omega (arith, t, n, d);
     offered = λ _ r. g .offered e r;
   }
@@ -265,8 +263,9 @@ module _ {y : Syntax} {s : List ℕ} {st : State} {h l b : List ℕ} {p q : ℕ}
     (busy : st .phase ≡ Busy) where
   pub busy-room : st .message .segments < 65535
   busy-room =
-      let t : 8 * st .count + 4 * st .message .segments ≤ p = subst (λ (x : Phase). 8 * st .count + 4 * openSize x (st .message) ≤ p) busy (g .held .taken) in
-      omega (arith, t, g .ends, g .inside, g .held .short)
+      let t : 8 * st .count + 4 * st .message .segments ≤ g .before
+      = subst (λ (x : Phase). 8 * st .count + 4 * openSize x (st .message) ≤ g .before) busy (g .held .taken) in
+      omega (arith, t, g .ends, g .short)
 
   busy-state : stateIn (y .service .release) s st h l
       ≡ busyS (unbIn (y .service .release) s st) (refsIn l (st .count))
@@ -319,7 +318,7 @@ module _ {y : Syntax} {s : List ℕ} {st : State} {h l b : List ℕ} {p q : ℕ}
             busy-on {z} e o {v} d =
                 subst (λ (A : AnswerS). StepIs A (On v) (y .service .release) s h′ l b q) (sym decided-is)
                 (subst (λ (w : State). StepIs (fromM (unbIn (y .service .release) s st) (refsIn l (st .count)) p (movedAt y s st h p k)) (On w) (y .service .release) s h′ l b q) (sym d)
-                (read-by (y .service .release) s st h l b p q (g .held) busy (g .ends)
+                (read-by (y .service .release) s st h l b p (g .before) q (g .held) busy (g .ends)
                 (movedAt y s st h p k) z h′ o
                 (step-grows (openIn (y .service .release) s st h) (askedAt (y .service) s p) k (busy-passed .0))
                 (subst (λ (i : Moved). MovedIs (movedAt y s st h p k) i (y .service .release) s (st .unh .start) (st .unh .end) h′) e moved-here)))

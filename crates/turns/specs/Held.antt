@@ -112,15 +112,14 @@ openSize Idle m = 0
 openSize Busy m = m .segments
 openSize Done m = 0
 
--- what keeps everything in its room: a segment has at least 4 octets, a message at least two segments; i is the place of what comes next.
+-- what keeps everything in its room: a segment has at least 4 octets, a message at least two segments; i octets were read. They need not all stand in s:
+-- s has those that the places of x and h mean.
 -- Where there is room for it, the open message's reference stands behind the others, and is offered a slot
 pub record Held (ρ : ℕ) (s : List ℕ) (x : State) (h l b : List ℕ) (i : ℕ) : Type 0 where
   pub indexed : Indexed l b (x .count)
   pub roomy : Roomy (x .message) h
   pub begun : 1 ≤ x .message .segments
   pub long : length h ≡ 36
-  pub names : length s ≤ 4 * length l
-  pub short : length s ≤ 65535
   pub taken : 8 * x .count + 4 * openSize (x .phase) (x .message) ≤ i
   pub offered : x .phase ≡ Busy → 2 * x .count + 2 ≤ length l
       → (refAt l (x .count) ≡ content ρ (slice (x .unh .start) (x .unh .end) s)) × Offered l b (x .count) (x .slot)
@@ -141,11 +140,14 @@ StepIs (readS S) (Stop f) ρ s h l b i = ⊥
 StepIs (refusedS n p) (On x) ρ s h l b i = ⊥
 StepIs (refusedS n p) (Stop f) ρ s h l b i = (f .number ≡ n) × (f .place ≡ p)
 
--- a segment at p, whole and inside, with what was noted of it: its kind k, and if it is looked into, its fields
+-- a segment at p, whole and inside, with what was noted of it: its kind k, and if it is looked into, its fields. Behind it q octets are read, and there is
+-- room for the open message's reference
 pub record Ready (y : Syntax) (s : List ℕ) (x : State) (h l b : List ℕ) (p q : ℕ) (k : Kind) (f : Shape) (m : List ℕ) : Type 0 where
-  pub held : Held (y .service .release) s x h l b p
-  pub ends : p + 4 ≤ q
-  pub inside : q ≤ length s
+  pub before : ℕ
+  pub held : Held (y .service .release) s x h l b before
+  pub ends : before + 4 ≤ q
+  pub short : q ≤ 65535
+  pub room : x .phase ≡ Busy → 2 * x .count + 2 ≤ length l
   pub kind : k ≡ kindOf (slice p (p + 3) s)
   pub noted : looked k ≡ true → Fields (y .service) s p (f .size) (f .repeats) m
   pub marks : length m ≡ 40

@@ -226,8 +226,6 @@ module _ (y : Syntax) (s : List ℕ) (st : State) (h l b : List ℕ) (at next : 
         roomy = g .held .roomy;
         begun = g .held .begun;
         long = g .held .long;
-        names = g .held .names;
-        short = g .held .short;
         taken = least next;
         offered = λ c. idle-shut c;
       }
@@ -249,7 +247,7 @@ module _ (y : Syntax) (s : List ℕ) (st : State) (h l b : List ℕ) (at next : 
 
   idle-taken : {k : Kind} → Ready y s st h l b at next k f marks → st .phase ≡ Idle → 8 * st .count + 4 ≤ next
   idle-taken g ph =
-      let t : 8 * st .count + 4 * 0 ≤ at = subst (λ (z : Phase). 8 * st .count + 4 * openSize z (st .message) ≤ at) ph (g .held .taken) in
+      let t : 8 * st .count + 4 * 0 ≤ g .before = subst (λ (z : Phase). 8 * st .count + 4 * openSize z (st .message) ≤ g .before) ph (g .held .taken) in
       let n = g .ends in
       omega (arith, t, n)
 
@@ -289,15 +287,11 @@ module _ (y : Syntax) (s : List ℕ) (st : State) (h l b : List ℕ) (at next : 
             let t = idle-taken g ph in
             let taken : 8 * st .count + 4 * m .segments ≤ next = omega (arith, one, t) in
             let begun : 1 ≤ m .segments = omega (arith, one) in
-            let room = g .held .names in
-            let names : length s ≤ 4 * length l′ = omega (arith, room, o .size) in
             record {
               indexed = o .indexed;
               roomy = subst (λ (x : Message). Roomy x h) (sym new) (roomy-fresh c h);
               begun = begun;
               long = g .held .long;
-              names = names;
-              short = g .held .short;
               taken = taken;
               offered = λ _ r. (o .next r .0 ∙ sym (ap (content (y .service .release)) unh-part), o .next r .1);
             }
@@ -361,8 +355,6 @@ module _ (y : Syntax) (s : List ℕ) (st : State) (h l b : List ℕ) (at next : 
                   roomy = g .held .roomy;
                   begun = g .held .begun;
                   long = g .held .long;
-                  names = g .held .names;
-                  short = g .held .short;
                   taken = taken;
                   offered = λ c. done-shut c;
                 }
@@ -379,35 +371,27 @@ module _ (y : Syntax) (s : List ℕ) (st : State) (h l b : List ℕ) (at next : 
   busy-here ph = ap (λ (z : Phase). phased z unbs refs kept) ph
 
   module _ (g : Ready y s st h l b at next Unt f marks) (ph : st .phase ≡ Busy) where
-    unt-taken : 8 * st .count + 4 * st .message .segments ≤ at
-    unt-taken = subst (λ (z : Phase). 8 * st .count + 4 * openSize z (st .message) ≤ at) ph (g .held .taken)
+    unt-taken : 8 * st .count + 4 * st .message .segments ≤ g .before
+    unt-taken = subst (λ (z : Phase). 8 * st .count + 4 * openSize z (st .message) ≤ g .before) ph (g .held .taken)
 
     unt-room : 2 * st .count + 2 ≤ length l
-    unt-room =
-        let t = unt-taken in
-        let n = g .ends in
-        let o = g .inside in
-        let k = g .held .names in
-        let i = g .held .begun in
-        omega (arith, t, n, o, k, i)
+    unt-room = g .room ph
 
     pub unt-offered : Offered l b (st .count) (st .slot) × (st .count < 65535)
     unt-offered =
         let t = unt-taken in
         let n = g .ends in
-        let o = g .inside in
-        let z = g .held .short in
-        (g .held .offered ph unt-room .1, omega (arith, t, n, o, z))
+        let z = g .short in
+        (g .held .offered ph unt-room .1, omega (arith, t, n, z))
 
     pub unt-sums : (st .message .segments < 65535) × (st .message .pair .base < 65536) × (st .message .pair .own < 65536)
     unt-sums =
         let t = unt-taken in
         let n = g .ends in
-        let o = g .inside in
-        let z = g .held .short in
+        let z = g .short in
         let i = g .held .roomy .base in
         let j = g .held .roomy .own in
-        (omega (arith, t, n, o, z), omega (arith, t, n, o, z, i), omega (arith, t, n, o, z, j))
+        (omega (arith, t, n, z), omega (arith, t, n, z, i), omega (arith, t, n, z, j))
 
     module _ {m : Bool} (may : m ≡ mayCome Unt (st .message)) where
       unt-order : orderS here ask ≡ m
@@ -459,8 +443,6 @@ module _ (y : Syntax) (s : List ℕ) (st : State) (h l b : List ℕ) (at next : 
                       roomy = g .held .roomy;
                       begun = g .held .begun;
                       long = g .held .long;
-                      names = g .held .names;
-                      short = g .held .short;
                       taken = taken;
                       offered = λ c. idle-shut c;
                     }

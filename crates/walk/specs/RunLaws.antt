@@ -46,7 +46,7 @@ use Rattle.message.specs.Steps.{summaryIn}
 use Rattle.message.specs.Summary.{Summary, StateS, startS, idleS, busyS, doneS, stateOf, AnswerS, told, fresh}
 use Rattle.turns.specs.FollowLaws.{follow}
 use Rattle.turns.specs.TurnLaws.{Turned, walk-over, walk-none, walk-bad, walk-turn, cut-open, cut-ends, cut-spoilt, turned-inside, turned-three}
-use Rattle.turns.specs.Held.{lookedAt, seenBy, phased, stateIn, Held, decidedFrom, StepIs}
+use Rattle.turns.specs.Held.{lookedAt, seenBy, phased, stateIn, openSize, Held, decidedFrom, StepIs}
 use Rattle.elements.specs.declared.Kind.{Kind}
 use Rattle.turns.specs.declared.state.Phase.{Phase}
 use Rattle.turns.specs.declared.state.Phase.the-variants.{Start, Idle, Busy, Done}
@@ -117,6 +117,8 @@ pub record Walking (y : Syntax) (s : List ℕ) (from : ℕ) (x : State) (h l b :
   pub good : Good y tree
   pub same : stateOf tree ≡ stateIn (y .service .release) s x h l
   pub held : Held (y .service .release) s x h l b i
+  pub names : length s ≤ 4 * length l
+  pub short : length s ≤ 65535
   pub first : x .phase ≡ Start → x .count ≡ 0
   pub goes : walk y tree (chain (y .service) false (drop i s)) i ≡ answerFrom y s from
   pub placed : i ≡ from + wide (y .service) (shown tree)
@@ -170,11 +172,11 @@ walking-start {y} {s} {h} {l} {b} {x} {i} f n e =
         };
         begun = omega arith;
         long = n;
-        names = f .room;
-        short = f .short;
         taken = omega arith;
         offered = λ e. absurd (false≢true (ap isBusy e));
       };
+      names = f .room;
+      short = f .short;
       first = λ e. refl;
       goes = refl;
       placed = omega arith;
@@ -373,10 +375,10 @@ module _ {y : Syntax} {s : List ℕ} {from : ℕ} {x : State} {h l b : List ℕ}
           (subst (λ (r : Step). StepIs (decidedFrom (y .version) (stateIn (y .service .release) s x h l) (askedAt (y .service) s i) i) r (y .service .release) s h′ l′ b′ (e + 1))
           q a)
 
-      goes-on : {x′ : State} {h′ l′ b′ : List ℕ}
+      goes-on : {x′ : State} {h′ l′ b′ : List ℕ} → length l′ ≡ length l
           → StepIs (decidedFrom (y .version) (stateIn (y .service .release) s x h l) (askedAt (y .service) s i) i) (On x′) (y .service .release) s h′ l′ b′ (e + 1)
           → Onward w (record { state = x′; next = e + 1; kind = k }) h′ l′ b′
-      goes-on {x′} {h′} {l′} {b′} g =
+      goes-on {x′} {h′} {l′} {b′} n g =
           by decision refl goes-so (subst (λ (a : AnswerS). StepIs a (On x′) (y .service .release) s h′ l′ b′ (e + 1)) tells g)
         where
           by : (d : Answer) → decision ≡ d → answerFrom y s from ≡ then d onward → StepIs (told d) (On x′) (y .service .release) s h′ l′ b′ (e + 1)
@@ -390,6 +392,8 @@ module _ {y : Syntax} {s : List ℕ} {from : ℕ} {x : State} {h l b : List ℕ}
                   good = passed-good (w .good) a;
                   same = sym (g .0);
                   held = g .1;
+                  names = let a = w .names in omega (arith, a, n);
+                  short = w .short;
                   first = λ n. absurd (never-start z a (sym (g .0) ∙ start-in (y .service .release) s x′ h′ l′ n));
                   goes = sym q;
                   placed = let n = turned .size in let m = w .placed in let k = ap (wide (y .service)) (shows (w .tree) (turned .g) (a .placed)) in omega (arith, n, m, k);
@@ -404,15 +408,24 @@ module _ {y : Syntax} {s : List ℕ} {from : ℕ} {x : State} {h l b : List ℕ}
               }
 
       -- the step goes on
-      pub walking-on : (r : Step) {x′ : State} {h′ l′ b′ : List ℕ} → r ≡ On x′
+      pub walking-on : (r : Step) {x′ : State} {h′ l′ b′ : List ℕ} → length l′ ≡ length l → r ≡ On x′
           → StepIs (decidedFrom (y .version) (stateIn (y .service .release) s x h l) (askedAt (y .service) s i) i) r (y .service .release) s h′ l′ b′ (e + 1)
           → Onward w (record { state = x′; next = e + 1; kind = k }) h′ l′ b′
-      walking-on r {x′} {h′} {l′} {b′} q a =
-          goes-on
+      walking-on r {x′} {h′} {l′} {b′} n q a =
+          goes-on n
           (subst (λ (r : Step). StepIs (decidedFrom (y .version) (stateIn (y .service .release) s x h l) (askedAt (y .service) s i) i) r (y .service .release) s h′ l′ b′ (e + 1))
           q a)
 
 -- ---- what a caller of a turn has
+
+-- the room for the open message's reference, by the octets
+pub room-here : {y : Syntax} {s : List ℕ} {from : ℕ} {x : State} {h l b : List ℕ} {i q : ℕ} → Walking y s from x h l b i → i + 4 ≤ q → q ≤ length s → x .phase ≡ Busy
+    → 2 * x .count + 2 ≤ length l
+room-here {x = x} {i = i} w d e b =
+    let t : 8 * x .count + 4 * x .message .segments ≤ i = subst (λ (p : Phase). 8 * x .count + 4 * openSize p (x .message) ≤ i) b (w .held .taken) in
+    let k = w .names in
+    let n = w .held .begun in
+    omega (arith, t, k, n, d, e)
 
 pub going : {y : Syntax} {s : List ℕ} {from : ℕ} {x : State} {h l b m : List ℕ} {i : ℕ} → Walking y s from x h l b i → T (fit (y .service)) → i < length s
     → isDone (x .phase) ≡ false → length m ≡ 40 → Going y s x h l b i m

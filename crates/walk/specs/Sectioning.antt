@@ -59,7 +59,7 @@ module _ {y : Syntax} {s : List ℕ} {x₀ : State} {h₀ l₀ b₀ : List ℕ} 
     going-so k n = going (walks-so d (g .from) (g .walks)) (g .fits) k (before-so d) n
 
     pub short-so : i < length s → i < 65536
-    short-so k = let a = walks-so d (g .from) (g .walks) .held .short in omega (arith, a, k)
+    short-so k = let a = walks-so d (g .from) (g .walks) .short in omega (arith, a, k)
 
     pub headers-so : x .message .headers ≤ 9
     headers-so = walks-so d (g .from) (g .walks) .held .roomy .headers

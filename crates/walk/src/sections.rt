@@ -99,7 +99,7 @@ fn is_busy(p: Phase) -> bool
 }
 
 // How many headers a trailer at `at` chooses from: all `n` of them, none where no UST stands there. Most segments are told by their first octet.
-fn nameable(s: &[u8], at: usize, n: usize) -> usize
+pub fn nameable(s: &[u8], at: usize, n: usize) -> usize
     requires { ⌜ (at < length (now s)) × (at < 65536) ⌝ }
     ensures { λ r. ⌜ r ≡ nameableIn (now (s .entry)) at n ⌝ }
 {
@@ -116,7 +116,14 @@ fn nameable(s: &[u8], at: usize, n: usize) -> usize
 }
 
 // Whether the trailer at `at` names header `i`, which no trailer has named yet.
-fn names_free(s: &[u8], at: usize, t: &[u8; 256], y: Syntax, heads: &[usize; 36], i: usize) -> bool
+pub fn names_free(
+    s: &[u8],
+    at: usize,
+    t: &[u8; 256],
+    y: Syntax,
+    heads: &[usize; 36],
+    i: usize,
+) -> bool
     requires { ⌜ Table y (now t) ⌝ }
     requires { ⌜ i < 9 ⌝ }
     ensures { λ r. ⌜ r ≡ (same (headRef (y .service .release) (now (s .entry)) (now (heads .entry)) i) (textAt (y .service) (now (s .entry)) at 1 0) && not (headFlag (now (heads .entry)) i)) ⌝ }

@@ -1,5 +1,6 @@
 use mathlib.Core.Path.{sym, _∙_}
-use Rattle.walk.specs.RunLaws.{whole, ending, walking-bad, walking-stop, walking-on}
+use native.Mathlib.Omega.{arith}
+use Rattle.walk.specs.RunLaws.{whole, ending, walking-bad, walking-stop, walking-on, room-here}
 use borrow.Author.Needs.{needs}
 use Rattle.walk.proofs.advance.advance.Statement.{statement}
 use Rattle.walk.proofs.advance.advance.Tie as tie
@@ -22,11 +23,11 @@ enum-known-x-2 c = search needs
 
 -- src/advance.rt:46:24
 add-next : tie.Need-add-next
-add-next c = let w = ending (c .before .before .before .before .before .before .before .before .before .before .before .before .args .y) (c .before .before .before .before .before .before .before .before .before .before .before .before .pre .1 .0 .fits) (c .before .before .before .before .before .before .before .before .before .before .before .before .args .s .now) (c .before .before .before .before .before .before .before .before .before .before .before .before .args .at) (c .before .before .before .before .before .before .before .before .before .before .before .before .pre .1 .0 .walks .held .short) (c .before .before .before .before .before .before .look .ensures .look) (c .before .x2 .given .1) in search needs
+add-next c = let w = ending (c .before .before .before .before .before .before .before .before .before .before .before .before .args .y) (c .before .before .before .before .before .before .before .before .before .before .before .before .pre .1 .0 .fits) (c .before .before .before .before .before .before .before .before .before .before .before .before .args .s .now) (c .before .before .before .before .before .before .before .before .before .before .before .before .args .at) (c .before .before .before .before .before .before .before .before .before .before .before .before .pre .1 .0 .walks .short) (c .before .before .before .before .before .before .look .ensures .look) (c .before .x2 .given .1) in search needs
 
 -- src/advance.rt:47:19
 turn-requires : tie.Need-turn-requires
-turn-requires c κs = let w = whole (c .before .before .before .before .before .before .before .before .before .before .before .before .before .before .before .before .args .y) (c .before .before .before .before .before .before .before .before .before .before .before .before .before .before .before .before .pre .1 .0 .fits) (sym (c .before .before .before .before .before .before .before .before .before .before .look .ensures .look) ∙ c .before .before .before .before .before .x2 .given .1) in (record { held = c .before .before .before .before .before .before .before .before .before .before .before .before .before .before .before .before .pre .1 .0 .walks .held; ends = w .ends; inside = w .inside; kind = w .kind; noted = c .before .before .before .before .before .before .before .before .before .before .look .ensures .noted _ _ (c .before .before .before .before .before .x2 .given .1); marks = c .before .before .before .before .before .before .before .before .before .before .look .ensures .marks }, (c .before .before .before .before .before .before .before .before .before .before .before .before .before .before .before .before .pre .1 .0 .walks .first, λ a e. c .before .before .before .before .before .before .before .before .before .before .before .before .before .before .before .before .pre .1 .1 a (sym (w .kind) ∙ e)))
+turn-requires c κs = let w = whole (c .before .before .before .before .before .before .before .before .before .before .before .before .before .before .before .before .args .y) (c .before .before .before .before .before .before .before .before .before .before .before .before .before .before .before .before .pre .1 .0 .fits) (sym (c .before .before .before .before .before .before .before .before .before .before .look .ensures .look) ∙ c .before .before .before .before .before .x2 .given .1) in (record { before = _; held = c .before .before .before .before .before .before .before .before .before .before .before .before .before .before .before .before .pre .1 .0 .walks .held; ends = w .ends; short = (let a = c .before .before .before .before .before .before .before .before .before .before .before .before .before .before .before .before .pre .1 .0 .walks .short in let b = w .inside in omega (arith, a, b)); room = room-here (c .before .before .before .before .before .before .before .before .before .before .before .before .before .before .before .before .pre .1 .0 .walks) (w .ends) (w .inside); kind = w .kind; noted = c .before .before .before .before .before .before .before .before .before .before .look .ensures .noted _ _ (c .before .before .before .before .before .x2 .given .1); marks = c .before .before .before .before .before .before .before .before .before .before .look .ensures .marks }, (c .before .before .before .before .before .before .before .before .before .before .before .before .before .before .before .before .pre .1 .0 .walks .first, λ a e. c .before .before .before .before .before .before .before .before .before .before .before .before .before .before .before .before .pre .1 .1 a (sym (w .kind) ∙ e)))
 
 -- src/advance.rt:48:28
 enum-known-z : tie.Need-enum-known-z
@@ -74,7 +75,7 @@ same-length-7 c = search needs
 
 -- src/advance.rt:22:1
 returns-3 : tie.Need-returns-3
-returns-3 c = (λ a w. walking-on w (c .before .before .before .before .before .before .before .before .before .before .before .before .before .before .before .before .before .before .before .before .before .before .before .before .pre .1 .0 .fits) (c .before .before .before .before .before .before .before .before .before .before .before .before .before .before .before .before .before .before .before .before .before .before .before .before .pre .1 .0 .before) (sym (c .before .before .before .before .before .before .before .before .before .before .before .before .before .before .before .before .before .before .look .ensures .look) ∙ c .before .before .before .before .before .before .before .before .before .before .before .before .before .x2 .given .1) _ (c .before .z2 .given .1) (c .before .before .before .before .before .before .before .turn .ensures), c .before .before .before .before .before .before .before .before .before .before .before .before .before .before .before .before .before .before .look .ensures .marks)
+returns-3 c = (λ a w. walking-on w (c .before .before .before .before .before .before .before .before .before .before .before .before .before .before .before .before .before .before .before .before .before .before .before .before .pre .1 .0 .fits) (c .before .before .before .before .before .before .before .before .before .before .before .before .before .before .before .before .before .before .before .before .before .before .before .before .pre .1 .0 .before) (sym (c .before .before .before .before .before .before .before .before .before .before .before .before .before .before .before .before .before .before .look .ensures .look) ∙ c .before .before .before .before .before .before .before .before .before .before .before .before .before .x2 .given .1) _ (c .before .before .before .before .before .before .before .turn .kept .1 .1 .1 .1 .1 .1 .1 .1 .1 .0) (c .before .z2 .given .1) (c .before .before .before .before .before .before .before .turn .ensures), c .before .before .before .before .before .before .before .before .before .before .before .before .before .before .before .before .before .before .look .ensures .marks)
 
 pub advance-spec : {M : Type 1} → statement M
 advance-spec =
