@@ -11,7 +11,7 @@ ghost use Rattle.syntax.specs.Cutting.{endAt};
 ghost use Rattle.syntax.specs.Opening.{startsUna, unaService, readUna, openingOf, levelNamed, versionNamed, refusedUnb, settled, declaredAt, isUnb, isTag, isThere, begunAt, begunOf};
 use syntax::Found;
 use syntax::Level;
-use syntax::Refusal;
+use syntax::Breach;
 use syntax::Service;
 use syntax::Syntax;
 use syntax::Version;
@@ -166,7 +166,7 @@ fn read_una(s: &[u8]) -> Opened
     ensures { λ r. ⌜ r ≡ readUna (now (s .entry)) ⌝ }
 {
     if s.len() < 9 {
-        return Opened::Refused(Refusal {
+        return Opened::Refused(Breach {
             number: 2,
             place: 0,
         });
@@ -179,7 +179,7 @@ fn read_una(s: &[u8]) -> Opened
             at: 9,
         });
     }
-    Opened::Refused(Refusal {
+    Opened::Refused(Breach {
         number: 2,
         place: 0,
     })
@@ -190,13 +190,13 @@ pub fn before_unb(s: &[u8]) -> Opened
     ensures { λ r. ⌜ r ≡ openingOf (now (s .entry)) ⌝ }
 {
     if s.len() == 0 {
-        return Opened::Refused(Refusal {
+        return Opened::Refused(Breach {
             number: 1,
             place: 0,
         });
     }
     if 65535 < s.len() {
-        return Opened::Refused(Refusal {
+        return Opened::Refused(Breach {
             number: 1,
             place: 0,
         });
@@ -259,7 +259,7 @@ fn version_named(x: &[u8], release: u8) -> VersionName
 fn unb_refused(number: u8, place: usize) -> Begun
     ensures { λ r. ⌜ r ≡ refusedUnb number place ⌝ }
 {
-    Begun::Refused(Refusal {
+    Begun::Refused(Breach {
         number: number,
         place: place,
     })

@@ -40,14 +40,14 @@ module _ {A : Type 0} where
     pub read : verdictOf s ≡ accepted i
     pub gave : f i ≡ some a
 
-  pub missing-given : {B : Type 0} {n p : ℕ} {a : A} → refusedAs n p ≡ given a → B
+  pub missing-given : {B : Type 0} {f : Refusal} {a : A} → refusedAs f ≡ given a → B
   missing-given e = let z : _≡_ {A = ℕ} 0 1 = cc in absurd (omega arith)
 
   pub given-so : (s : List ℕ) (f : Interchange → Option A) (a : A) → answeredBy (verdictOf s) f ≡ given a → Given s f a
   given-so s f a e = by (verdictOf s) refl e
     where
       by : (v : Verdict) → verdictOf s ≡ v → answeredBy v f ≡ given a → Given s f a
-      by (refusedWith n p) d e = missing-given e
+      by (refusedWith f′) d e = missing-given e
       by (accepted i) d e = each (f i) refl e
         where
           each : (o : Option A) → f i ≡ o → orMissing o ≡ given a → Given s f a

@@ -39,9 +39,9 @@ text-accepted t g e = by (ltb 65535 (length t)) (ltb-false 65535 (length t)) (sa
 check-accepted : (s g : List ℕ) → told Same ≡ checkNumbers (registerOf s) g → Accepted (registerOf s) g
 check-accepted s g e = by (verdictOf s) (refused-number s) e
   where
-    by : (v : Verdict) → ((n p : ℕ) → v ≡ refusedWith n p → (1 ≤ n) × (n ≤ 12)) → told Same ≡ checkNumbers (registerBy v) g → Accepted (registerBy v) g
+    by : (v : Verdict) → ((f : Refusal) → v ≡ refusedWith f → (1 ≤ f .number) × (f .number ≤ 12)) → told Same ≡ checkNumbers (registerBy v) g → Accepted (registerBy v) g
     by (accepted i) f e = text-accepted (registerIn i) g e
-    by (refusedWith n p) f e = let z : 0 ≡ n = cc in absurd (omega (arith, z, f n p refl .0))
+    by (refusedWith g) f e = let z : 0 ≡ g .number = cc in absurd (omega (arith, z, f g refl .0))
 
 accepted-checks : {x : Text} {g : List ℕ} → Accepted x g → told Same ≡ checkNumbers x g
 accepted-checks {x} {g} a = sym (ap (λ (x : Text). checkNumbers x g) (a .is) ∙ rw (le-ltb 65535 (length g) (a .short), same-self g))
@@ -66,10 +66,10 @@ front (c ∷ a) (d ∷ b) x y l e =
     rw (i, k)
 
 writes-accepted : (x : Text) (g out : List ℕ) → Writes x out (Length (length g)) (g ++ drop (length g) out) → Accepted x g
-writes-accepted (noText n p) g out w = length-told (w .answer)
+writes-accepted (noText f) g out w = length-told (w .answer)
 writes-accepted (text t) g out w = by (ltb 65535 (length t)) (ltb-false 65535 (length t)) (ltb (length out) (length t)) (w .answer) (w .octets)
   where
-    by : (l : Bool) → (l ≡ false → length t ≤ 65535) → (b : Bool) → Length (length g) ≡ cond (cond l true b) (refusedAs 15 0) (Length (length t))
+    by : (l : Bool) → (l ≡ false → length t ≤ 65535) → (b : Bool) → Length (length g) ≡ cond (cond l true b) (refusedAs 15) (Length (length t))
         → g ++ drop (length g) out ≡ cond (cond l true b) out (t ++ drop (length t) out) → Accepted (text t) g
     by true k b e d = length-told e
     by false k true e d = length-told e

@@ -21,12 +21,12 @@ use Rattle.sealing.specs.Sealing.{sealOf, sealOctetsOf}
 -- "sealed octets": how many the header part has, and the body part
 abbrev sealed : Answered Parts → List ℕ
 sealed (given (parts a b c d)) = (b - a) ∷ (d - c) ∷ []
-sealed (refusedAs n p) = []
+sealed (refusedAs f) = []
 
 -- number and place, then the octets that are written
 abbrev valued : Text → List ℕ
 valued (text t) = 0 ∷ 0 ∷ t
-valued (noText n p) = n ∷ p ∷ []
+valued (noText f) = f .number ∷ f .place ∷ []
 
 -- ---- the table
 

@@ -139,14 +139,14 @@ walk-number y x (open′ c cs rs es n) p =
 
 abbrev OfVerdict : Verdict → Type 0
 OfVerdict (accepted t) = Unit {0}
-OfVerdict (refusedWith n p) = Number n
+OfVerdict (refusedWith f) = Number (f .number)
 
-concluded-number : (u : Option Una) (a : Answer) → OfAnswer a → OfVerdict (concluded u a)
-concluded-number u (read start) h = tt
-concluded-number u (read (idle b ms)) h = tt
-concluded-number u (read (busy b ms o)) h = tt
-concluded-number u (read (done b ms z)) h = tt
-concluded-number u (refused n p) h = h
+concluded-number : (s : List ℕ) (u : Option Una) (a : Answer) → OfAnswer a → OfVerdict (concluded s u a)
+concluded-number s u (read start) h = tt
+concluded-number s u (read (idle b ms)) h = tt
+concluded-number s u (read (busy b ms o)) h = tt
+concluded-number s u (read (done b ms z)) h = tt
+concluded-number s u (refused n p) h = h
 
 verdict-number : (s : List ℕ) → OfVerdict (verdictOf s)
 verdict-number s = by (begunOf s) (begun-number s)
@@ -154,12 +154,15 @@ verdict-number s = by (begunOf s) (begun-number s)
     by : (b : Begun) → OfBegun b → OfVerdict (verdictBy s b)
     by (Refused f) h = h
     by (Ready x) h =
-        concluded-number (unaAt s) (walk (x .syntax) start (chain (x .syntax .service) false (drop (x .at) s)) (x .at))
+        concluded-number s (unaAt s) (walk (x .syntax) start (chain (x .syntax .service) false (drop (x .at) s)) (x .at))
         (walk-number (x .syntax) start (chain (x .syntax .service) false (drop (x .at) s)) (x .at))
 
-pub refused-number : (s : List ℕ) (n p : ℕ) → verdictOf s ≡ refusedWith n p → (1 ≤ n) × (n ≤ 12)
-refused-number s n p e = by (leb 1 n) (leb-true 1 n) (leb n 12) (leb-true n 12) (subst OfVerdict e (verdict-number s))
+pub refused-number : (s : List ℕ) (f : Refusal) → verdictOf s ≡ refusedWith f → (1 ≤ f .number) × (f .number ≤ 12)
+refused-number s f e = by (leb 1 n) (leb-true 1 n) (leb n 12) (leb-true n 12) (subst OfVerdict e (verdict-number s))
   where
+    abbrev n : ℕ
+    n = f .number
+
     by : (a : Bool) → (a ≡ true → 1 ≤ n) → (b : Bool) → (b ≡ true → n ≤ 12) → T (a && b) → (1 ≤ n) × (n ≤ 12)
     by true f true g h = (f refl, g refl)
     by true f false g h = absurd h

@@ -152,7 +152,7 @@ module _ (s : List ℕ) (a b : ℕ) where
   f01-printed t m r e = by (verdictOf t) e
     where
       by : (v : Verdict) → f01By v s m r ≡ given (run a b) → F01 s a b
-      by (refusedWith n p) e = missing-given e
+      by (refusedWith f) e = missing-given e
       by (accepted j) e =
           let g = given-so s (λ i. then (referenceIn j m r) (runIn i)) (run a b) e in
           let q = then-so (referenceIn j m r) (runIn (g .i)) (run a b) (g .gave) in

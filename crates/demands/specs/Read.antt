@@ -19,7 +19,7 @@ use Rattle.demands.specs.Range.{Reads, Same, totalIn, Range1, range1, sc
 -- "version, repertoire and service characters are always those of the interchange in which the octets lie"
 abbrev pub syntaxBy : Verdict → Option Syntax
 syntaxBy (accepted i) = syntaxIn i
-syntaxBy (refusedWith n p) = none
+syntaxBy (refusedWith f) = none
 
 abbrev pub syntaxOf : List ℕ → Option Syntax
 syntaxOf s = syntaxBy (verdictOf s)

@@ -13,10 +13,10 @@ use Rattle.writing.specs.WrittenLaws.{length-told}
 use Rattle.writing.specs.declared.Written.the-variants.{Length}
 
 pub writes-so : (t : Text) (out : List ℕ) (k : ℕ) (out′ : List ℕ) → Writes t out (Length k) out′ → (t ≡ text (take k out′)) × ((length (take k out′) ≡ k) × (k ≤ 65535))
-writes-so (noText n p) out k out′ w = length-told (w .answer)
+writes-so (noText f) out k out′ w = length-told (w .answer)
 writes-so (text x) out k out′ w = by (ltb 65535 (length x)) refl (ltb (length out) (length x)) (w .answer) (w .octets)
   where
-    by : (a : Bool) → ltb 65535 (length x) ≡ a → (b : Bool) → Length k ≡ cond (cond a true b) (refusedAs 15 0) (Length (length x)) → out′ ≡ cond (cond a true b) out (x ++ drop (length x) out)
+    by : (a : Bool) → ltb 65535 (length x) ≡ a → (b : Bool) → Length k ≡ cond (cond a true b) (refusedAs 15) (Length (length x)) → out′ ≡ cond (cond a true b) out (x ++ drop (length x) out)
         → (text x ≡ text (take k out′)) × ((length (take k out′) ≡ k) × (k ≤ 65535))
     by true d b e o = length-told e
     by false d true e o = length-told e

@@ -7,6 +7,7 @@ use mathlib.Core.Option.{Option, none, some}
 use mathlib.Core.Bool.{Bool, true, false, cond, _&&_}
 use lib.Dec.{T}
 use lib.ListN.{length}
+use Rattle.syntax.specs.Refusals.{atZero}
 use Rattle.syntax.specs.TreeLaws.{and-left, and-right}
 use Rattle.grammar.specs.Lists.{Snoc}
 use Rattle.grammar.specs.Interchange.{Leaf, Header, Trailer, Body, msg, message}
@@ -45,25 +46,25 @@ pub record Succeeds (s m r : List ℕ) (f : ℕ) (v x : List ℕ) : Type 0 where
   pub written : T (writable (syntaxIn i) (textBy f v))
   pub printed : print (sealedBy i m r f v) ≡ x
 
-no-text : {A : Type 0} {n p : ℕ} {x : List ℕ} → noText n p ≡ text x → A
+no-text : {A : Type 0} {f : Refusal} {x : List ℕ} → noText f ≡ text x → A
 no-text e = let z : _≡_ {A = ℕ} 0 1 = cc in absurd (omega arith)
 
 pub answered-text : (a : Answered Text) {x : List ℕ} → answered a ≡ text x → a ≡ given (text x)
 answered-text (given y) e = ap given e
-answered-text (refusedAs n p) e = no-text e
+answered-text (refusedAs f) e = no-text e
 
 module _ (s m r : List ℕ) (f : ℕ) (v x : List ℕ) where
   written-so : (i : Interchange) → orUnwritten i m r f (textBy f v) ≡ text x → T (writable (syntaxIn i) (textBy f v)) × (print (sealedBy i m r f v) ≡ x)
   written-so i e = by (writable (syntaxIn i) (textBy f v)) e
     where
-      by : (c : Bool) → cond c (text (sealedText i m r f (textBy f v))) (noText 14 0) ≡ text x → T c × (print (sealedBy i m r f v) ≡ x)
+      by : (c : Bool) → cond c (text (sealedText i m r f (textBy f v))) (noText (atZero 14)) ≡ text x → T c × (print (sealedBy i m r f v) ≡ x)
       by true e = (tt, cc)
       by false e = no-text e
 
   placed-so : (i : Interchange) (p : Placed) → verdictOf s ≡ accepted i → messageIn i m ≡ some p → sealAt i p m r f v ≡ text x → Succeeds s m r f v x
   placed-so i (placed (message (msg u hs b ts) n) q) d k e = by (maySeal (msg u hs b ts) r f && lengthRight f v) refl e
     where
-      by : (c : Bool) → (maySeal (msg u hs b ts) r f && lengthRight f v) ≡ c → cond c (orUnwritten i m r f (textBy f v)) (noText 16 0) ≡ text x → Succeeds s m r f v x
+      by : (c : Bool) → (maySeal (msg u hs b ts) r f && lengthRight f v) ≡ c → cond c (orUnwritten i m r f (textBy f v)) (noText (atZero 16)) ≡ text x → Succeeds s m r f v x
       by true a e =
           let w = written-so i e in
           let h = passes (maySeal (msg u hs b ts) r f && lengthRight f v) a in

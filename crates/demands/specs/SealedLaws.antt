@@ -9,6 +9,7 @@ use lib.Dec.{T, eqb, leb, leb→le}
 use lib.ListN.{length}
 use lib.Seq.{slice}
 use borrow.Author.Tests.{eqb-true, ne-eqb}
+use Rattle.syntax.specs.Refusals.{atZero}
 use Rattle.syntax.specs.Octets.{octets, same}
 use Rattle.syntax.specs.Tree.{print}
 use Rattle.syntax.specs.ContentLaws.{same-self}
@@ -84,7 +85,7 @@ module _ (s m r : List ℕ) (f : ℕ) (v x : List ℕ) (w : Succeeds s m r f v x
   written : sealOctetsOf s m r f ≡ text (print (serviceIn (w .i)) (list (showHeader H)) ++ print (serviceIn (w .i)) (list (showBody (w .b))))
   written =
       ap answered (asked-of s m (λ i p. some (octetsAt i p r f)) (w .i) (placed (message (msg (w .u) (w .hs) (w .b) (w .ts)) (w .n)) (w .q)) (w .read) (w .named))
-      ∙ ap (λ (c : Bool). cond c (text (signedText (serviceIn (w .i)) (msg (w .u) (w .hs) (w .b) (w .ts)) r f)) (noText 16 0)) (is-true (maySeal (msg (w .u) (w .hs) (w .b) (w .ts)) r f) (w .may))
+      ∙ ap (λ (c : Bool). cond c (text (signedText (serviceIn (w .i)) (msg (w .u) (w .hs) (w .b) (w .ts)) r f)) (noText (atZero 16))) (is-true (maySeal (msg (w .u) (w .hs) (w .b) (w .ts)) r f) (w .may))
       ∙ ap text
       (ap (print (serviceIn (w .i))) (list-join (showHeader (newHeader r f)) (showBody (w .b))) ∙ print-append (serviceIn (w .i)) (list (showHeader (newHeader r f))) (list (showBody (w .b))))
 

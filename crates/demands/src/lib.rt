@@ -12,6 +12,7 @@ ghost use lib.Dec.{T};
 ghost use lib.ListN.{length, take, drop};
 ghost use lib.Seq.{slice};
 ghost use Rattle.syntax.specs.Service.{fit};
+ghost use Rattle.syntax.specs.declared.Refusal.{Refusal};
 ghost use Rattle.syntax.specs.declared.Service.{Service};
 ghost use Rattle.grammar.specs.Lists.{Snoc};
 ghost use Rattle.grammar.specs.Interchange.{Message};
@@ -57,12 +58,12 @@ pub fn totals_are_read()
 
 // A refused input is the printing of no valid interchange.
 pub fn refused_is_none()
-    ensures { λ _. ⌜ ((s : List ℕ) (n p : ℕ) → verdictOf s ≡ refusedWith n p → (t : Interchange) → Valid t → print t ≡ s → ⊥) ⌝ }
+    ensures { λ _. ⌜ ((s : List ℕ) (f : Refusal) → verdictOf s ≡ refusedWith f → (t : Interchange) → Valid t → print t ≡ s → ⊥) ⌝ }
 {}
 
 // The verdict's refusals are the numbers 1 to 12: never 0, which the accepted case has, nor 13 and up, which the calls add.
 pub fn refusals_are_numbered()
-    ensures { λ _. ⌜ ((s : List ℕ) (n p : ℕ) → verdictOf s ≡ refusedWith n p → (1 ≤ n) × (n ≤ 12)) ⌝ }
+    ensures { λ _. ⌜ ((s : List ℕ) (f : Refusal) → verdictOf s ≡ refusedWith f → (1 ≤ f .number) × (f .number ≤ 12)) ⌝ }
 {}
 
 // D2c. What a range call hands back is the printing of that part of the one tree. Scope 1: of the header group, and of the body, of the message and

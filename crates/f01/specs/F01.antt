@@ -37,7 +37,7 @@ runIn (interchange n u ms z) r =
 
 -- "Calls give 1 to 12 first (F01: the AUTACK's interchange, then the other)": a is the AUTACK's, s the other
 abbrev pub f01By : Verdict → List ℕ → List ℕ → List ℕ → Answered Run
-f01By (refusedWith n p) s m r = refusedAs n p
+f01By (refusedWith f) s m r = refusedAs f
 f01By (accepted a) s m r = answeredBy (verdictOf s) (λ i. then (referenceIn a m r) (runIn i))
 
 abbrev pub f01Of : List ℕ → List ℕ → List ℕ → List ℕ → Answered Run

@@ -7,6 +7,7 @@ use mathlib.Core.Option.{Option, none, some}
 use mathlib.Core.Bool.{Bool, true, false, cond}
 use lib.ListN.{length}
 use lib.Seq.{slice}
+use Rattle.syntax.specs.Refusals.{refusalAt, atZero}
 use Rattle.syntax.specs.Octets.{octets, same}
 use Rattle.syntax.specs.Content.{content}
 use Rattle.syntax.specs.Opening.{begunOf}
@@ -14,6 +15,7 @@ use Rattle.syntax.specs.Segment.{componentAt, partOf}
 use Rattle.syntax.specs.Tree.{Segment}
 use Rattle.syntax.specs.declared.Service.{Service}
 use Rattle.syntax.specs.declared.Syntax.{Syntax}
+use Rattle.syntax.specs.declared.Breach.{Breach}
 use Rattle.syntax.specs.declared.Refusal.{Refusal}
 use Rattle.syntax.specs.declared.reading.Span.{Span as Place}
 use Rattle.syntax.specs.declared.reading.Span.the-variants.{Part, Absent}
@@ -53,7 +55,7 @@ use Rattle.ranges.specs.Ranges.{Run, run, headerIn}
 use Rattle.f01.specs.F01.{usxReference, referenceAt, referenceIn, runOf, runIn, f01By, f01Of}
 use Rattle.f01.specs.Referring.{referredIn, Refers, isReferred}
 use Rattle.ranges.specs.RangesLaws.{header-scoped}
-use Rattle.ranges.specs.Told.{missingAs, runAs, headerFound}
+use Rattle.ranges.specs.Told.{runAs, headerFound}
 use Rattle.f01.specs.declared.Referred.{Referred}
 use Rattle.f01.specs.declared.Reference.{Reference}
 use Rattle.f01.specs.declared.Reference.the-variants.{At, Missing, Refused}
@@ -141,13 +143,15 @@ module _ (s : List ℕ) (o : Option (List ℕ)) where
   abbrev asks : Interchange → Option Run
   asks i = then o (runIn i)
 
-  pub run-unbegun : {f : Refusal} {g : Begun} → g ≡ begunOf s → g ≡ Refuses f → RunRefused f ≡ runAs (answeredBy (verdictOf s) asks)
-  run-unbegun {f} e d = sym (ap (λ (b : Begun). runAs (answeredBy (verdictBy s b) asks)) (sym e ∙ d))
+  pub run-unbegun : {f : Breach} {g : Begun} {k : Refusal} → g ≡ begunOf s → g ≡ Refuses f → k ≡ refusalAt s (f .number) (f .place)
+      → RunRefused k ≡ runAs (answeredBy (verdictOf s) asks)
+  run-unbegun {f} e d h = ap RunRefused h ∙ sym (ap (λ (b : Begun). runAs (answeredBy (verdictBy s b) asks)) (sym e ∙ d))
 
   module _ {x : Start} {g : Begun} (e : g ≡ begunOf s) (d : g ≡ Begins x) where
-    pub run-refused : {f : Refusal} {k : SpanAnswer} → k ≡ NotSpanned f → SpanIs (x .syntax) s (x .at) k → RunRefused f ≡ runAs (answeredBy (verdictOf s) asks)
-    run-refused {f} j q =
-        sym (ap (λ (v : Verdict). runAs (answeredBy v asks)) (verdict-by s e d (subst (SpanIs (x .syntax) s (x .at)) j q)))
+    pub run-refused : {f : Breach} {k : SpanAnswer} {g : Refusal} → k ≡ NotSpanned f → SpanIs (x .syntax) s (x .at) k → g ≡ refusalAt s (f .number) (f .place)
+        → RunRefused g ≡ runAs (answeredBy (verdictOf s) asks)
+    run-refused {f} j q h =
+        ap RunRefused h ∙ sym (ap (λ (v : Verdict). runAs (answeredBy v asks)) (verdict-by s e d (subst (SpanIs (x .syntax) s (x .at)) j q)))
 
     -- what is read, and its run
     record Whole (z : Option Span) : Type 0 where
@@ -182,15 +186,15 @@ module _ (s : List ℕ) (o : Option (List ℕ)) where
         by none = refl
         by (some r) = ap orMissing (w .runs r)
 
-    pub run-none : {f : Refusal} {k : SpanAnswer} → k ≡ NoSpan → SpanIs (x .syntax) s (x .at) k → f ≡ missingAs → RunRefused f ≡ runAs (answeredBy (verdictOf s) asks)
+    pub run-none : {f : Refusal} {k : SpanAnswer} → k ≡ NoSpan → SpanIs (x .syntax) s (x .at) k → f ≡ atZero 13 → RunRefused f ≡ runAs (answeredBy (verdictOf s) asks)
     run-none {f} j q n =
         ap RunRefused n ∙ sym (ap runAs (asked-run (whole none (subst (SpanIs (x .syntax) s (x .at)) j q)) ∙ by o))
       where
-        by : (o : Option (List ℕ)) → orMissing {A = Run} (then o (λ r. cond (same (nameAt (x .syntax .service) s (x .at) 5) r) none none)) ≡ refusedAs 13 0
+        by : (o : Option (List ℕ)) → orMissing {A = Run} (then o (λ r. cond (same (nameAt (x .syntax .service) s (x .at) 5) r) none none)) ≡ refusedAs (atZero 13)
         by none = refl
         by (some r) = each (same (nameAt (x .syntax .service) s (x .at) 5) r)
           where
-            each : (b : Bool) → orMissing {A = Run} (cond b none none) ≡ refusedAs 13 0
+            each : (b : Bool) → orMissing {A = Run} (cond b none none) ≡ refusedAs (atZero 13)
             each true = refl
             each false = refl
 
@@ -209,7 +213,7 @@ module _ (s : List ℕ) (o : Option (List ℕ)) where
       pub run-there : b ≡ true → RunOf (record { start = z .start; end = z .end }) ≡ runAs (answeredBy (verdictOf s) asks)
       run-there h = sym (ap runAs (answers ∙ ap (λ (c : Bool). orMissing (cond c (some (run (z .start) (z .end))) none)) h))
 
-      pub run-other : {f : Refusal} → b ≡ false → f ≡ missingAs → RunRefused f ≡ runAs (answeredBy (verdictOf s) asks)
+      pub run-other : {f : Refusal} → b ≡ false → f ≡ atZero 13 → RunRefused f ≡ runAs (answeredBy (verdictOf s) asks)
       run-other h n =
           ap RunRefused n ∙ sym (ap runAs (answers ∙ ap (λ (c : Bool). orMissing (cond c (some (run (z .start) (z .end))) none)) h))
 

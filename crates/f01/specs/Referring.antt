@@ -23,7 +23,7 @@ referredIn a (Refused f) = none
 abbrev pub Refers : List ℕ → List ℕ → List ℕ → Reference → Type 0
 Refers a m r (At x) = (i : Interchange) × ((verdictOf a ≡ accepted i) × (referenceIn i m r ≡ referredIn a (At x)))
 Refers a m r Missing = (i : Interchange) × ((verdictOf a ≡ accepted i) × (referenceIn i m r ≡ none))
-Refers a m r (Refused f) = verdictOf a ≡ refusedWith (f .number) (f .place)
+Refers a m r (Refused f) = verdictOf a ≡ refusedWith f
 
 -- the 0020 is this one
 abbrev pub isReferred : Option (List ℕ) → List ℕ → Bool

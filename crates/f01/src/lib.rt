@@ -27,6 +27,7 @@ use ranges::scopes::Run;
 use ranges::scopes::header_of;
 use ranges::scopes::own_part;
 use spans::span::Spanned;
+use refusals::refusal;
 use spans::span::span;
 use syntax::Refusal;
 use syntax::Syntax;
@@ -129,7 +130,7 @@ fn run_of(s: &[u8], autack: &[u8], r: Reference) -> Run
     ensures { λ x. ⌜ RunInside x (length (now (s .entry))) ⌝ }
 {
     match begin(s) {
-        Begun::Refused(f) => Run::Refused(f),
+        Begun::Refused(f) => Run::Refused(refusal(s, f)),
         Begun::Ready(b) => {
             let y = b.syntax;
             let at = b.at;
@@ -145,7 +146,7 @@ fn run_of(s: &[u8], autack: &[u8], r: Reference) -> Run
                     Run::Refused(missing())
                 }
                 Spanned::Missing => Run::Refused(missing()),
-                Spanned::Refused(f) => Run::Refused(f),
+                Spanned::Refused(f) => Run::Refused(refusal(s, f)),
             }
         }
     }

@@ -5,6 +5,7 @@ use mathlib.Core.Bool.{cond}
 use mathlib.Core.Option.{Option, none, some}
 use lib.Dec.{eqb}
 use lib.ListN.{length}
+use Rattle.syntax.specs.Refusals.{atZero}
 use Rattle.syntax.specs.Octets.{octets, same}
 use Rattle.writing.specs.Written.{Text, text, noText}
 use Rattle.filters.specs.Hex.{hexValue}
@@ -17,5 +18,5 @@ valueBy code t =
 
 -- "filter unknown, text bad or empty": 14 at 0
 abbrev pub orBad : Option (List ℕ) → Text
-orBad none = noText 14 0
+orBad none = noText (atZero 14)
 orBad (some v) = text v

@@ -46,12 +46,12 @@ laid-of v g = record { place = omega arith; octets = g .is .1 }
 length-of : (v : List ℕ) {out : List ℕ} {m : ℕ} {d : Decoded} {out′ : List ℕ} → Decodes (some v) out 0 d out′ → d ≡ Length m → m ≡ length v
 length-of v {m = m} g e = let q = g .is .0 in let z : m ≡ 0 + length v = cc in omega arith
 
-pub wrote-bad : (x : Option (List ℕ)) {a a′ out : List ℕ} {d : Decoded} {r : Written} → Decodes x a 0 d a′ → d ≡ Bad → r ≡ refusedAs 14 0 → Writes (orBad x) out r out
+pub wrote-bad : (x : Option (List ℕ)) {a a′ out : List ℕ} {d : Decoded} {r : Written} → Decodes x a 0 d a′ → d ≡ Bad → r ≡ refusedAs 14 → Writes (orBad x) out r out
 wrote-bad none g e q = writes-none q
 wrote-bad (some v) g e q = absurd (never (sym (g .is .0) ∙ e))
 
 pub wrote-long : (x : Option (List ℕ)) {a a′ out : List ℕ} {d : Decoded} {m : ℕ} {b : Bool} {r : Written}
-    → Decodes x a 0 d a′ → d ≡ Length m → b ≡ tooLong (length out) m → b ≡ true → r ≡ refusedAs 15 0 → Writes (orBad x) out r out
+    → Decodes x a 0 d a′ → d ≡ Length m → b ≡ tooLong (length out) m → b ≡ true → r ≡ refusedAs 15 → Writes (orBad x) out r out
 wrote-long none g e l h q = absurd (never (sym e ∙ g .is))
 wrote-long (some v) g e l h q = writes-over (length-of v g e) l h q
 

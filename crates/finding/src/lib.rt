@@ -7,7 +7,7 @@ ghost use Rattle.syntax.specs.Service.{fit};
 ghost use Rattle.syntax.specs.Repertoire.{Table};
 ghost use Rattle.walk.specs.RunLaws.{Fresh};
 ghost use Rattle.finding.specs.Finding.{namedBy, FoundIs};
-use syntax::Refusal;
+use syntax::Breach;
 use syntax::Syntax;
 use syntax::content::content_is;
 use syntax::content::part;
@@ -20,7 +20,7 @@ use walk::sections::unread;
 pub enum Found {
     Message(Layout),
     Missing,
-    Refused(Refusal),
+    Refused(Breach),
 }
 
 // Where the groups of the message found start: the rows are kept.

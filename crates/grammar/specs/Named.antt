@@ -4,6 +4,7 @@ use mathlib.Core.Bool.{cond}
 use mathlib.Core.List.{List}
 use mathlib.Core.Option.{Option, none, some}
 use Rattle.syntax.specs.Octets.{same}
+use Rattle.syntax.specs.Refusals.{atZero}
 use Rattle.syntax.specs.declared.Service.{Service}
 use Rattle.grammar.specs.Lists.{Snoc, nil, _▷_, size, sum}
 use Rattle.grammar.specs.Interchange.{Leaf, Message, Reading, start, idle, busy, done, shown}
@@ -29,5 +30,5 @@ placedAt σ p (done u ms z) r = placedIn σ p u ms r
 
 -- its loads and their grams; 13: "no such message", at 0
 abbrev pub totalsAt : Option Placed → Totals
-totalsAt none = refusedTotals 13 0
+totalsAt none = refusedTotals (atZero 13)
 totalsAt (some (placed m q)) = totalled (size (loadsM m)) (sum (loadsM m))

@@ -21,7 +21,7 @@ use Rattle.syntax.specs.Tree.{Segment, printS, well, repeatsOf}
 use Rattle.syntax.specs.TreeLaws.{off, and-left, and-right, and-both, print-cons}
 use Rattle.syntax.specs.BridgeLaws.{Agrees, bridge}
 use Rattle.syntax.specs.ReaderLaws.{well-uncons}
-use Rattle.syntax.specs.declared.Refusal.{Refusal}
+use Rattle.syntax.specs.declared.Breach.{Breach}
 use Rattle.syntax.specs.declared.Service.{Service}
 use Rattle.syntax.specs.declared.Syntax.{Syntax}
 use Rattle.syntax.specs.declared.Version.the-variants.{Three, Four}
@@ -177,7 +177,7 @@ record Settled (o : Opening) (x : Start) : Type 0 where
   fits : T (fit (o .service)) → T (fit (x .syntax .service))
   place : x .at ≡ o .at
 
-never : {A : Type 0} {f : Refusal} {x : Start} → Refused f ≡ Ready x → A
+never : {A : Type 0} {f : Breach} {x : Start} → Refused f ≡ Ready x → A
 never e = let z : _≡_ {A = ℕ} 0 1 = cc in let y : ⊥ = omega arith in absurd y
 
 settled-by : (o : Opening) (l : LevelName) (n : VersionName) (x : Start) → bothNamed o l n ≡ Ready x → Settled o x
@@ -346,7 +346,7 @@ pub record StartRead (s : List ℕ) (x : Start) : Type 0 where
   pub left : x .at < length s
   pub end : isThere (endAt (x .syntax .service) s (x .at)) ≡ true
 
-closed : {A : Type 0} {f : Refusal} {o : Opening} → Closed f ≡ Known o → A
+closed : {A : Type 0} {f : Breach} {o : Opening} → Closed f ≡ Known o → A
 closed e = let z : _≡_ {A = ℕ} 0 1 = cc in let y : ⊥ = omega arith in absurd y
 
 -- UNA's octets, and those behind them

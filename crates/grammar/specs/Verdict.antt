@@ -7,6 +7,7 @@ use lib.ListN.{length, getD, drop}
 use Rattle.syntax.specs.Octets.{same}
 use Rattle.syntax.specs.Cutting.{firstOutside}
 use Rattle.syntax.specs.Opening.{startsUna, unaService, isThere, begunOf}
+use Rattle.syntax.specs.Refusals.{refusalAt, atZero}
 use Rattle.syntax.specs.Tree.{Segment, printS}
 use Rattle.syntax.specs.Reader.{Chain, over, left, open′, chain, cut}
 use Rattle.syntax.specs.declared.Refusal.{Refusal}
@@ -100,21 +101,22 @@ walk y x (open′ c cs rs es n) p =
 
 pub data Verdict : Type 0 where
   accepted : Interchange → Verdict
-  refusedWith : ℕ → ℕ → Verdict
+  refusedWith : Refusal → Verdict
 
 abbrev pub unaAt : List ℕ → Option Una
 unaAt s = cond (startsUna s) (some (una (unaService s) (getD s 5 0))) none
 
-abbrev pub concluded : Option Una → Answer → Verdict
-concluded n (read start) = refusedWith 7 0
-concluded n (read (idle u ms)) = refusedWith 7 0
-concluded n (read (busy u ms o)) = refusedWith 7 0
-concluded n (read (done u ms z)) = accepted (interchange n u ms z)
-concluded n (refused k p) = refusedWith k p
+-- of the octets s, once their walk has ended
+abbrev pub concluded : List ℕ → Option Una → Answer → Verdict
+concluded s n (read start) = refusedWith (refusalAt s 7 0)
+concluded s n (read (idle u ms)) = refusedWith (refusalAt s 7 0)
+concluded s n (read (busy u ms o)) = refusedWith (refusalAt s 7 0)
+concluded s n (read (done u ms z)) = accepted (interchange n u ms z)
+concluded s n (refused k p) = refusedWith (refusalAt s k p)
 
 abbrev pub verdictBy : List ℕ → Begun → Verdict
-verdictBy s (Refused f) = refusedWith (f .number) (f .place)
-verdictBy s (Ready x) = concluded (unaAt s) (walk (x .syntax) start (chain (x .syntax .service) false (drop (x .at) s)) (x .at))
+verdictBy s (Refused f) = refusedWith (refusalAt s (f .number) (f .place))
+verdictBy s (Ready x) = concluded s (unaAt s) (walk (x .syntax) start (chain (x .syntax .service) false (drop (x .at) s)) (x .at))
 
 abbrev pub verdictOf : List ℕ → Verdict
 verdictOf s = verdictBy s (begunOf s)
@@ -130,15 +132,15 @@ loadsM (message (msg h hs b ts) t) = loadsB b
 
 pub data Totals : Type 0 where
   totalled : ℕ → ℕ → Totals
-  refusedTotals : ℕ → ℕ → Totals
+  refusedTotals : Refusal → Totals
 
 -- 13: "no such message", at 0
 abbrev pub totalsIn : Snoc Message → List ℕ → Totals
-totalsIn nil r = refusedTotals 13 0
+totalsIn nil r = refusedTotals (atZero 13)
 totalsIn (ms ▷ m) r = cond (same (refM m) r) (totalled (size (loadsM m)) (sum (loadsM m))) (totalsIn ms r)
 
 abbrev pub totalsBy : Verdict → List ℕ → Totals
-totalsBy (refusedWith n p) r = refusedTotals n p
+totalsBy (refusedWith f) r = refusedTotals f
 totalsBy (accepted (interchange n u ms z)) r = totalsIn ms r
 
 abbrev pub totalsOf : List ℕ → List ℕ → Totals
@@ -148,8 +150,8 @@ totalsOf s r = totalsBy (verdictOf s) r
 
 abbrev pub numbers : Verdict → List ℕ
 numbers (accepted t) = 0 ∷ 0 ∷ []
-numbers (refusedWith n p) = n ∷ p ∷ []
+numbers (refusedWith f) = f .number ∷ f .place ∷ []
 
 abbrev pub totalNumbers : Totals → List ℕ
 totalNumbers (totalled n g) = 0 ∷ 0 ∷ n ∷ g ∷ []
-totalNumbers (refusedTotals n p) = n ∷ p ∷ 0 ∷ 0 ∷ []
+totalNumbers (refusedTotals f) = f .number ∷ f .place ∷ 0 ∷ 0 ∷ []

@@ -15,6 +15,7 @@ use Rattle.syntax.specs.Tree.{Segment, printS, well, repeatsOf}
 use Rattle.syntax.specs.TreeLaws.{print-cons}
 use Rattle.syntax.specs.ReaderLaws.{well-uncons}
 use Rattle.syntax.specs.Reader.{chain}
+use Rattle.syntax.specs.declared.Refusal.{Refusal}
 use Rattle.syntax.specs.declared.Syntax.{Syntax}
 use Rattle.syntax.specs.declared.opening.Start.{Start}
 use Rattle.syntax.specs.declared.opening.Begun.{Begun}
@@ -43,13 +44,13 @@ accepts (interchange n u ms z) v =
     walk-complete (v .y) (fit-in-force (interchange n u ms z) v) (segments (interchange n u ms z)) (openingIn n .at) u ms z (v .written)
     (good-runs (v .y) (done u ms z) (good-of (interchange n u ms z) v)) in
     ap (verdictBy (print (interchange n u ms z))) (start-printed (interchange n u ms z) v)
-    ∙ ap (λ (l : List ℕ). concluded (unaAt (print (interchange n u ms z))) (walk (v .y) start (chain (v .y .service) false l) (openingIn n .at))) (rest-printed (interchange n u ms z) v)
-    ∙ ap (concluded (unaAt (print (interchange n u ms z)))) w
+    ∙ ap (λ (l : List ℕ). concluded (print (interchange n u ms z)) (unaAt (print (interchange n u ms z))) (walk (v .y) start (chain (v .y .service) false l) (openingIn n .at))) (rest-printed (interchange n u ms z) v)
+    ∙ ap (concluded (print (interchange n u ms z)) (unaAt (print (interchange n u ms z)))) w
     ∙ ap (λ (a : Option Una). accepted (interchange a u ms z)) (una-printed (interchange n u ms z) v)
 
 -- ---- what is accepted is valid, and is printed
 
-never : {t : Interchange} {n p : ℕ} → refusedWith n p ≡ accepted t → ⊥
+never : {t : Interchange} {f : Refusal} → refusedWith f ≡ accepted t → ⊥
 never e = let z : _≡_ {A = ℕ} 0 1 = cc in omega arith
 
 -- a walk that ended in a whole interchange
@@ -60,12 +61,12 @@ pub record Ended (n : Option Una) (a : Answer) (t : Interchange) : Type 0 where
   pub walked : a ≡ read (done u ms z)
   pub whole : interchange n u ms z ≡ t
 
-ends : (n : Option Una) (a : Answer) (t : Interchange) → concluded n a ≡ accepted t → Ended n a t
-ends n (read start) t e = absurd (never e)
-ends n (read (idle u ms)) t e = absurd (never e)
-ends n (read (busy u ms o)) t e = absurd (never e)
-ends n (read (done u ms z)) t e = record { u = u; ms = ms; z = z; walked = refl; whole = cc }
-ends n (refused k p) t e = absurd (never e)
+ends : (s : List ℕ) (n : Option Una) (a : Answer) (t : Interchange) → concluded s n a ≡ accepted t → Ended n a t
+ends s n (read start) t e = absurd (never e)
+ends s n (read (idle u ms)) t e = absurd (never e)
+ends s n (read (busy u ms o)) t e = absurd (never e)
+ends s n (read (done u ms z)) t e = record { u = u; ms = ms; z = z; walked = refl; whole = cc }
+ends s n (refused k p) t e = absurd (never e)
 
 -- the first segment is UNB, formed as its row says
 unb-formed : (y : Syntax) (u : Leaf) (ms : Snoc Message) (z : Leaf) → holds (wellFormed y (done u ms z)) → T (formed (y .version) (asked (seg Unb u)))
@@ -115,7 +116,7 @@ reads s t e = by (begunOf s) refl e
     by : (b : Begun) → begunOf s ≡ b → verdictBy s b ≡ accepted t → Valid t × (print t ≡ s)
     by (Refused f) h e = absurd (never e)
     by (Ready x) h e =
-        let d = ends (unaAt s) (walk (x .syntax) start (chain (x .syntax .service) false (drop (x .at) s)) (x .at)) t e in
+        let d = ends s (unaAt s) (walk (x .syntax) start (chain (x .syntax .service) false (drop (x .at) s)) (x .at)) t e in
         subst (λ (t : Interchange). Valid t × (print t ≡ s)) (d .whole) (valid-read s x h (d .u) (d .ms) (d .z) (d .walked))
 
 -- ---- the demands
@@ -150,5 +151,5 @@ pub totals-read : (s : List ℕ) (v : Interchange) (r : List ℕ) → Valid v �
 totals-read s v r b e = ap (λ (d : Verdict). totalsBy d r) (verdict-exact s v .1 (b, e)) ∙ totals-of v r
 
 -- a refused input is the printing of no valid interchange
-pub refused-none : (s : List ℕ) (n p : ℕ) → verdictOf s ≡ refusedWith n p → (t : Interchange) → Valid t → print t ≡ s → ⊥
-refused-none s n p e t a h = never (sym e ∙ verdict-exact s t .1 (a, h))
+pub refused-none : (s : List ℕ) (f : Refusal) → verdictOf s ≡ refusedWith f → (t : Interchange) → Valid t → print t ≡ s → ⊥
+refused-none s f e t a h = never (sym e ∙ verdict-exact s t .1 (a, h))

@@ -6,9 +6,11 @@ use mathlib.Core.List.{List}
 use mathlib.Core.Option.{Option, none, some}
 use lib.Dec.{T}
 use lib.ListN.{length}
+use Rattle.syntax.specs.Refusals.{atZero}
 use Rattle.syntax.specs.Octets.{same}
 use Rattle.syntax.specs.Service.{fit}
 use Rattle.syntax.specs.Repertoire.{Table}
+use Rattle.syntax.specs.declared.Refusal.{Refusal}
 use Rattle.syntax.specs.declared.Service.{Service}
 use Rattle.syntax.specs.declared.Syntax.{Syntax}
 use Rattle.grammar.specs.Lists.{holds}
@@ -28,14 +30,14 @@ use Rattle.groups.specs.declared.calls.Named.the-variants.{Message as He
 
 pub data Answered (A : Type 0) : Type 0 where
   given : A → Answered A
-  refusedAs : ℕ → ℕ → Answered A
+  refusedAs : Refusal → Answered A
 
 abbrev pub orMissing : {A : Type 0} → Option A → Answered A
-orMissing none = refusedAs 13 0
+orMissing none = refusedAs (atZero 13)
 orMissing (some a) = given a
 
 abbrev pub answeredBy : {A : Type 0} → Verdict → (Interchange → Option A) → Answered A
-answeredBy (refusedWith n p) f = refusedAs n p
+answeredBy (refusedWith g) f = refusedAs g
 answeredBy (accepted t) f = orMissing (f t)
 
 abbrev pub then : {A B : Type 0} → Option A → (A → Option B) → Option B
@@ -71,4 +73,4 @@ pub record Holds (s m : List ℕ) (y : Syntax) (c : Layout) (rows : List ℕ) : 
 abbrev pub NamedIs : List ℕ → List ℕ → Named → List ℕ → List ℕ → Type 0
 NamedIs s m (Here x) t rows = Table (x .syntax) t × Holds s m (x .syntax) (x .layout) rows
 NamedIs s m NoneSuch t rows = (i : Interchange) × ((verdictOf s ≡ accepted i) × (messageIn i m ≡ none))
-NamedIs s m (NotHere f) t rows = verdictOf s ≡ refusedWith (f .number) (f .place)
+NamedIs s m (NotHere f) t rows = verdictOf s ≡ refusedWith f

@@ -14,6 +14,8 @@ use Rattle.syntax.specs.Repertoire.{Table}
 use Rattle.syntax.specs.Tree.{print, well}
 use Rattle.syntax.specs.declared.Service.{Service}
 use Rattle.syntax.specs.declared.Syntax.{Syntax}
+use Rattle.syntax.specs.Refusals.{refusalAt}
+use Rattle.syntax.specs.declared.Breach.{Breach}
 use Rattle.syntax.specs.declared.Refusal.{Refusal}
 use Rattle.syntax.specs.declared.opening.Start.{Start}
 use Rattle.syntax.specs.declared.opening.Begun.{Begun}
@@ -115,15 +117,17 @@ begins s i x e d =
 -- ---- the message that is named
 
 module _ (s m : List ℕ) {g : Begun} where
-  pub named-refused : {f : Refusal} (t rows : List ℕ) → g ≡ begunOf s → g ≡ Refuses f → NamedIs s m (NotHere f) t rows
-  named-refused t rows e d = ap (verdictBy s) (sym e ∙ d)
+  pub named-refused : {f : Breach} {r : Refusal} (t rows : List ℕ) → g ≡ begunOf s → g ≡ Refuses f → r ≡ refusalAt s (f .number) (f .place)
+      → NamedIs s m (NotHere r) t rows
+  named-refused t rows e d k = ap (verdictBy s) (sym e ∙ d) ∙ ap refusedWith (sym k)
 
   module _ {x : Start} (e : g ≡ begunOf s) (d : g ≡ Begins x) where
     found-as : (rows : List ℕ) {r f : Found} → r ≡ f → FoundIs (x .syntax) s (x .at) m r rows → FoundIs (x .syntax) s (x .at) m f rows
     found-as rows k q = subst (λ (f : Found). FoundIs (x .syntax) s (x .at) m f rows) k q
 
-    pub named-not-read : (t rows : List ℕ) {r : Found} {f : Refusal} → r ≡ NotRead f → FoundIs (x .syntax) s (x .at) m r rows → NamedIs s m (NotHere f) t rows
-    named-not-read t rows k q = verdict-by s e d (found-as rows k q)
+    pub named-not-read : (t rows : List ℕ) {r : Found} {f : Breach} {g : Refusal} → r ≡ NotRead f → FoundIs (x .syntax) s (x .at) m r rows
+        → g ≡ refusalAt s (f .number) (f .place) → NamedIs s m (NotHere g) t rows
+    named-not-read t rows k q h = verdict-by s e d (found-as rows k q) ∙ ap refusedWith (sym h)
 
     pub named-missing : (t rows : List ℕ) {r : Found} → r ≡ Missing → FoundIs (x .syntax) s (x .at) m r rows → NamedIs s m NoneSuch t rows
     named-missing t rows j w =
@@ -171,5 +175,5 @@ module _ (s m t rows : List ℕ) {r : Named} (n : NamedIs s m r t rows) where
   pub as-missing : r ≡ NoneSuch → (i : Interchange) × ((verdictOf s ≡ accepted i) × (messageIn i m ≡ none))
   as-missing e = subst (λ (v : Named). NamedIs s m v t rows) e n
 
-  pub as-refused : {f : Refusal} → r ≡ NotHere f → verdictOf s ≡ refusedWith (f .number) (f .place)
+  pub as-refused : {f : Refusal} → r ≡ NotHere f → verdictOf s ≡ refusedWith f
   as-refused e = subst (λ (v : Named). NamedIs s m v t rows) e n

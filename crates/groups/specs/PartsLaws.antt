@@ -6,7 +6,9 @@ use mathlib.Core.List.{List}
 use mathlib.Core.Option.{Option, none, some}
 use lib.Dec.{T}
 use lib.ListN.{getD}
+use Rattle.syntax.specs.Refusals.{atZero}
 use Rattle.syntax.specs.Service.{fit}
+use Rattle.syntax.specs.declared.Refusal.{Refusal}
 use Rattle.syntax.specs.declared.Service.{Service}
 use Rattle.syntax.specs.declared.Syntax.{Syntax}
 use Rattle.grammar.specs.Lists.{Snoc, nil, _▷_, _+++_, joined, list, size, holds}
@@ -38,10 +40,10 @@ module _ {A : Type 0} (s m : List ℕ) (ask : Interchange → Placed → Option 
   abbrev asks : Interchange → Option A
   asks i = then (messageIn i m) (ask i)
 
-  pub call-refused : {n p : ℕ} → verdictOf s ≡ refusedWith n p → answeredBy (verdictOf s) asks ≡ refusedAs n p
+  pub call-refused : {f : Refusal} → verdictOf s ≡ refusedWith f → answeredBy (verdictOf s) asks ≡ refusedAs f
   call-refused e = ap (λ (v : Verdict). answeredBy v asks) e
 
-  pub call-missing : (i : Interchange) × ((verdictOf s ≡ accepted i) × (messageIn i m ≡ none)) → answeredBy (verdictOf s) asks ≡ refusedAs 13 0
+  pub call-missing : (i : Interchange) × ((verdictOf s ≡ accepted i) × (messageIn i m ≡ none)) → answeredBy (verdictOf s) asks ≡ refusedAs (atZero 13)
   call-missing k = ap (λ (v : Verdict). answeredBy v asks) (k .1 .0) ∙ ap (λ (o : Option Placed). orMissing (then o (ask (k .0)))) (k .1 .1)
 
   pub call-holds : {y : Syntax} {c : Layout} {rows : List ℕ} (h : Holds s m y c rows)

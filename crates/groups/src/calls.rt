@@ -1,10 +1,12 @@
 // The message that a call names: the interchange is begun, judged, and the message found.
 ghost use mathlib.Core.Path.{_≡_};
 ghost use lib.ListN.{length};
+ghost use Rattle.syntax.specs.Refusals.{atZero};
 ghost use Rattle.groups.specs.Calls.{NamedIs};
 use beginning::begin;
 use finding::Found;
 use finding::find;
+use refusals::refusal;
 use syntax::Refusal;
 use syntax::Syntax;
 use syntax::opening::Begun;
@@ -26,7 +28,7 @@ pub enum Named {
 
 // No such message, header or F01 run.
 pub fn missing() -> Refusal
-    ensures { λ r. ⌜ r ≡ record { number = 13; place = 0 } ⌝ }
+    ensures { λ r. ⌜ r ≡ atZero 13 ⌝ }
 {
     Refusal {
         number: 13,
@@ -40,7 +42,7 @@ pub fn message_named(s: &[u8], message: &[u8], t: &mut [u8; 256], rows: &mut [us
     ensures { λ r. ⌜ NamedIs (now (s .entry)) (now (message .entry)) r (now (t .exit)) (now (rows .exit)) ⌝ }
 {
     match begin(s) {
-        Begun::Refused(f) => Named::Refused(f),
+        Begun::Refused(f) => Named::Refused(refusal(s, f)),
         Begun::Ready(b) => {
             let y = b.syntax;
             let at = b.at;
@@ -51,7 +53,7 @@ pub fn message_named(s: &[u8], message: &[u8], t: &mut [u8; 256], rows: &mut [us
                     layout: c,
                 }),
                 Found::Missing => Named::Missing,
-                Found::Refused(f) => Named::Refused(f),
+                Found::Refused(f) => Named::Refused(refusal(s, f)),
             }
         }
     }

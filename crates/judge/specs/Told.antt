@@ -6,17 +6,14 @@ use Rattle.grammar.specs.Verdict.{Verdict as Judged, accepted, refusedWith, Ans
 use Rattle.judge.specs.declared.run.Verdict.{Verdict}
 use Rattle.judge.specs.declared.run.Verdict.the-variants.{Accepted, Refused}
 
-abbrev pub refusedAs : ℕ → ℕ → Verdict
-refusedAs number place = Refused (record { number = number; place = place })
-
 -- "a verdict enum carries a refusal struct": its number and place; of an accepted interchange the reading is not handed out
 abbrev pub verdictAs : Judged → Verdict
 verdictAs (accepted t) = Accepted
-verdictAs (refusedWith number place) = refusedAs number place
+verdictAs (refusedWith f) = Refused f
 
--- of a walk that has ended; UNA has no part in it
-abbrev pub walkedAs : Answer → Verdict
-walkedAs a = verdictAs (concluded none a)
+-- of a walk over s that has ended; UNA has no part in it
+abbrev pub walkedAs : List ℕ → Answer → Verdict
+walkedAs s a = verdictAs (concluded s none a)
 
 -- the paper's number and place, 0 where there is none
 abbrev pub told : Verdict → List ℕ

@@ -1,22 +1,23 @@
 -- The totals of the message that a call names.
 use Prim.Native.Nat.{ℕ}
 use mathlib.Core.List.{List, [], _∷_}
+use Rattle.syntax.specs.Refusals.{refusalAt, atZero}
 use Rattle.grammar.specs.Verdict.{Totals as Totalled, totalled, refusedTotals}
 use Rattle.finding.specs.declared.Found.{Found}
 use Rattle.finding.specs.declared.Found.the-variants.{Message as Here, Missing, Refused as NotRead}
 use Rattle.judge.specs.declared.totals.Totals.{Totals}
 use Rattle.judge.specs.declared.totals.Totals.the-variants.{Of, Refused}
 
--- of the message found; 13 where there is none
-abbrev pub totalledBy : Found → Totals
-totalledBy (Here c) = Of (record { loads = c .loads; grams = c .grams })
-totalledBy Missing = Refused (record { number = 13; place = 0 })
-totalledBy (NotRead f) = Refused f
+-- of the message found in s; 13 where there is none
+abbrev pub totalledBy : List ℕ → Found → Totals
+totalledBy s (Here c) = Of (record { loads = c .loads; grams = c .grams })
+totalledBy s Missing = Refused (atZero 13)
+totalledBy s (NotRead f) = Refused (refusalAt s (f .number) (f .place))
 
 -- the totals as the call answers them: loads and grams, or the refusal's number and place
 abbrev pub totalsAs : Totalled → Totals
 totalsAs (totalled loads grams) = Of (record { loads = loads; grams = grams })
-totalsAs (refusedTotals number place) = Refused (record { number = number; place = place })
+totalsAs (refusedTotals f) = Refused f
 
 -- the paper's number and place, then loads and grams; 0 where there is none
 abbrev pub toldTotals : Totals → List ℕ

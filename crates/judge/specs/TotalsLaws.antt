@@ -6,6 +6,8 @@ use mathlib.Core.List.{List}
 use mathlib.Core.Option.{Option, some}
 use Rattle.syntax.specs.Octets.{same}
 use Rattle.syntax.specs.Opening.{begunOf}
+use Rattle.syntax.specs.Refusals.{refusalAt}
+use Rattle.syntax.specs.declared.Breach.{Breach}
 use Rattle.syntax.specs.declared.Refusal.{Refusal}
 use Rattle.syntax.specs.declared.Service.{Service}
 use Rattle.syntax.specs.declared.opening.Start.{Start as Opening}
@@ -36,11 +38,12 @@ totals-placed σ p u (ms ▷ m) r = by (same (refM m) r) (totals-placed σ p u m
     by false e = e
 
 module _ (s r : List ℕ) where
-  pub totals-refused : {f : Refusal} {g : Begun} → g ≡ begunOf s → g ≡ Refuses f → Refused f ≡ totalsAs (totalsOf s r)
-  totals-refused {f} e d = ap (λ (b : Begun). totalsAs (totalsBy (verdictBy s b) r)) (sym d ∙ e)
+  pub totals-refused : {f : Breach} {g : Begun} {k : Refusal} → g ≡ begunOf s → g ≡ Refuses f → k ≡ refusalAt s (f .number) (f .place)
+      → Refused k ≡ totalsAs (totalsOf s r)
+  totals-refused {f} e d h = ap Refused h ∙ ap (λ (b : Begun). totalsAs (totalsBy (verdictBy s b) r)) (sym d ∙ e)
 
   pub totals-found : {b : Opening} {g : Begun} (f : Found) (rows : List ℕ) → g ≡ begunOf s → g ≡ Begins b → FoundIs (b .syntax) s (b .at) r f rows
-      → totalledBy f ≡ totalsAs (totalsOf s r)
+      → totalledBy s f ≡ totalsAs (totalsOf s r)
   totals-found {b} (NotRead g) rows e d q = sym (ap (λ (v : Verdict). totalsAs (totalsBy v r)) (verdict-by s e d q))
   totals-found {b} Missing rows e d q =
       sym (ap (λ (v : Verdict). totalsAs (totalsBy v r)) (verdict-by s e d (q .3 .0))
@@ -57,4 +60,4 @@ totals-promised t e = (e, ap toldTotals e ∙ by t)
   where
     by : (t : Totals) → toldTotals (totalsAs t) ≡ totalNumbers t
     by (totalled loads grams) = refl
-    by (refusedTotals number place) = refl
+    by (refusedTotals f) = refl

@@ -12,6 +12,7 @@ ghost use Rattle.grammar.specs.Verdict.{verdictOf, numbers, walk};
 ghost use Rattle.judge.specs.Told.{verdictAs, walkedAs, told};
 ghost use Rattle.walk.specs.RunLaws.{Fresh};
 use beginning::begin;
+use refusals::refusal;
 use syntax::Refusal;
 use syntax::Syntax;
 use syntax::opening::Begun;
@@ -37,7 +38,7 @@ fn run(
 ) -> Verdict
     requires { ⌜ Table y (now t) ⌝ }
     requires { ⌜ Fresh y (now s) (now names) (now slots) ⌝ }
-    ensures { λ r. ⌜ r ≡ walkedAs (walk y start (chain (y .service) false (drop from (now (s .entry)))) from) ⌝ }
+    ensures { λ r. ⌜ r ≡ walkedAs (now (s .entry)) (walk y start (chain (y .service) false (drop from (now (s .entry)))) from) ⌝ }
 {
     let mut marks = [0usize; 40];
     let mut heads = [0usize; 36];
@@ -57,7 +58,7 @@ fn run(
             slots,
             &mut rows,
         ) {
-            Reached::Stop(f) => return Verdict::Refused(f),
+            Reached::Stop(f) => return Verdict::Refused(refusal(s, f)),
             Reached::Over => return Verdict::Accepted,
             Reached::On(a) => {
                 let x = a.state;
@@ -73,7 +74,7 @@ fn run_tiny(s: &[u8], from: usize, t: &[u8; 256], y: Syntax) -> Verdict
     requires { ⌜ Table y (now t) ⌝ }
     requires { ⌜ T (fit (y .service)) ⌝ }
     requires { ⌜ length (now s) ≤ 256 ⌝ }
-    ensures { λ r. ⌜ r ≡ walkedAs (walk y start (chain (y .service) false (drop from (now (s .entry)))) from) ⌝ }
+    ensures { λ r. ⌜ r ≡ walkedAs (now (s .entry)) (walk y start (chain (y .service) false (drop from (now (s .entry)))) from) ⌝ }
 {
     let mut names = [0u64; 64];
     let mut slots = [0u16; 95];
@@ -84,7 +85,7 @@ fn run_small(s: &[u8], from: usize, t: &[u8; 256], y: Syntax) -> Verdict
     requires { ⌜ Table y (now t) ⌝ }
     requires { ⌜ T (fit (y .service)) ⌝ }
     requires { ⌜ length (now s) ≤ 2048 ⌝ }
-    ensures { λ r. ⌜ r ≡ walkedAs (walk y start (chain (y .service) false (drop from (now (s .entry)))) from) ⌝ }
+    ensures { λ r. ⌜ r ≡ walkedAs (now (s .entry)) (walk y start (chain (y .service) false (drop from (now (s .entry)))) from) ⌝ }
 {
     let mut names = [0u64; 512];
     let mut slots = [0u16; 763];
@@ -95,7 +96,7 @@ fn run_large(s: &[u8], from: usize, t: &[u8; 256], y: Syntax) -> Verdict
     requires { ⌜ Table y (now t) ⌝ }
     requires { ⌜ T (fit (y .service)) ⌝ }
     requires { ⌜ length (now s) ≤ 65535 ⌝ }
-    ensures { λ r. ⌜ r ≡ walkedAs (walk y start (chain (y .service) false (drop from (now (s .entry)))) from) ⌝ }
+    ensures { λ r. ⌜ r ≡ walkedAs (now (s .entry)) (walk y start (chain (y .service) false (drop from (now (s .entry)))) from) ⌝ }
 {
     let mut names = [0u64; 16384];
     let mut slots = [0u16; 20405];
@@ -108,7 +109,7 @@ pub fn judge(s: &[u8]) -> Verdict
     ensures { λ r. ⌜ told r ≡ numbers (verdictOf (now (s .entry))) ⌝ }
 {
     match begin(s) {
-        Begun::Refused(f) => Verdict::Refused(f),
+        Begun::Refused(f) => Verdict::Refused(refusal(s, f)),
         Begun::Ready(b) => {
             let y = b.syntax;
             let at = b.at;

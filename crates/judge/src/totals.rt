@@ -5,6 +5,7 @@ ghost use Rattle.judge.specs.Totals.{totalsAs, toldTotals, totalledBy};
 use beginning::begin;
 use finding::Found;
 use finding::find;
+use refusals::refusal;
 use syntax::Refusal;
 use syntax::opening::Begun;
 use syntax::repertoire::table;
@@ -19,8 +20,8 @@ pub enum Totals {
     Refused(Refusal),
 }
 
-fn totalled(f: Found) -> Totals
-    ensures { λ r. ⌜ r ≡ totalledBy f ⌝ }
+fn totalled(s: &[u8], f: Found) -> Totals
+    ensures { λ r. ⌜ r ≡ totalledBy (now (s .entry)) f ⌝ }
 {
     match f {
         Found::Message(c) => Totals::Of(Loads {
@@ -31,7 +32,7 @@ fn totalled(f: Found) -> Totals
             number: 13,
             place: 0,
         }),
-        Found::Refused(g) => Totals::Refused(g),
+        Found::Refused(g) => Totals::Refused(refusal(s, g)),
     }
 }
 
@@ -41,13 +42,13 @@ pub fn message_totals(s: &[u8], reference: &[u8]) -> Totals
     ensures { λ r. ⌜ toldTotals r ≡ totalNumbers (totalsOf (now (s .entry)) (now (reference .entry))) ⌝ }
 {
     match begin(s) {
-        Begun::Refused(f) => Totals::Refused(f),
+        Begun::Refused(f) => Totals::Refused(refusal(s, f)),
         Begun::Ready(b) => {
             let y = b.syntax;
             let at = b.at;
             let t = table(y);
             let mut rows = [0usize; 18];
-            totalled(find(s, at, &t, y, reference, &mut rows))
+            totalled(s, find(s, at, &t, y, reference, &mut rows))
         }
     }
 }

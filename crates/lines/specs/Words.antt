@@ -3,6 +3,7 @@ use Prim.Native.Nat.{ℕ}
 use mathlib.Core.Bool.{cond}
 use mathlib.Core.List.{List, [], _∷_}
 use Rattle.syntax.specs.Octets.{octets, same}
+use Rattle.syntax.specs.declared.Refusal.{Refusal}
 use Rattle.writing.specs.Decimal.{decimalOf}
 use Rattle.writing.specs.Laid.{joined}
 
@@ -10,8 +11,8 @@ use Rattle.writing.specs.Laid.{joined}
 abbrev pub feed : List ℕ
 feed = 10 ∷ []
 
-abbrev pub refusalLine : ℕ → ℕ → List ℕ
-refusalLine number place = joined (octets "refused " ∷ decimalOf number ∷ octets " at " ∷ decimalOf place ∷ feed ∷ [])
+abbrev pub refusalLine : Refusal → List ℕ
+refusalLine f = joined (octets "refused " ∷ decimalOf (f .number) ∷ octets " at " ∷ decimalOf (f .place) ∷ feed ∷ [])
 
 abbrev pub acceptedLine : List ℕ → List ℕ
 acceptedLine reference = joined (octets "accepted " ∷ reference ∷ feed ∷ [])

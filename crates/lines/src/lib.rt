@@ -16,7 +16,7 @@ use writing::put_number;
 
 // "refused 10 at 113"
 pub fn refusal_line(out: &mut [u8], f: Refusal) -> usize
-    ensures { λ r. ⌜ Laid (now (out .entry)) 0 (refusalLine (f .number) (f .place)) r (now (out .exit)) ⌝ }
+    ensures { λ r. ⌜ Laid (now (out .entry)) 0 (refusalLine f) r (now (out .exit)) ⌝ }
 {
     let a = put(&mut *out, 0, b"refused ");
     let b = put_number(&mut *out, a, f.number as u64);

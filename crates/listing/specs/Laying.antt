@@ -7,7 +7,8 @@ use Rattle.syntax.specs.declared.Service.{Service}
 use Rattle.syntax.specs.declared.Syntax.{Syntax}
 use Rattle.grammar.specs.Lists.{Snoc}
 use Rattle.grammar.specs.Interchange.{Leaf, Message, Reading, start, idle, busy, done, shown}
-use Rattle.grammar.specs.Verdict.{read, refused}
+use Rattle.refusals.specs.Refused.{RefusedBy}
+use Rattle.grammar.specs.Verdict.{read}
 use Rattle.walk.specs.RunLaws.{answerFrom}
 use Rattle.walk.specs.declared.sections.Layout.{Layout}
 use Rattle.groups.specs.Stand.{Stand}
@@ -38,4 +39,4 @@ abbrev pub LaysAll : Syntax → List ℕ → ℕ → List ℕ → Written → Li
 LaysAll y s p out (Length n) out′ =
     (u : Leaf) × (ms : Snoc Message) × (z : Leaf) × ((answerFrom y s p ≡ read (done u ms z))
     × (Stand (y .service) s p (shown (done u ms z)) → Laid out 0 (acceptedOf (y .service) p u ms) n out′))
-LaysAll y s p out (Refused f) out′ = answerFrom y s p ≡ refused (f .number) (f .place)
+LaysAll y s p out (Refused f) out′ = RefusedBy s (answerFrom y s p) f

@@ -58,7 +58,7 @@ acceptedOf σ p u ms = acceptedLine (text u 5 0) ++ messagesOf σ p u ms
 
 -- "A refusal prints only `refused 10 at 113`."
 abbrev pub listingBy : Verdict → List ℕ
-listingBy (refusedWith number place) = refusalLine number place
+listingBy (refusedWith f) = refusalLine f
 listingBy (accepted (interchange n u ms z)) = acceptedOf (serviceIn (interchange n u ms z)) (openingIn n .at) u ms
 
 abbrev pub listingOf : List ℕ → List ℕ
@@ -67,7 +67,7 @@ listingOf s = listingBy (verdictOf s)
 -- ---- the call: the text first in the lent buffer and the rest as it was; 15 where the text is longer than the buffer, and all as it was
 
 abbrev pub listedAs : List ℕ → List ℕ → Written
-listedAs t out = cond (ltb (length out) (length t)) (refusedAs 15 0) (Length (length t))
+listedAs t out = cond (ltb (length out) (length t)) (refusedAs 15) (Length (length t))
 
 abbrev pub leftIn : List ℕ → List ℕ → List ℕ
 leftIn t out = cond (ltb (length out) (length t)) out (t ++ drop (length t) out)

@@ -9,7 +9,10 @@ use lib.ListN.{length}
 use borrow.Author.Tests.{lt-ltb, le-ltb}
 use Rattle.syntax.specs.Service.{fit}
 use Rattle.syntax.specs.Opening.{begunOf}
+use Rattle.syntax.specs.Refusals.{refusalAt}
+use Rattle.syntax.specs.declared.Breach.{Breach}
 use Rattle.syntax.specs.declared.Refusal.{Refusal}
+use Rattle.refusals.specs.Refused.{refused-so}
 use Rattle.syntax.specs.declared.Service.{Service}
 use Rattle.syntax.specs.declared.Syntax.{Syntax}
 use Rattle.syntax.specs.declared.opening.Start.{Start}
@@ -169,7 +172,7 @@ lays-told {y} {s} {from} g k f a =
 -- ---- the call: a text is measured, refused where it is too long, and then laid
 
 module _ {t : List ℕ} {m : ℕ} (e : m ≡ length t) where
-  pub lists-full : {out : List ℕ} {r : Written} → length out < m → r ≡ refusedAs 15 0 → Lists t out r out
+  pub lists-full : {out : List ℕ} {r : Written} → length out < m → r ≡ refusedAs 15 → Lists t out r out
   lists-full h q = record { answer = q ∙ rw (← e, lt-ltb _ _ h); octets = rw (← e, lt-ltb _ _ h) }
 
   pub lists-done : {out out′ : List ℕ} {k : ℕ} → m ≤ length out → Laid out 0 t k out′ → Lists t out (Length m) out′
@@ -183,11 +186,11 @@ lists-same e g = rw e at g
 -- the text that was laid is the report's
 abbrev Tells : List ℕ → List ℕ → Written → List ℕ → Type 0
 Tells s out (Length n) out′ = (i : Interchange) × ((verdictOf s ≡ accepted i) × Laid out 0 (listingOf s) n out′)
-Tells s out (Refused f) out′ = verdictOf s ≡ refusedWith (f .number) (f .place)
+Tells s out (Refused f) out′ = verdictOf s ≡ refusedWith f
 
 module _ (s : List ℕ) (x : Start) (e : begunOf s ≡ Begins x) where
   tells : (out : List ℕ) (r : Written) (out′ : List ℕ) → LaysAll (x .syntax) s (x .at) out r out′ → Tells s out r out′
-  tells out (Refused f) out′ q = verdict-by s refl e q
+  tells out (Refused f) out′ q = refused-so (verdict-by s refl e refl) q
   tells out (Length n) out′ q = by (q .0) (q .1) (q .2) (q .3 .0) (q .3 .1)
     where
       by : (u : Leaf) (ms : Snoc Message) (z : Leaf) → answerFrom (x .syntax) s (x .at) ≡ read (done u ms z)
@@ -207,7 +210,7 @@ module _ (s : List ℕ) (x : Start) (e : begunOf s ≡ Begins x) where
           )
 
   module _ (none : List ℕ) (r : Written) (none′ : List ℕ) (g : LaysAll (x .syntax) s (x .at) none r none′) where
-    pub told-refused : {f : Refusal} → r ≡ Refused f → refusalLine (f .number) (f .place) ≡ listingOf s
+    pub told-refused : {f : Refusal} → r ≡ Refused f → refusalLine f ≡ listingOf s
     told-refused {f} d = sym (ap listingBy (subst (λ (r : Written). Tells s none r none′) d (tells none r none′ g)))
 
     module _ {m : ℕ} (d : r ≡ Length m) where
@@ -226,10 +229,11 @@ module _ (s : List ℕ) (x : Start) (e : begunOf s ≡ Begins x) where
               let l = told-length in
               lists-done j (omega (arith, j, l, h)) (a .1 .1)
           by (Refused f) a =
-              let b : accepted (measured .0) ≡ refusedWith (f .number) (f .place) = sym (measured .1 .0) ∙ a in
+              let b : accepted (measured .0) ≡ refusedWith f = sym (measured .1 .0) ∙ a in
               let z : _≡_ {A = ℕ} 0 1 = cc in
               absurd (omega arith)
 
 -- where the interchange does not begin
-pub begun-not : (s : List ℕ) {f : Refusal} {r : Begun} → r ≡ begunOf s → r ≡ Refuses f → refusalLine (f .number) (f .place) ≡ listingOf s
-begun-not s e d = sym (ap (λ (b : Begun). listingBy (verdictBy s b)) (sym e ∙ d))
+pub begun-not : (s : List ℕ) {f : Breach} {g : Refusal} {r : Begun} → r ≡ begunOf s → r ≡ Refuses f → g ≡ refusalAt s (f .number) (f .place)
+    → refusalLine g ≡ listingOf s
+begun-not s e d k = ap refusalLine k ∙ sym (ap (λ (b : Begun). listingBy (verdictBy s b)) (sym e ∙ d))

@@ -19,6 +19,7 @@ use lines::accepted_line;
 use lines::message_line;
 use lines::refusal_line;
 use lines::seals::seal_lines;
+use refusals::refusal;
 use syntax::Refusal;
 use syntax::Syntax;
 use syntax::opening::Begun;
@@ -76,7 +77,7 @@ fn lay_among(
     let mut at = from;
     loop {
         match next_section(s, at, t, y, st, marks, heads, names, slots, rows) {
-            Reached::Stop(f) => return Written::Refused(f),
+            Reached::Stop(f) => return Written::Refused(refusal(s, f)),
             Reached::Over => return Written::Length(p),
             Reached::On(a) => {
                 p = put_section(&mut *out, p, s, t, y, a.closed, a.layout, rows);
@@ -151,7 +152,7 @@ fn lay(s: &[u8], from: usize, t: &[u8; 256], y: Syntax, out: &mut [u8]) -> Writt
 }
 
 fn list_refusal(f: Refusal, out: &mut [u8]) -> Written
-    ensures { λ r. ⌜ Lists (refusalLine (f .number) (f .place)) (now (out .entry)) r (now (out .exit)) ⌝ }
+    ensures { λ r. ⌜ Lists (refusalLine f) (now (out .entry)) r (now (out .exit)) ⌝ }
 {
     let mut none = [0u8; 1];
     let m = refusal_line(&mut none, f);
@@ -188,7 +189,7 @@ pub fn listing(s: &[u8], out: &mut [u8]) -> Written
     ensures { λ r. ⌜ Lists (listingOf (now (s .entry))) (now (out .entry)) r (now (out .exit)) ⌝ }
 {
     match begin(s) {
-        Begun::Refused(f) => list_refusal(f, out),
+        Begun::Refused(f) => list_refusal(refusal(s, f), out),
         Begun::Ready(b) => {
             let y = b.syntax;
             let at = b.at;

@@ -13,6 +13,7 @@ use Rattle.syntax.specs.Service.{fit}
 use Rattle.syntax.specs.Tree.{Segment, printS}
 use Rattle.syntax.specs.declared.Service.{Service}
 use Rattle.syntax.specs.declared.Syntax.{Syntax}
+use Rattle.syntax.specs.Refusals.{atZero}
 use Rattle.syntax.specs.declared.Refusal.{Refusal}
 use Rattle.grammar.specs.Lists.{Snoc, nil, _▷_, _+++_, joined, size}
 use Rattle.grammar.specs.Segments.{Unh, Unt, seg}
@@ -43,7 +44,7 @@ use Rattle.ranges.specs.declared.scopes.Scope1.{Scope1}
 use Rattle.ranges.specs.declared.scopes.Scope1.the-variants.{Of as ScopeOf, Refused as ScopeRefused}
 use Rattle.ranges.specs.declared.scopes.Run.{Run as Ran}
 use Rattle.ranges.specs.declared.scopes.Run.the-variants.{Of as RunOf, Refused as RunRefused}
-use Rattle.ranges.specs.Told.{missingAs, partsAs, partNumbers, toldParts, runAs, runNumbers, toldRun, PartsInside, RunInside, headerPart, bodyPart, runPart, startOf, endOf, scopedBy, headerFound, trailerFound, partsBy, runBy}
+use Rattle.ranges.specs.Told.{partsAs, partNumbers, toldParts, runAs, runNumbers, toldRun, PartsInside, RunInside, headerPart, bodyPart, runPart, startOf, endOf, scopedBy, headerFound, trailerFound, partsBy, runBy}
 use Rattle.groups.specs.CallsLaws.{none-some}
 
 -- ---- scope 1 and scope 2
@@ -200,24 +201,24 @@ module _ {s m : List ℕ} {y : Syntax} {c : Layout} {rows : List ℕ} (h : Holds
 module _ {n p a b c d : ℕ} where
   pub header-part : (x : Answered Parts) → n ∷ p ∷ a ∷ b ∷ c ∷ d ∷ [] ≡ partNumbers x → run a b ≡ headerPart x
   header-part (given (parts a′ b′ c′ d′)) e = cc
-  header-part (refusedAs n′ p′) e = cc
+  header-part (refusedAs f′) e = cc
 
   pub body-part : (x : Answered Parts) → n ∷ p ∷ a ∷ b ∷ c ∷ d ∷ [] ≡ partNumbers x → run c d ≡ bodyPart x
   body-part (given (parts a′ b′ c′ d′)) e = cc
-  body-part (refusedAs n′ p′) e = cc
+  body-part (refusedAs f′) e = cc
 
 pub run-part : {n p a b : ℕ} (x : Answered Run) → n ∷ p ∷ a ∷ b ∷ [] ≡ runNumbers x → run a b ≡ runPart x
 run-part (given (run a′ b′)) e = cc
-run-part (refusedAs n′ p′) e = cc
+run-part (refusedAs f′) e = cc
 
 module _ (s m r : List ℕ) {f : Refusal} where
-  pub scope1-refused : verdictOf s ≡ refusedWith (f .number) (f .place) → ScopeRefused f ≡ partsAs (scope1Of s m r)
+  pub scope1-refused : verdictOf s ≡ refusedWith f → ScopeRefused f ≡ partsAs (scope1Of s m r)
   scope1-refused e = sym (ap partsAs (call-refused s m (λ i p. scope1At (serviceIn i) p r) e))
 
-  pub scope2-refused : verdictOf s ≡ refusedWith (f .number) (f .place) → RunRefused f ≡ runAs (scope2Of s m r)
+  pub scope2-refused : verdictOf s ≡ refusedWith f → RunRefused f ≡ runAs (scope2Of s m r)
   scope2-refused e = sym (ap runAs (call-refused s m (λ i p. scope2At (serviceIn i) p r) e))
 
-  module _ (d : f ≡ missingAs) (k : (i : Interchange) × ((verdictOf s ≡ accepted i) × (messageIn i m ≡ none))) where
+  module _ (d : f ≡ atZero 13) (k : (i : Interchange) × ((verdictOf s ≡ accepted i) × (messageIn i m ≡ none))) where
     pub scope1-missing : ScopeRefused f ≡ partsAs (scope1Of s m r)
     scope1-missing = ap ScopeRefused d ∙ sym (ap partsAs (call-missing s m (λ i p. scope1At (serviceIn i) p r) k))
 
@@ -231,14 +232,14 @@ parts-promised x e q = (e, (ap toldParts e ∙ by x, q))
   where
     by : (x : Answered Parts) → toldParts (partsAs x) ≡ partNumbers x
     by (given (parts a b c d)) = refl
-    by (refusedAs number place) = refl
+    by (refusedAs f) = refl
 
 pub run-promised : {a : Ran} {Lie : Type 0} (x : Answered Run) → a ≡ runAs x → Lie → (a ≡ runAs x) × ((toldRun a ≡ runNumbers x) × Lie)
 run-promised x e q = (e, (ap toldRun e ∙ by x, q))
   where
     by : (x : Answered Run) → toldRun (runAs x) ≡ runNumbers x
     by (given (run a b)) = refl
-    by (refusedAs number place) = refl
+    by (refusedAs f) = refl
 
 -- ---- the code, call by call
 

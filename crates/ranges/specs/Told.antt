@@ -4,8 +4,8 @@ use Prim.Native.Nat.{ℕ, _≤_}
 use mathlib.Core.List.{List, [], _∷_}
 use mathlib.Core.Bool.{cond}
 use Rattle.syntax.specs.Octets.{same}
+use Rattle.syntax.specs.Refusals.{atZero}
 use Rattle.syntax.specs.declared.Service.{Service}
-use Rattle.syntax.specs.declared.Refusal.{Refusal}
 use Rattle.walk.specs.declared.sections.Layout.{Layout}
 use Rattle.groups.specs.Groups.{nameAt, soughtIn}
 use Rattle.groups.specs.declared.named.Sought.{Sought}
@@ -20,18 +20,18 @@ use Rattle.ranges.specs.declared.scopes.Run.the-variants.{Of as RunOf, R
 -- "A companion call gives start and end", of the header part and of the body part; or the refusal's number and place
 abbrev pub partsAs : Answered Parts → Scope1
 partsAs (given (parts a b c d)) = Parted (record { header = record { start = a; end = b }; body = record { start = c; end = d } })
-partsAs (refusedAs number place) = PartsRefused (record { number = number; place = place })
+partsAs (refusedAs f) = PartsRefused f
 
 -- the same of one run
 abbrev pub runAs : Answered Run → Ran
 runAs (given (run a b)) = RunOf (record { start = a; end = b })
-runAs (refusedAs number place) = RunRefused (record { number = number; place = place })
+runAs (refusedAs f) = RunRefused f
 
 -- ---- the numbers
 
 abbrev pub partNumbers : Answered Parts → List ℕ
 partNumbers (given (parts a b c d)) = 0 ∷ 0 ∷ a ∷ b ∷ c ∷ d ∷ []
-partNumbers (refusedAs n p) = n ∷ p ∷ 0 ∷ 0 ∷ 0 ∷ 0 ∷ []
+partNumbers (refusedAs f) = f .number ∷ f .place ∷ 0 ∷ 0 ∷ 0 ∷ 0 ∷ []
 
 abbrev pub toldParts : Scope1 → List ℕ
 toldParts (Parted x) = 0 ∷ 0 ∷ x .header .start ∷ x .header .end ∷ x .body .start ∷ x .body .end ∷ []
@@ -39,7 +39,7 @@ toldParts (PartsRefused f) = f .number ∷ f .place ∷ 0 ∷ 0 ∷ 0 ∷ 0 ∷ 
 
 abbrev pub runNumbers : Answered Run → List ℕ
 runNumbers (given (run a b)) = 0 ∷ 0 ∷ a ∷ b ∷ []
-runNumbers (refusedAs n p) = n ∷ p ∷ 0 ∷ 0 ∷ []
+runNumbers (refusedAs f) = f .number ∷ f .place ∷ 0 ∷ 0 ∷ []
 
 abbrev pub toldRun : Ran → List ℕ
 toldRun (RunOf x) = 0 ∷ 0 ∷ x .start ∷ x .end ∷ []
@@ -48,15 +48,15 @@ toldRun (RunRefused f) = f .number ∷ f .place ∷ 0 ∷ 0 ∷ []
 -- where the parts lie: on refusal "the part is empty and starts at 0"
 abbrev pub headerPart : Answered Parts → Run
 headerPart (given (parts a b c d)) = run a b
-headerPart (refusedAs n p) = run 0 0
+headerPart (refusedAs f) = run 0 0
 
 abbrev pub bodyPart : Answered Parts → Run
 bodyPart (given (parts a b c d)) = run c d
-bodyPart (refusedAs n p) = run 0 0
+bodyPart (refusedAs f) = run 0 0
 
 abbrev pub runPart : Answered Run → Run
 runPart (given r) = r
-runPart (refusedAs n p) = run 0 0
+runPart (refusedAs f) = run 0 0
 
 abbrev pub startOf : Run → ℕ
 startOf (run a e) = a
@@ -86,14 +86,11 @@ headerFound σ s c rows code r = scopedBy σ s code (soughtIn σ s rows 0 2 r (c
 abbrev pub trailerFound : Service → List ℕ → Layout → List ℕ → List ℕ → Sought
 trailerFound σ s c rows r = soughtIn σ s rows 9 1 r (c .trailers) (c .unt)
 
-abbrev pub missingAs : Refusal
-missingAs = record { number = 13; place = 0 }
-
 abbrev pub partsBy : Layout → Sought → Scope1
 partsBy c (At x) = Parted (record { header = x; body = record { start = c .body; end = c .tail } })
-partsBy c Nowhere = PartsRefused missingAs
+partsBy c Nowhere = PartsRefused (atZero 13)
 
 abbrev pub runBy : Sought → Sought → Ran
 runBy (At x) (At z) = RunOf (record { start = x .start; end = z .start })
-runBy (At x) Nowhere = RunRefused missingAs
-runBy Nowhere z = RunRefused missingAs
+runBy (At x) Nowhere = RunRefused (atZero 13)
+runBy Nowhere z = RunRefused (atZero 13)

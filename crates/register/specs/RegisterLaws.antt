@@ -248,7 +248,7 @@ module _ (s : List ℕ) (x : Start) (e : begunOf s ≡ Begins x) where
 
     -- by what `too_long` answers
     module _ {out : List ℕ} {b : Bool} (d : b ≡ tooLong (length out) m) where
-      pub write-over : {r : Written} → b ≡ true → r ≡ refusedAs 15 0 → Writes (registerOf s) out r out
+      pub write-over : {r : Written} → b ≡ true → r ≡ refusedAs 15 → Writes (registerOf s) out r out
       write-over {r} h q = subst (λ (t : Text). Writes t out r out) (sym (register-so w)) (writes-over long d h q)
 
       pub write-fit : {r : Written} {out′ : List ℕ} → b ≡ false → (r ≡ Length m) × Laid out 0 (registerAt (x .syntax .service) (x .at) (w .u) (w .ms)) m out′ → Writes (registerOf s) out r out′

@@ -9,6 +9,7 @@ use lib.Dec.{eqb, leb}
 use lib.ListN.{length}
 use lib.Seq.{slice}
 use borrow.Author.Tests.{leb-true}
+use Rattle.syntax.specs.Refusals.{atZero}
 use Rattle.syntax.specs.Octets.{every, within}
 use Rattle.syntax.specs.RepertoireLaws.{and-l, and-r}
 use Rattle.syntax.specs.CuttingLaws.{slice-take}
@@ -69,37 +70,37 @@ module _ (y : Syntax) (s : List ℕ) (c : Layout) (r : List ℕ) (f : ℕ) {t z 
   woven-writes k w =
       writes-as
       (ap (λ (x : List ℕ). text (joined (sealedPieces (y .service) s c r f x))) d
-      ∙ ap (λ (x : Bool). cond x (text (joined (sealedPieces (y .service) s c r f t))) (noText 14 0)) (sym k ∙ e ∙ ap (every (mayWrite y)) d)) w
+      ∙ ap (λ (x : Bool). cond x (text (joined (sealedPieces (y .service) s c r f t))) (noText (atZero 14))) (sym k ∙ e ∙ ap (every (mayWrite y)) d)) w
 
-  pub woven-barred : b ≡ false → Writes (noText 14 0) out a left → Writes (wovenOr y s c r f t) out a left
-  woven-barred k w = writes-as (ap (λ (x : Bool). cond x (text (joined (sealedPieces (y .service) s c r f t))) (noText 14 0)) (sym k ∙ e ∙ ap (every (mayWrite y)) d)) w
+  pub woven-barred : b ≡ false → Writes (noText (atZero 14)) out a left → Writes (wovenOr y s c r f t) out a left
+  woven-barred k w = writes-as (ap (λ (x : Bool). cond x (text (joined (sealedPieces (y .service) s c r f t))) (noText (atZero 14))) (sym k ∙ e ∙ ap (every (mayWrite y)) d)) w
 
 -- ---- 16
 
 module _ {s m : List ℕ} {y : Syntax} {c : Layout} {rows : List ℕ} (h : Holds s m y c rows) (r : List ℕ) (f : ℕ) {b : Bool} (e : b ≡ maySeal (h .o) r f) {out left : List ℕ} {a : _} where
-  pub octets-barred : b ≡ false → Writes (noText 16 0) out a left → Writes (octetsAt (h .i) (placed (message (h .o) (h .t)) (h .q)) r f) out a left
+  pub octets-barred : b ≡ false → Writes (noText (atZero 16)) out a left → Writes (octetsAt (h .i) (placed (message (h .o) (h .t)) (h .q)) r f) out a left
   octets-barred d w = writes-as (sym (rw (← e, d))) w
 
   pub octets-written : b ≡ true → Writes (text (joined (octetsPieces (y .service) s c r f))) out a left → Writes (octetsAt (h .i) (placed (message (h .o) (h .t)) (h .q)) r f) out a left
   octets-written d w = writes-as (ap text (signed h r f) ∙ sym (rw (← e, d))) w
 
-  pub seal-barred : (v : List ℕ) → b ≡ false → Writes (noText 16 0) out a left → Writes (sealAt (h .i) (placed (message (h .o) (h .t)) (h .q)) m r f v) out a left
+  pub seal-barred : (v : List ℕ) → b ≡ false → Writes (noText (atZero 16)) out a left → Writes (sealAt (h .i) (placed (message (h .o) (h .t)) (h .q)) m r f v) out a left
   seal-barred v d w = writes-as (sym (rw (← e, d))) w
 
   pub seal-written : (v : List ℕ) → b ≡ true → Writes (sizedOr y s c r f v) out a left → Writes (sealAt (h .i) (placed (message (h .o) (h .t)) (h .q)) m r f v) out a left
   seal-written v d w =
       writes-as
-      (ap (λ (x : Text). cond (lengthRight f v) x (noText 16 0))
-      (ap (λ (x : List ℕ). cond (every (mayWrite y) (textBy f v)) (text x) (noText 14 0)) (woven h r f (textBy f v))
-      ∙ ap (λ (x : Option Syntax). cond (writable x (textBy f v)) (text (sealedText (h .i) m r f (textBy f v))) (noText 14 0)) (sym (h .settled)))
-      ∙ ap (λ (x : Bool). cond (x && lengthRight f v) (orUnwritten (h .i) m r f (textBy f v)) (noText 16 0)) (sym d ∙ e)) w
+      (ap (λ (x : Text). cond (lengthRight f v) x (noText (atZero 16)))
+      (ap (λ (x : List ℕ). cond (every (mayWrite y) (textBy f v)) (text x) (noText (atZero 14))) (woven h r f (textBy f v))
+      ∙ ap (λ (x : Option Syntax). cond (writable x (textBy f v)) (text (sealedText (h .i) m r f (textBy f v))) (noText (atZero 14))) (sym (h .settled)))
+      ∙ ap (λ (x : Bool). cond (x && lengthRight f v) (orUnwritten (h .i) m r f (textBy f v)) (noText (atZero 16))) (sym d ∙ e)) w
 
 module _ (y : Syntax) (s : List ℕ) (c : Layout) (r : List ℕ) (f : ℕ) (v : List ℕ) {b : Bool} (e : b ≡ lengthRight f v) {out left : List ℕ} {a : _} where
   pub sized-written : b ≡ true → Writes (wovenOr y s c r f (textBy f v)) out a left → Writes (sizedOr y s c r f v) out a left
-  sized-written d w = writes-as (ap (λ (x : Bool). cond x (wovenOr y s c r f (textBy f v)) (noText 16 0)) (sym d ∙ e)) w
+  sized-written d w = writes-as (ap (λ (x : Bool). cond x (wovenOr y s c r f (textBy f v)) (noText (atZero 16))) (sym d ∙ e)) w
 
-  pub sized-barred : b ≡ false → Writes (noText 16 0) out a left → Writes (sizedOr y s c r f v) out a left
-  sized-barred d w = writes-as (ap (λ (x : Bool). cond x (wovenOr y s c r f (textBy f v)) (noText 16 0)) (sym d ∙ e)) w
+  pub sized-barred : b ≡ false → Writes (noText (atZero 16)) out a left → Writes (sizedOr y s c r f v) out a left
+  sized-barred d w = writes-as (ap (λ (x : Bool). cond x (wovenOr y s c r f (textBy f v)) (noText (atZero 16))) (sym d ∙ e)) w
 
 -- ---- the calls
 
@@ -107,18 +108,18 @@ module _ (s m r : List ℕ) (f : ℕ) {out left : List ℕ} {a : _} where
   pub octets-holds : {y : Syntax} {c : Layout} {rows : List ℕ} (h : Holds s m y c rows) → Writes (octetsAt (h .i) (placed (message (h .o) (h .t)) (h .q)) r f) out a left → Writes (sealOctetsOf s m r f) out a left
   octets-holds h w = writes-as (sym (ap answered (call-holds s m (λ i p. some (octetsAt i p r f)) h))) w
 
-  pub octets-missing : (i : Interchange) × ((verdictOf s ≡ accepted i) × (messageIn i m ≡ none)) → Writes (noText 13 0) out a left → Writes (sealOctetsOf s m r f) out a left
+  pub octets-missing : (i : Interchange) × ((verdictOf s ≡ accepted i) × (messageIn i m ≡ none)) → Writes (noText (atZero 13)) out a left → Writes (sealOctetsOf s m r f) out a left
   octets-missing k w = writes-as (sym (ap answered (call-missing s m (λ i p. some (octetsAt i p r f)) k))) w
 
-  pub octets-refused : {n p : ℕ} → verdictOf s ≡ refusedWith n p → Writes (noText n p) out a left → Writes (sealOctetsOf s m r f) out a left
+  pub octets-refused : {g : Refusal} → verdictOf s ≡ refusedWith g → Writes (noText g) out a left → Writes (sealOctetsOf s m r f) out a left
   octets-refused e w = writes-as (sym (ap answered (call-refused s m (λ i p. some (octetsAt i p r f)) e))) w
 
   module _ (v : List ℕ) where
     pub seal-holds : {y : Syntax} {c : Layout} {rows : List ℕ} (h : Holds s m y c rows) → Writes (sealAt (h .i) (placed (message (h .o) (h .t)) (h .q)) m r f v) out a left → Writes (sealOf s m r f v) out a left
     seal-holds h w = writes-as (sym (ap answered (call-holds s m (λ i p. some (sealAt i p m r f v)) h))) w
 
-    pub seal-missing : (i : Interchange) × ((verdictOf s ≡ accepted i) × (messageIn i m ≡ none)) → Writes (noText 13 0) out a left → Writes (sealOf s m r f v) out a left
+    pub seal-missing : (i : Interchange) × ((verdictOf s ≡ accepted i) × (messageIn i m ≡ none)) → Writes (noText (atZero 13)) out a left → Writes (sealOf s m r f v) out a left
     seal-missing k w = writes-as (sym (ap answered (call-missing s m (λ i p. some (sealAt i p m r f v)) k))) w
 
-    pub seal-refused : {n p : ℕ} → verdictOf s ≡ refusedWith n p → Writes (noText n p) out a left → Writes (sealOf s m r f v) out a left
+    pub seal-refused : {g : Refusal} → verdictOf s ≡ refusedWith g → Writes (noText g) out a left → Writes (sealOf s m r f v) out a left
     seal-refused e w = writes-as (sym (ap answered (call-refused s m (λ i p. some (sealAt i p m r f v)) e))) w

@@ -4,6 +4,7 @@ use Prim.Native.Nat.{ℕ}
 use mathlib.Core.Bool.{cond, _&&_}
 use mathlib.Core.List.{List}
 use mathlib.Core.Option.{some}
+use Rattle.syntax.specs.Refusals.{atZero}
 use Rattle.grammar.specs.Interchange.{message}
 use Rattle.grammar.specs.Valid.{Interchange, syntaxIn}
 use Rattle.grammar.specs.Verdict.{verdictOf}
@@ -15,17 +16,17 @@ use Rattle.weaving.specs.Seals.{maySeal, lengthRight, textBy, writable, signedT
 
 -- one call writes "the scope 1 octets to be signed"
 abbrev pub octetsAt : Interchange → Placed → List ℕ → ℕ → Text
-octetsAt i (placed (message o n) q) r f = cond (maySeal o r f) (text (signedText (serviceIn i) o r f)) (noText 16 0)
+octetsAt i (placed (message o n) q) r f = cond (maySeal o r f) (text (signedText (serviceIn i) o r f)) (noText (atZero 16))
 
 abbrev pub sealOctetsOf : List ℕ → List ℕ → List ℕ → ℕ → Text
 sealOctetsOf s m r f = answered (answeredBy (verdictOf s) (λ i. then (messageIn i m) (λ p. some (octetsAt i p r f))))
 
 -- one writes "the sealed interchange"
 abbrev pub orUnwritten : Interchange → List ℕ → List ℕ → ℕ → List ℕ → Text
-orUnwritten i m r f t = cond (writable (syntaxIn i) t) (text (sealedText i m r f t)) (noText 14 0)
+orUnwritten i m r f t = cond (writable (syntaxIn i) t) (text (sealedText i m r f t)) (noText (atZero 14))
 
 abbrev pub sealAt : Interchange → Placed → List ℕ → List ℕ → ℕ → List ℕ → Text
-sealAt i (placed (message o n) q) m r f v = cond (maySeal o r f && lengthRight f v) (orUnwritten i m r f (textBy f v)) (noText 16 0)
+sealAt i (placed (message o n) q) m r f v = cond (maySeal o r f && lengthRight f v) (orUnwritten i m r f (textBy f v)) (noText (atZero 16))
 
 abbrev pub sealOf : List ℕ → List ℕ → List ℕ → ℕ → List ℕ → Text
 sealOf s m r f v = answered (answeredBy (verdictOf s) (λ i. then (messageIn i m) (λ p. some (sealAt i p m r f v))))

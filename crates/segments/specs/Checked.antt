@@ -10,7 +10,7 @@ use Rattle.syntax.specs.Content.{nextOf}
 use Rattle.syntax.specs.ContentLaws.{next-steps}
 use Rattle.syntax.specs.Segment.{edgeAt}
 use Rattle.syntax.specs.SegmentLaws.{edge-steps}
-use Rattle.syntax.specs.declared.Refusal.{Refusal}
+use Rattle.syntax.specs.declared.Breach.{Breach}
 use Rattle.syntax.specs.declared.Service.{Service}
 use Rattle.syntax.specs.declared.Syntax.{Syntax}
 use Rattle.syntax.specs.declared.cutting.Cut.{Cut}
@@ -26,7 +26,7 @@ abbrev pub CheckedIn : List ℕ → ℕ → Checked → Type 0
 CheckedIn s a (Good e) = (a ≤ e) × (e < length s)
 CheckedIn s a (Refused f) = Unit {0}
 
-pub refused-in : (s : List ℕ) (a : ℕ) {f : Refusal} {r : Checked} → r ≡ Refused f → CheckedIn s a r
+pub refused-in : (s : List ℕ) (a : ℕ) {f : Breach} {r : Checked} → r ≡ Refused f → CheckedIn s a r
 refused-in s a e = subst (CheckedIn s a) (sym e) tt
 
 pub ends-in : (y : Syntax) (s : List ℕ) (a : ℕ) {e : ℕ} {r : Cut} → r ≡ cutAt y s a → r ≡ Ends e → (a ≤ e) × (e < length s)

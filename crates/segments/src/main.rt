@@ -7,7 +7,8 @@ use printing::number;
 use printing::print_refusal_at;
 use printing::put;
 use printing::text;
-use syntax::Refusal;
+use refusals::refusal;
+use syntax::Breach;
 use syntax::Service;
 use syntax::Syntax;
 use syntax::content::Next;
@@ -35,7 +36,7 @@ struct Place {
 // A segment's end, or why it is refused.
 enum Checked {
     Good(usize),
-    Refused(Refusal),
+    Refused(Breach),
 }
 
 fn print_content(out: &mut [u8; 4096], n: usize, x: &[u8], release: u8) -> usize {
@@ -141,7 +142,7 @@ fn print_elements(
 fn refused(number: u8, place: usize) -> Checked
     ensures { λ r. ⌜ r ≡ Checked.Refused (record { number = number; place = place }) ⌝ }
 {
-    Checked::Refused(Refusal { number, place })
+    Checked::Refused(Breach { number, place })
 }
 
 // A bad tag is told before what else was found of the segment.
@@ -248,10 +249,10 @@ fn list(out: &mut [u8; 4096], s: &[u8]) -> usize {
             let t = table(y);
             match first_bad(s, at, &t, y) {
                 Checked::Good(_) => print_segments(out, 0, s, at, &t, y),
-                Checked::Refused(f) => print_refusal_at(out, 0, f),
+                Checked::Refused(f) => print_refusal_at(out, 0, refusal(s, f)),
             }
         }
-        Begun::Refused(f) => print_refusal_at(out, 0, f),
+        Begun::Refused(f) => print_refusal_at(out, 0, refusal(s, f)),
     }
 }
 

@@ -7,7 +7,7 @@ ghost use Rattle.syntax.specs.Service.{fit};
 ghost use Rattle.syntax.specs.Repertoire.{Table};
 ghost use Rattle.walk.specs.RunLaws.{Fresh};
 ghost use Rattle.spans.specs.Spanning.{stepOf, sectionOf, toldAs, SpanIs};
-use syntax::Refusal;
+use syntax::Breach;
 use syntax::Syntax;
 use walk::sections::Layout;
 use walk::sections::Reached;
@@ -24,7 +24,7 @@ pub struct Run {
 pub enum Spanned {
     Run(Run),
     Missing,
-    Refused(Refusal),
+    Refused(Breach),
 }
 
 // After some messages: all were AUTACKs; the last one is in the run; AUTACKs lie behind the run; an AUTACK lies inside it, which no later message mends.

@@ -10,7 +10,7 @@ use Rattle.syntax.specs.Cutting.{ends, tagOf}
 use Rattle.syntax.specs.Segment.{piecesAt, atElement, componentAt, partOf, components, repeats, elements, anyRepeats}
 use Rattle.syntax.specs.Content.{content, numberIn}
 use Rattle.syntax.specs.Opening.{begunOf}
-use Rattle.syntax.specs.declared.Refusal.{Refusal}
+use Rattle.syntax.specs.declared.Breach.{Breach}
 use Rattle.syntax.specs.declared.Service.{Service}
 use Rattle.syntax.specs.declared.cutting.Tag.{Tag}
 use Rattle.syntax.specs.declared.cutting.Tag.the-variants.{Is as Tagged, Bad}

@@ -7,6 +7,7 @@ pub mod Content
 pub mod Segment
 pub mod Clean
 pub mod Opening
+pub mod Refusals
 pub mod Tree
 pub mod Example
 -- the reader that the proofs go through

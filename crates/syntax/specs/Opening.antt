@@ -9,7 +9,7 @@ use Rattle.syntax.specs.Service.{standard, withoutRepetition, fit}
 use Rattle.syntax.specs.Cutting.{endAt, tagOf}
 use Rattle.syntax.specs.Segment.{componentAt, partOf}
 use Rattle.syntax.specs.Content.{content}
-use Rattle.syntax.specs.declared.Refusal.{Refusal}
+use Rattle.syntax.specs.declared.Breach.{Breach}
 use Rattle.syntax.specs.declared.Service.{Service}
 use Rattle.syntax.specs.declared.Syntax.{Syntax}
 use Rattle.syntax.specs.declared.Version.{Version}

@@ -6,7 +6,13 @@ pub mod opening;
 pub mod reading;
 pub mod repertoire;
 
-// A refusal as document 01 numbers it, with its place.
+// What is wrong with an interchange, as document 01 numbers it, with its place: what reading tells, from below.
+pub struct Breach {
+    pub number: u8,
+    pub place: usize,
+}
+
+// What a call gives back: a breach, or one of the numbers that the calls add.
 pub struct Refusal {
     pub number: u8,
     pub place: usize,

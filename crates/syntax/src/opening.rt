@@ -1,6 +1,6 @@
 // What the start of an interchange says: UNA or none, then UNB's first element. Crate `beginning` reads it.
 use crate::Level;
-use crate::Refusal;
+use crate::Breach;
 use crate::Service;
 use crate::Syntax;
 use crate::Version;
@@ -14,7 +14,7 @@ pub struct Opening {
 
 pub enum Opened {
     Known(Opening),
-    Refused(Refusal),
+    Refused(Breach),
 }
 
 pub enum LevelName {
@@ -35,5 +35,5 @@ pub struct Start {
 
 pub enum Begun {
     Ready(Start),
-    Refused(Refusal),
+    Refused(Breach),
 }

@@ -10,7 +10,7 @@ use Rattle.syntax.specs.Service.{fit}
 use Rattle.syntax.specs.Cutting.{cutAt, tagOf}
 use Rattle.syntax.specs.Clean.{sound}
 use Rattle.syntax.specs.CleanLaws.{tag-here}
-use Rattle.syntax.specs.declared.Refusal.{Refusal}
+use Rattle.syntax.specs.declared.Breach.{Breach}
 use Rattle.syntax.specs.declared.Syntax.{Syntax}
 use Rattle.syntax.specs.declared.cutting.Cut.{Cut}
 use Rattle.syntax.specs.declared.cutting.Cut.the-variants.{Ends, Spoilt, Open}
@@ -28,7 +28,7 @@ use Rattle.turns.specs.declared.state.Looked.{Looked}
 use Rattle.turns.specs.declared.state.Looked.the-variants.{Seen, Bad}
 use Rattle.turns.specs.declared.state.Sight.{Sight}
 
-unlike : {A : Type 0} {e : ℕ} {k : Kind} {f : Refusal} → Bad f ≡ Seen e k → A
+unlike : {A : Type 0} {e : ℕ} {k : Kind} {f : Breach} → Bad f ≡ Seen e k → A
 unlike h = let z : _≡_ {A = ℕ} 0 1 = cc in let w : ⊥ = omega arith in absurd w
 
 -- what is seen was cut, and has the kind that was given

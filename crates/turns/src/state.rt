@@ -55,7 +55,7 @@ use message::steps::on_usy;
 use references::refs::note;
 use references::refs::offer;
 use syntax::Found;
-use syntax::Refusal;
+use syntax::Breach;
 use syntax::Syntax;
 use syntax::content::content_is;
 use syntax::content::part;
@@ -92,13 +92,13 @@ pub struct State {
 
 pub enum Step {
     On(State),
-    Stop(Refusal),
+    Stop(Breach),
 }
 
 // A segment that can be read: its end and kind; or 4, or 3.
 pub enum Looked {
     Seen(usize, Kind),
-    Bad(Refusal),
+    Bad(Breach),
 }
 
 // .. and if it is looked into, its shape; its fields are then in the marks.
@@ -116,13 +116,13 @@ pub struct Ahead {
 
 pub enum Advanced {
     On(Ahead),
-    Stop(Refusal),
+    Stop(Breach),
 }
 
 fn unseen(number: u8, place: usize) -> Looked
     ensures { λ r. ⌜ r ≡ unseenAs number place ⌝ }
 {
-    Looked::Bad(Refusal {
+    Looked::Bad(Breach {
         number: number,
         place: place,
     })
@@ -210,7 +210,7 @@ pub fn look(s: &[u8], at: usize, t: &[u8; 256], y: Syntax, marks: &mut [usize]) 
 fn stopped(number: u8, place: usize) -> Step
     ensures { λ r. ⌜ r ≡ Step.Stop (record { number = number; place = place }) ⌝ }
 {
-    Step::Stop(Refusal {
+    Step::Stop(Breach {
         number: number,
         place: place,
     })

@@ -3,6 +3,7 @@ use Prim.Native.Nat.{ℕ}
 use mathlib.Core.Bool.{cond}
 use mathlib.Core.List.{List, []}
 use mathlib.Core.Option.{Option, none, some}
+use Rattle.syntax.specs.Refusals.{atZero}
 use Rattle.grammar.specs.Segments.{text}
 use Rattle.grammar.specs.Interchange.{Leaf, Header, header, Trailer, trailer, Body, Open, message}
 use Rattle.grammar.specs.Verdict.{verdictOf}
@@ -50,7 +51,7 @@ abbrev pub filtered : Chosen Header → List ℕ → Text
 filtered (chosen hs h) t = orBad (valueBy (filterH h) t)
 
 abbrev pub orNoHeader : Option (Chosen Header) → List ℕ → Text
-orNoHeader none t = noText 13 0
+orNoHeader none t = noText (atZero 13)
 orNoHeader (some h) t = filtered h t
 
 abbrev pub valueIn : Open → List ℕ → Text
@@ -61,7 +62,7 @@ valueAt (placed (message o t) q) r = valueIn o r
 
 abbrev pub answered : Answered Text → Text
 answered (given x) = x
-answered (refusedAs n p) = noText n p
+answered (refusedAs f) = noText f
 
 abbrev pub valueOf : List ℕ → List ℕ → List ℕ → Text
 valueOf s m r = answered (answeredBy (verdictOf s) (λ i. then (messageIn i m) (λ p. some (valueAt p r))))

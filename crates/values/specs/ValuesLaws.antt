@@ -8,6 +8,7 @@ use mathlib.Core.Bool.{Bool, true, false, cond}
 use lib.Dec.{T}
 use lib.ListN.{length}
 use lib.Seq.{slice, slice-empty}
+use Rattle.syntax.specs.Refusals.{atZero}
 use Rattle.syntax.specs.Content.{content}
 use Rattle.syntax.specs.Service.{fit}
 use Rattle.syntax.specs.Cutting.{endAt}
@@ -135,10 +136,10 @@ module _ {s m : List ℕ} {y : Syntax} {c : Layout} {rows : List ℕ} (h : Holds
 
 module _ {s m : List ℕ} {y : Syntax} {c : Layout} {rows : List ℕ} (h : Holds s m y c rows) (r : List ℕ) {x : Sought}
     (e : x ≡ soughtIn (y .service) s rows 0 2 r (c .headers) (c .body)) where
-  pub value-headless : {out left : List ℕ} {a : _} → x ≡ Nowhere → Writes (noText 13 0) out a left → Writes (valueIn (h .o) r) out a left
+  pub value-headless : {out left : List ℕ} {a : _} → x ≡ Nowhere → Writes (noText (atZero 13)) out a left → Writes (valueIn (h .o) r) out a left
   value-headless d w = writes-as (by (headerNamed (h .o) r) (sym d ∙ e ∙ header-found h r)) w
     where
-      by : (o : Option (Chosen Header)) → Nowhere ≡ rangeOf showHeader (y .service) (headsAt (y .service) (h .q) (h .o)) o → noText 13 0 ≡ orNoHeader o (valueText (h .o) r)
+      by : (o : Option (Chosen Header)) → Nowhere ≡ rangeOf showHeader (y .service) (headsAt (y .service) (h .q) (h .o)) o → noText (atZero 13) ≡ orNoHeader o (valueText (h .o) r)
       by none q = refl
       by (some (chosen hs x)) q = let z : _≡_ {A = ℕ} 0 1 = cc in absurd (omega arith)
 
@@ -163,8 +164,8 @@ module _ (s m r : List ℕ) {out left : List ℕ} {a : _} where
   pub value-holds : {y : Syntax} {c : Layout} {rows : List ℕ} (h : Holds s m y c rows) → Writes (valueIn (h .o) r) out a left → Writes (valueOf s m r) out a left
   value-holds h w = writes-as (sym (ap answered (call-holds s m (λ i p. some (valueAt p r)) h))) w
 
-  pub value-missing : (i : Interchange) × ((verdictOf s ≡ accepted i) × (messageIn i m ≡ none)) → Writes (noText 13 0) out a left → Writes (valueOf s m r) out a left
+  pub value-missing : (i : Interchange) × ((verdictOf s ≡ accepted i) × (messageIn i m ≡ none)) → Writes (noText (atZero 13)) out a left → Writes (valueOf s m r) out a left
   value-missing k w = writes-as (sym (ap answered (call-missing s m (λ i p. some (valueAt p r)) k))) w
 
-  pub value-refused : {n p : ℕ} → verdictOf s ≡ refusedWith n p → Writes (noText n p) out a left → Writes (valueOf s m r) out a left
+  pub value-refused : {f : Refusal} → verdictOf s ≡ refusedWith f → Writes (noText f) out a left → Writes (valueOf s m r) out a left
   value-refused e w = writes-as (sym (ap answered (call-refused s m (λ i p. some (valueAt p r)) e))) w

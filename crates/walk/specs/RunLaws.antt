@@ -14,7 +14,7 @@ use Rattle.syntax.specs.Opening.{begunOf}
 use Rattle.syntax.specs.Tree.{Segment, segment, printS}
 use Rattle.syntax.specs.TreeLaws.{and-right}
 use Rattle.syntax.specs.Reader.{chain}
-use Rattle.syntax.specs.declared.Refusal.{Refusal}
+use Rattle.syntax.specs.declared.Breach.{Breach}
 use Rattle.syntax.specs.declared.Service.{Service}
 use Rattle.syntax.specs.declared.Syntax.{Syntax}
 use Rattle.syntax.specs.declared.Found.{Found}
@@ -212,16 +212,16 @@ some-left y f x s i l = by (endAt (y .service) s i) refl (tagOf (y .service) (dr
 
 -- ---- a look
 
-unlike : {A : Type 0} {e : ℕ} {k : Kind} {f : Refusal} → Seen e k ≡ Bad f → A
+unlike : {A : Type 0} {e : ℕ} {k : Kind} {f : Breach} → Seen e k ≡ Bad f → A
 unlike h = let z : _≡_ {A = ℕ} 0 1 = cc in let w : ⊥ = omega arith in absurd w
 
-bad-same : {f g : Refusal} → Bad f ≡ Bad g → f ≡ g
+bad-same : {f g : Breach} → Bad f ≡ Bad g → f ≡ g
 bad-same h = cc
 
-numbered : {n p : ℕ} {f : Refusal} {a : Answer} → Bad (record { number = n; place = p }) ≡ Bad f → a ≡ refused n p → a ≡ refused (f .number) (f .place)
-numbered {n} {p} {f} {a} h e = e ∙ ap (λ (f : Refusal). refused (f .number) (f .place)) (bad-same h)
+numbered : {n p : ℕ} {f : Breach} {a : Answer} → Bad (record { number = n; place = p }) ≡ Bad f → a ≡ refused n p → a ≡ refused (f .number) (f .place)
+numbered {n} {p} {f} {a} h e = e ∙ ap (λ (f : Breach). refused (f .number) (f .place)) (bad-same h)
 
-bad-look : (y : Syntax) → T (fit (y .service)) → (x : Reading) → over (stateOf x) ≡ false → (s : List ℕ) (i : ℕ) → i < length s → {f : Refusal} → lookedAt y s i ≡ Bad f
+bad-look : (y : Syntax) → T (fit (y .service)) → (x : Reading) → over (stateOf x) ≡ false → (s : List ℕ) (i : ℕ) → i < length s → {f : Breach} → lookedAt y s i ≡ Bad f
     → walk y x (chain (y .service) false (drop i s)) i ≡ refused (f .number) (f .place)
 bad-look y d x o s i l {f} e = by (cutAt y s i) refl (tagOf (y .service) (drop i s)) refl e
   where
@@ -331,7 +331,7 @@ module _ {y : Syntax} {s : List ℕ} {from : ℕ} {x : State} {h l b : List ℕ}
 
   module _ (f : T (fit (y .service))) (m : isDone (x .phase) ≡ false) where
     -- no segment, or one outside the repertoire
-    pub walking-bad : i < length s → {r : Refusal} → lookedAt y s i ≡ Bad r → answerFrom y s from ≡ refused (r .number) (r .place)
+    pub walking-bad : i < length s → {r : Breach} → lookedAt y s i ≡ Bad r → answerFrom y s from ≡ refused (r .number) (r .place)
     walking-bad k e = sym (w .goes) ∙ bad-look y f (w .tree) (stands m) s i k e
 
     module _ {e : ℕ} {k : Kind} (v : lookedAt y s i ≡ Seen e k) where
@@ -356,7 +356,7 @@ module _ {y : Syntax} {s : List ℕ} {from : ℕ} {x : State} {h l b : List ℕ}
           ∙ ap (λ (S : StateS). decidedFrom (y .version) S (asked (turned .g)) i) (sym (w .same))
           ∙ sym (follow y (w .tree) (turned .g) i (w .good) ∙ rw (turned-inside turned (seen .cut)))
 
-      stops : {r : Refusal} (h′ l′ b′ : List ℕ)
+      stops : {r : Breach} (h′ l′ b′ : List ℕ)
           → StepIs (decidedFrom (y .version) (stateIn (y .service .release) s x h l) (askedAt (y .service) s i) i) (Stop r) (y .service .release) s h′ l′ b′ (e + 1)
           → answerFrom y s from ≡ refused (r .number) (r .place)
       stops {r} h′ l′ b′ g =
@@ -367,7 +367,7 @@ module _ {y : Syntax} {s : List ℕ} {from : ℕ} {x : State} {h l b : List ℕ}
           by (refused n p) q g = q ∙ rw (g .0, g .1)
 
       -- the step stops
-      pub walking-stop : (r : Step) {g : Refusal} (h′ l′ b′ : List ℕ) → r ≡ Stop g
+      pub walking-stop : (r : Step) {g : Breach} (h′ l′ b′ : List ℕ) → r ≡ Stop g
           → StepIs (decidedFrom (y .version) (stateIn (y .service .release) s x h l) (askedAt (y .service) s i) i) r (y .service .release) s h′ l′ b′ (e + 1)
           → answerFrom y s from ≡ refused (g .number) (g .place)
       walking-stop r h′ l′ b′ q a =
@@ -442,7 +442,7 @@ module _ {y : Syntax} {s : List ℕ} {from : ℕ} {x : State} {h l b : List ℕ}
       omega (arith, n, z)
 
 module _ {y : Syntax} {s : List ℕ} {from : ℕ} {x : State} {h l b : List ℕ} {i : ℕ} (w : Walking y s from x h l b i) where
-  pub halted : (h′ l′ b′ : List ℕ) (r : Advanced) {f : Refusal} → r ≡ Halt f → AdvancedIs w r h′ l′ b′ → answerFrom y s from ≡ refused (f .number) (f .place)
+  pub halted : (h′ l′ b′ : List ℕ) (r : Advanced) {f : Breach} → r ≡ Halt f → AdvancedIs w r h′ l′ b′ → answerFrom y s from ≡ refused (f .number) (f .place)
   halted h′ l′ b′ r q a = subst (λ (r : Advanced). AdvancedIs w r h′ l′ b′) q a
 
 -- ---- what was begun
@@ -453,8 +453,8 @@ begun-fits s {b} e d =
     (a .fits, leb→le (length s) 65535 (and-right (leb 1 (length s)) (leb (length s) 65535) (a .lengths)))
 
 -- what the verdict is, by the walk from UNB on
-pub verdict-by : (s : List ℕ) {b : Opening} {r : Begun} {a : Answer} → r ≡ begunOf s → r ≡ Begins b → answerFrom (b .syntax) s (b .at) ≡ a → verdictOf s ≡ concluded (unaAt s) a
-verdict-by s {b} e d q = ap (verdictBy s) (sym e ∙ d) ∙ ap (concluded (unaAt s)) q
+pub verdict-by : (s : List ℕ) {b : Opening} {r : Begun} {a : Answer} → r ≡ begunOf s → r ≡ Begins b → answerFrom (b .syntax) s (b .at) ≡ a → verdictOf s ≡ concluded s (unaAt s) a
+verdict-by s {b} e d q = ap (verdictBy s) (sym e ∙ d) ∙ ap (concluded s (unaAt s)) q
 
 -- ---- empty tables
 

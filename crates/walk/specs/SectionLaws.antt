@@ -16,7 +16,7 @@ use Rattle.syntax.specs.Content.{contentFrom, content}
 use Rattle.syntax.specs.Tree.{Segment, printS}
 use Rattle.syntax.specs.declared.Service.{Service}
 use Rattle.syntax.specs.declared.Syntax.{Syntax}
-use Rattle.syntax.specs.declared.Refusal.{Refusal}
+use Rattle.syntax.specs.declared.Breach.{Breach}
 use Rattle.grammar.specs.Lists.{Snoc, nil, _▷_, _+++_, size, sum, joined}
 use Rattle.grammar.specs.ListsLaws.{each-size}
 use Rattle.grammar.specs.Segments as segments
@@ -504,5 +504,5 @@ module _ {y : Syntax} {s : List ℕ} {from : ℕ} {x : State} {h l b : List ℕ}
   pub read-all : (r : Reached) → r ≡ Over → ReachedIs w r h′ l′ b′ rows → ReadAll w
   read-all r q a = reached-as r q a
 
-  pub stopped : (r : Reached) {f : Refusal} → r ≡ Stop f → ReachedIs w r h′ l′ b′ rows → answerFrom y s from ≡ refused (f .number) (f .place)
+  pub stopped : (r : Reached) {f : Breach} → r ≡ Stop f → ReachedIs w r h′ l′ b′ rows → answerFrom y s from ≡ refused (f .number) (f .place)
   stopped r q a = reached-as r q a

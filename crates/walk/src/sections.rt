@@ -16,7 +16,7 @@ use crate::layout::opened;
 use crate::layout::spotted;
 use message::heads::is_free;
 use message::kept::fresh_message;
-use syntax::Refusal;
+use syntax::Breach;
 use syntax::Syntax;
 use syntax::content::content_is;
 use syntax::content::part;
@@ -56,7 +56,7 @@ pub struct Section {
 pub enum Reached {
     On(Section),
     Over,
-    Stop(Refusal),
+    Stop(Breach),
 }
 
 // Before UNB: nothing read.
@@ -249,7 +249,7 @@ fn section_in(
 fn misplaced(at: usize) -> Reached
     ensures { λ r. ⌜ r ≡ misplacedAs at ⌝ }
 {
-    Reached::Stop(Refusal {
+    Reached::Stop(Breach {
         number: 7,
         place: at,
     })

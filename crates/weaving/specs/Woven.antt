@@ -4,6 +4,7 @@ use mathlib.Core.Bool.{false, cond}
 use mathlib.Core.List.{List, [], _∷_}
 use lib.ListN.{length, drop}
 use lib.Seq.{slice}
+use Rattle.syntax.specs.Refusals.{atZero}
 use Rattle.syntax.specs.Octets.{every}
 use Rattle.syntax.specs.Service.{serves}
 use Rattle.syntax.specs.Content.{content, numberIn}
@@ -89,8 +90,8 @@ sealedPieces σ s c r f t =
 
 -- or 14, where the text of VALUE can't be written
 abbrev pub wovenOr : Syntax → List ℕ → Layout → List ℕ → ℕ → List ℕ → Text
-wovenOr y s c r f t = cond (every (mayWrite y) t) (text (joined (sealedPieces (y .service) s c r f t))) (noText 14 0)
+wovenOr y s c r f t = cond (every (mayWrite y) t) (text (joined (sealedPieces (y .service) s c r f t))) (noText (atZero 14))
 
 -- or 16, where its length is not allowed
 abbrev pub sizedOr : Syntax → List ℕ → Layout → List ℕ → ℕ → List ℕ → Text
-sizedOr y s c r f v = cond (lengthRight f v) (wovenOr y s c r f (textBy f v)) (noText 16 0)
+sizedOr y s c r f v = cond (lengthRight f v) (wovenOr y s c r f (textBy f v)) (noText (atZero 16))

@@ -5,28 +5,31 @@ use mathlib.Core.Bool.{Bool, true, cond}
 use mathlib.Core.Path.{_≡_}
 use lib.Dec.{ltb}
 use lib.ListN.{length, drop}
+use Rattle.syntax.specs.Refusals.{atZero}
+use Rattle.syntax.specs.declared.Refusal.{Refusal}
 use Rattle.writing.specs.declared.Written.{Written}
 use Rattle.writing.specs.declared.Written.the-variants.{Length, Refused}
 
--- the text that is to be written, or the paper's number and place where there is none
+-- the text that is to be written, or the refusal where there is none
 pub data Text : Type 0 where
   text : List ℕ → Text
-  noText : ℕ → ℕ → Text
+  noText : Refusal → Text
 
-abbrev pub refusedAs : ℕ → ℕ → Written
-refusedAs number place = Refused (record { number = number; place = place })
+-- 13 and up: at 0
+abbrev pub refusedAs : ℕ → Written
+refusedAs number = Refused (atZero number)
 
 -- "result longer than the lent buffer or than 65,535": n octets, where the buffer has room for so many
 abbrev pub tooLong : ℕ → ℕ → Bool
 tooLong room n = cond (ltb 65535 n) true (ltb room n)
 
 abbrev pub writtenAs : Text → List ℕ → Written
-writtenAs (noText number place) out = refusedAs number place
-writtenAs (text t) out = cond (tooLong (length out) (length t)) (refusedAs 15 0) (Length (length t))
+writtenAs (noText f) out = Refused f
+writtenAs (text t) out = cond (tooLong (length out) (length t)) (refusedAs 15) (Length (length t))
 
 -- the text first and the rest as it was; all as it was where the call refuses
 abbrev pub leftIn : Text → List ℕ → List ℕ
-leftIn (noText number place) out = out
+leftIn (noText f) out = out
 leftIn (text t) out = cond (tooLong (length out) (length t)) out (t ++ drop (length t) out)
 
 -- the answer r and the octets out′ of a call that is to write x into out

@@ -7,20 +7,21 @@ use mathlib.Core.Path.{_≡_, refl, sym, _∙_, subst}
 use lib.Dec.{ltb}
 use lib.ListN.{length}
 use borrow.Author.Tests.{ltb-false}
+use Rattle.syntax.specs.declared.Refusal.{Refusal}
 use Rattle.writing.specs.Laid.{Laid}
 use Rattle.writing.specs.LaidLaws.{laid-front}
 use Rattle.writing.specs.Written.{text, noText, refusedAs, tooLong, Writes, Text}
 use Rattle.writing.specs.declared.Written.{Written}
-use Rattle.writing.specs.declared.Written.the-variants.{Length}
+use Rattle.writing.specs.declared.Written.the-variants.{Length, Refused}
 
 pub writes-as : {x z : Text} {out left : List ℕ} {a : Written} → x ≡ z → Writes x out a left → Writes z out a left
 writes-as {out = out} {left = left} {a = a} e w = subst (λ (v : Text). Writes v out a left) e w
 
-pub writes-none : {number place : ℕ} {out : List ℕ} {r : Written} → r ≡ refusedAs number place → Writes (noText number place) out r out
+pub writes-none : {f : Refusal} {out : List ℕ} {r : Written} → r ≡ Refused f → Writes (noText f) out r out
 writes-none e = record { answer = e; octets = refl }
 
 -- a length is no refusal
-pub length-told : {A : Type 0} {n number place : ℕ} → Length n ≡ refusedAs number place → A
+pub length-told : {A : Type 0} {n : ℕ} {f : Refusal} → Length n ≡ Refused f → A
 length-told e = let z : _≡_ {A = ℕ} 0 1 = cc in absurd (omega arith)
 
 room-for : (room n : ℕ) → tooLong room n ≡ false → n ≤ room
@@ -33,7 +34,7 @@ room-for room n e = by (ltb 65535 n) e
 module _ {t : List ℕ} {m : ℕ} (e : m ≡ length t) where
   -- by what `too_long` answers
   module _ {out : List ℕ} {b : Bool} (d : b ≡ tooLong (length out) m) where
-    pub writes-over : {r : Written} → b ≡ true → r ≡ refusedAs 15 0 → Writes (text t) out r out
+    pub writes-over : {r : Written} → b ≡ true → r ≡ refusedAs 15 → Writes (text t) out r out
     writes-over h q = record { answer = q ∙ rw (← e, ← d, h); octets = rw (← e, ← d, h) }
 
     pub writes-fit : {out′ : List ℕ} {k : ℕ} → b ≡ false → Laid out 0 t k out′ → Writes (text t) out (Length m) out′

@@ -5,7 +5,7 @@ ghost use Prim.Native.Nat.{_+_, _%_, _≤_, _<_};
 ghost use lib.ListN.{length, set};
 ghost use Rattle.writing.specs.Decimal.{decimalOf, Filled};
 ghost use Rattle.writing.specs.Laid.{Laid, Fits};
-ghost use Rattle.writing.specs.Written.{tooLong};
+ghost use Rattle.writing.specs.Written.{refusedAs, tooLong};
 use syntax::Refusal;
 
 // What a call that writes a text answers: how long the text is, or why there is none.
@@ -15,7 +15,7 @@ pub enum Written {
 }
 
 pub fn refused(number: u8) -> Written
-    ensures { λ r. ⌜ r ≡ Written.Refused (record { number = number; place = 0 }) ⌝ }
+    ensures { λ r. ⌜ r ≡ refusedAs number ⌝ }
 {
     Written::Refused(Refusal { number, place: 0 })
 }
