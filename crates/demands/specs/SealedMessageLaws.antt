@@ -13,12 +13,12 @@ use Rattle.syntax.specs.declared.Service.{Service}
 use Rattle.grammar.specs.Lists.{Snoc, nil, _▷_, _+++_, each, joined, size, among, Rule, test, _and_, holds, every, few, distinct}
 use Rattle.grammar.specs.ListsLaws.{size-join}
 use Rattle.grammar.specs.TestLaws.{passes}
-use Rattle.grammar.specs.Segments.{Unh, seg, number, reference, second}
+use Rattle.grammar.specs.Segments.{Unh, seg, number, unh0062, unt0062, ust0534}
 use Rattle.grammar.specs.Interchange.{Leaf, Header, Trailer, trailer, Body, plain, ack, msg, Message, message, showHeader, showTrailer, showBody, showOpen, showMessage}
 use Rattle.grammar.specs.Rules.{autack, okHeader, okBody, whole, okMessage, refH, refT, linked, one, refsMessage, sizeAt, counted, countsMessage, scopeRight, scopesMessage}
 use Rattle.weaving.specs.Seals.{newHeader, newTrailer, grown, sealedMessage, refRight, filterRight, takesMore, isNew, maySeal}
 use Rattle.demands.specs.SealedListLaws.{front, same-swap, each-front, joined-front, every-front, distinct-front, away, aways, wider, longer, first-among}
-use Rattle.demands.specs.SealedNumberLaws.{ref-header, ref-trailer, grown-number, grown-second}
+use Rattle.demands.specs.SealedNumberLaws.{ref-header, ref-trailer, grown-number, grown-0062}
 
 -- what `maySeal` asks, part by part
 pub record May (u : Leaf) (hs : Snoc Header) (r : List ℕ) (f : ℕ) : Type 0 where
@@ -62,7 +62,7 @@ recount r x hs nil e k n h = tt
 recount r x hs (ts ▷ trailer c o) e k n h = (
   recount r x hs ts e k (n .0) (h .0),
   subst (λ (m : ℕ). T (eqb (number c 2) (m + size (showTrailer (trailer c o)))))
-      (sym (size-other (reference c) x hs (ap (λ (z : List ℕ). same z (reference c)) e ∙ same-swap (reference c) r (away (each refH hs) r (reference c) k (n .1))))) (h .1),
+      (sym (size-other (ust0534 c) x hs (ap (λ (z : List ℕ). same z (ust0534 c)) e ∙ same-swap (ust0534 c) r (away (each refH hs) r (ust0534 c) k (n .1))))) (h .1),
 )
 
 -- ---- the segments of a message, four more
@@ -119,7 +119,7 @@ module _ (r : List ℕ) (f : ℕ) (σ : Service) (t : List ℕ) (u : Leaf) (hs :
       let hr : Snoc (List ℕ) = each refH hs in
       let tr : Snoc (List ℕ) = each refT ts in
       let eh : each refH (front (newHeader r f) hs) ≡ front r hr = each-front refH (newHeader r f) hs ∙ ap (λ (x : List ℕ). front x (each refH hs)) (ref-header r f) in
-      let w : holds (refsAs (front r hr) (tr ▷ r) (same (second n) (reference u))) = (
+      let w : holds (refsAs (front r hr) (tr ▷ r) (same (unt0062 n) (unh0062 u))) = (
         (
           distinct-front r hr (k .0 .0) (q .new),
           (
@@ -129,9 +129,9 @@ module _ (r : List ℕ) (f : ℕ) (σ : Service) (t : List ℕ) (u : Leaf) (hs :
         ),
         (k .1 .0, every-front (one (tr ▷ r)) r hr (last-among tr) (longer r tr hr (k .1 .1))),
       ) in
-      subst (λ (s : List ℕ). holds (refsAs (each refH (front (newHeader r f) hs)) (each refT ts ▷ refT (newTrailer σ r t)) (same s (reference u)))) (sym (grown-second n))
-      (subst (λ (x : List ℕ). holds (refsAs (each refH (front (newHeader r f) hs)) (each refT ts ▷ x) (same (second n) (reference u)))) (sym (ref-trailer σ r t))
-      (subst (λ (x : Snoc (List ℕ)). holds (refsAs x (each refT ts ▷ r) (same (second n) (reference u)))) (sym eh) w))
+      subst (λ (s : List ℕ). holds (refsAs (each refH (front (newHeader r f) hs)) (each refT ts ▷ refT (newTrailer σ r t)) (same s (unh0062 u)))) (sym (grown-unt0062 n))
+      (subst (λ (x : List ℕ). holds (refsAs (each refH (front (newHeader r f) hs)) (each refT ts ▷ x) (same (unt0062 n) (unh0062 u)))) (sym (ref-trailer σ r t))
+      (subst (λ (x : Snoc (List ℕ)). holds (refsAs x (each refT ts ▷ r) (same (unt0062 n) (unh0062 u)))) (sym eh) w))
     where
       last-among : (s : Snoc (List ℕ)) → T (among (s ▷ r) r)
       last-among s = subst (λ (c : Bool). T (c || among s r)) (sym (same-self r)) tt

@@ -13,7 +13,7 @@ use Rattle.syntax.specs.Service.{serves}
 use Rattle.syntax.specs.Tree.{octetIn, contentIn}
 use Rattle.syntax.specs.Tree as syntax
 use Rattle.syntax.specs.declared.Service.{Service}
-use Rattle.grammar.specs.Segments.{number, second}
+use Rattle.grammar.specs.Segments.{number, unt0062}
 use Rattle.grammar.specs.Interchange.{Leaf}
 use Rattle.grammar.specs.Rules.{refH, refT}
 use Rattle.writing.specs.Decimal.{digitsBefore, decimalOf}
@@ -74,6 +74,6 @@ decimal-six n h = digits-few 5 19 n [] h
 pub grown-number : (n : Leaf) → number n 1 + 4 < 1000000 → number (grown n) 1 ≡ number n 1 + 4
 grown-number n h = ap (valueFrom 0) (plains-content (decimalOf (number n 1 + 4))) ∙ decimal-value (number n 1 + 4) (omega (arith, h))
 
-pub grown-second : (n : Leaf) → second (grown n) ≡ second n
-grown-second [] = refl
-grown-second (e ∷ n) = refl
+pub grown-0062 : (n : Leaf) → unt0062 (grown n) ≡ unt0062 n
+grown-0062 [] = refl
+grown-0062 (e ∷ n) = refl

@@ -4,7 +4,7 @@ use mathlib.Core.Bool.{cond}
 use mathlib.Core.List.{List}
 use mathlib.Core.Option.{Option, none, some}
 use Rattle.syntax.specs.Octets.{octets, same}
-use Rattle.grammar.specs.Segments.{text, reference}
+use Rattle.grammar.specs.Segments.{unb0020, usx0020}
 use Rattle.grammar.specs.Interchange.{message}
 use Rattle.grammar.specs.Valid.{Interchange, interchange, openingIn}
 use Rattle.grammar.specs.Verdict.{Verdict, accepted, refusedWith, verdictOf}
@@ -17,7 +17,7 @@ use Rattle.ranges.specs.Ranges.{Run, run, headerIn}
 
 -- a USX's 0020
 abbrev pub usxReference : Tie → List ℕ
-usxReference (tie x y) = reference x
+usxReference (tie x y) = usx0020 x
 
 -- "the 0020 of the first USX under which a USY names the header"
 abbrev pub referenceAt : Placed → List ℕ → Option (List ℕ)
@@ -33,7 +33,7 @@ runOf (span a e) = run a e
 -- if .. the lent interchange has another 0020, it holds no message or an AUTACK lies inside it."
 abbrev pub runIn : Interchange → List ℕ → Option Run
 runIn (interchange n u ms z) r =
-    cond (same (text u 5 0) r) (then (spanAt (serviceIn (interchange n u ms z)) (openingIn n .at) u ms) (λ x. some (runOf x))) none
+    cond (same (unb0020 u) r) (then (spanAt (serviceIn (interchange n u ms z)) (openingIn n .at) u ms) (λ x. some (runOf x))) none
 
 -- "Calls give 1 to 12 first (F01: the AUTACK's interchange, then the other)": a is the AUTACK's, s the other
 abbrev pub f01By : Verdict → List ℕ → List ℕ → List ℕ → Answered Run

@@ -23,7 +23,7 @@ use Rattle.syntax.specs.declared.opening.Start.{Start}
 use Rattle.syntax.specs.declared.opening.Begun.{Begun}
 use Rattle.syntax.specs.declared.opening.Begun.the-variants.{Ready as Begins, Refused as Refuses}
 use Rattle.grammar.specs.Lists.{Snoc, nil, _▷_, joined, list}
-use Rattle.grammar.specs.Segments.{Unb, Unz, Usx, seg, text, reference, Asked}
+use Rattle.grammar.specs.Segments.{Unb, Unz, Usx, seg, text, Asked, usx0020}
 use Rattle.grammar.specs.Interchange.{Leaf, Header, Message, done, idle, shown, showHeader, showMessage, showBody}
 use Rattle.grammar.specs.Valid.{Interchange, interchange, openingIn}
 use Rattle.grammar.specs.Verdict.{Verdict, accepted, verdictOf, verdictBy, unaAt, read}
@@ -116,8 +116,8 @@ module _ {s m : List ℕ} {y : Syntax} {c : Layout} {rows : List ℕ} (h : Holds
     pub refers-linked : {z : Places} (w : Reference) → l ≡ LinkedAt z → referredIn s w ≡ some (nameAt (y .service) s (z .usx) 1) → Refers s m r w
     refers-linked {z} w q f =
         let t = tie-there z (body-tied h r) (sym q ∙ k (list (showBody (bodyIn (h .o)))) (body-row h r)) in
-        let u : nameAt (y .service) s (z .usx) 1 ≡ reference (t .x) = ap (λ (v : Asked). v .text 1 0) (stand-asked (y .service) s (z .usx) (h .fits) (seg Usx (t .x)) (t .usx)) in
-        refers-some s m r (reference (t .x)) (h .i) w (h .read) (by-link ∙ ap (λ (o : Option Tie). then o (λ t. some (usxReference t))) (t .tied)) (f ∙ ap some u)
+        let u : nameAt (y .service) s (z .usx) 1 ≡ usx0020 (t .x) = ap (λ (v : Asked). v .text 1 0) (stand-asked (y .service) s (z .usx) (h .fits) (seg Usx (t .x)) (t .usx)) in
+        refers-some s m r (usx0020 (t .x)) (h .i) w (h .read) (by-link ∙ ap (λ (o : Option Tie). then o (λ t. some (usxReference t))) (t .tied)) (f ∙ ap some u)
 
 pub refers-missing : (s m r : List ℕ) → (i : Interchange) × ((verdictOf s ≡ accepted i) × (messageIn i m ≡ none)) → Refers s m r Missing
 refers-missing s m r k = (k .0, (k .1 .0, ap (λ (o : Option Placed). then o (λ p. referenceAt p r)) (k .1 .1)))

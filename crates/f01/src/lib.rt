@@ -32,7 +32,7 @@ use spans::span::span;
 use syntax::Refusal;
 use syntax::Syntax;
 use syntax::content::part;
-use syntax::content::same_content;
+use syntax::content::same_reference;
 use syntax::opening::Begun;
 use syntax::reading::Span;
 use syntax::reading::component_part;
@@ -117,7 +117,7 @@ fn is_referred(s: &[u8], from: usize, t: &[u8; 256], y: Syntax, autack: &[u8], r
         Reference::At(x) => {
             let v = y.service;
             let own = component_part(s, from, t, y, 5, 0);
-            same_content(own, v.release, part(autack, x.start, x.end), x.release)
+            same_reference(own, v.release, part(autack, x.start, x.end), x.release)
         }
         Reference::Missing => false,
         Reference::Refused(_) => false,

@@ -6,7 +6,7 @@ use mathlib.Core.List.{List}
 use mathlib.Core.Option.{none, some}
 use lib.Seq.{slice}
 use Rattle.syntax.specs.Octets.{same}
-use Rattle.syntax.specs.Content.{content}
+use Rattle.syntax.specs.Content.{content, compared}
 use Rattle.syntax.specs.declared.Service.{Service}
 use Rattle.syntax.specs.declared.Syntax.{Syntax}
 use Rattle.grammar.specs.Lists.{Snoc}
@@ -22,7 +22,7 @@ use Rattle.finding.specs.declared.Found.the-variants.{Message as Here, M
 -- the section closed a message with this 0062
 abbrev pub namedBy : ℕ → List ℕ → Bool → Layout → List ℕ → Bool
 namedBy ρ s false c r = false
-namedBy ρ s true c r = same (content ρ (slice (c .reference .start) (c .reference .end) s)) r
+namedBy ρ s true c r = same (compared (content ρ (slice (c .reference .start) (c .reference .end) s))) r
 
 -- of what was read, in the octets s from p on: the message with the 0062 r, where it stands and its layout; or none
 abbrev pub SeeksBy : Found → Service → List ℕ → ℕ → Reading → List ℕ → List ℕ → Type 0

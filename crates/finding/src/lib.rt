@@ -3,13 +3,14 @@ ghost use mathlib.Core.Path.{_≡_};
 ghost use Prim.Native.Nat.{_≤_};
 ghost use lib.Dec.{T};
 ghost use lib.ListN.{length};
+ghost use Rattle.syntax.specs.Content.{compared};
 ghost use Rattle.syntax.specs.Service.{fit};
 ghost use Rattle.syntax.specs.Repertoire.{Table};
 ghost use Rattle.walk.specs.RunLaws.{Fresh};
 ghost use Rattle.finding.specs.Finding.{namedBy, FoundIs};
 use syntax::Breach;
 use syntax::Syntax;
-use syntax::content::content_is;
+use syntax::content::reference_is;
 use syntax::content::part;
 use walk::sections::Layout;
 use walk::sections::Reached;
@@ -37,11 +38,11 @@ fn keep(rows: &mut [usize; 18], here: &[usize; 18])
 
 // Whether the section closed the message with this 0062.
 fn is_named(s: &[u8], release: u8, closed: bool, c: Layout, reference: &[u8]) -> bool
-    ensures { λ r. ⌜ r ≡ namedBy release (now (s .entry)) closed c (now (reference .entry)) ⌝ }
+    ensures { λ r. ⌜ r ≡ namedBy release (now (s .entry)) closed c (compared (now (reference .entry))) ⌝ }
 {
     if closed {
         let w = c.reference;
-        return content_is(part(s, w.start, w.end), release, reference);
+        return reference_is(part(s, w.start, w.end), release, reference);
     }
     false
 }
@@ -63,7 +64,7 @@ fn find_among(
     requires { ⌜ Table y (now t) ⌝ }
     requires { ⌜ Fresh y (now s) (now names) (now slots) ⌝ }
     requires { ⌜ (length (now marks) ≡ 40) × (length (now heads) ≡ 36) × (length (now here) ≡ 18) × (length (now rows) ≡ 18) ⌝ }
-    ensures { λ r. ⌜ FoundIs y (now (s .entry)) from (now (reference .entry)) r (now (rows .exit)) ⌝ }
+    ensures { λ r. ⌜ FoundIs y (now (s .entry)) from (compared (now (reference .entry))) r (now (rows .exit)) ⌝ }
 {
     let mut st = unread();
     let mut at = from;
@@ -98,7 +99,7 @@ fn find_small(
     requires { ⌜ Table y (now t) ⌝ }
     requires { ⌜ T (fit (y .service)) ⌝ }
     requires { ⌜ (length (now s) ≤ 2048) × (length (now rows) ≡ 18) ⌝ }
-    ensures { λ r. ⌜ FoundIs y (now (s .entry)) from (now (reference .entry)) r (now (rows .exit)) ⌝ }
+    ensures { λ r. ⌜ FoundIs y (now (s .entry)) from (compared (now (reference .entry))) r (now (rows .exit)) ⌝ }
 {
     let mut names = [0u64; 512];
     let mut slots = [0u16; 763];
@@ -131,7 +132,7 @@ fn find_large(
     requires { ⌜ Table y (now t) ⌝ }
     requires { ⌜ T (fit (y .service)) ⌝ }
     requires { ⌜ (length (now s) ≤ 65535) × (length (now rows) ≡ 18) ⌝ }
-    ensures { λ r. ⌜ FoundIs y (now (s .entry)) from (now (reference .entry)) r (now (rows .exit)) ⌝ }
+    ensures { λ r. ⌜ FoundIs y (now (s .entry)) from (compared (now (reference .entry))) r (now (rows .exit)) ⌝ }
 {
     let mut names = [0u64; 16384];
     let mut slots = [0u16; 20405];
@@ -165,7 +166,7 @@ pub fn find(
     requires { ⌜ Table y (now t) ⌝ }
     requires { ⌜ T (fit (y .service)) ⌝ }
     requires { ⌜ (length (now s) ≤ 65535) × (length (now rows) ≡ 18) ⌝ }
-    ensures { λ r. ⌜ FoundIs y (now (s .entry)) from (now (reference .entry)) r (now (rows .exit)) ⌝ }
+    ensures { λ r. ⌜ FoundIs y (now (s .entry)) from (compared (now (reference .entry))) r (now (rows .exit)) ⌝ }
 {
     if s.len() <= 2048 {
         return find_small(s, from, t, y, reference, rows);

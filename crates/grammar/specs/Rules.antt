@@ -11,7 +11,7 @@ use Rattle.syntax.specs.Opening.{isThere}
 use Rattle.syntax.specs.Tree.{Segment, printS}
 use Rattle.syntax.specs.declared.Syntax.{Syntax}
 use Rattle.grammar.specs.Lists.{Snoc, nil, _▷_, each, joined, size, any, among, sum, Rule, always, test, _and_, every, few, distinct}
-use Rattle.grammar.specs.Segments.{Kind, Named, Reserved, Free, kindOf, asked, text, number, reference, second}
+use Rattle.grammar.specs.Segments.{Kind, Named, Reserved, Free, kindOf, asked, unb0020, unh0062, unh0065, unt0074, unt0062, unz0036, unz0020, ush0534, ush0541, ust0534, ust0588, usy0534}
 use Rattle.grammar.specs.Interchange.{Leaf, Certificate, certificate, Header, header, Trailer, trailer, Link, link, Body, plain, ack, Open, msg, Message, message, Reading, start, idle, busy, done, showHeader, showTrailer, showMessage, shown}
 use Rattle.grammar.specs.Elements.{formed}
 use Rattle.grammar.specs.Loads.{loads, controls, loadRight}
@@ -28,7 +28,7 @@ inside y x = every (insideS y) (shown x)
 
 -- "A message of type AUTACK": 0065 has exactly that content
 abbrev pub autack : Leaf → Bool
-autack h = same (second h) (octets "AUTACK")
+autack h = same (unh0065 h) (octets "AUTACK")
 
 -- "0 to 3 USA", "0 to 2 times (USC, ..)"
 abbrev pub okCertificate : Certificate → Rule
@@ -94,20 +94,20 @@ wellFormed y x = every (formedS y) (shown x)
 -- ---- 9: "reference differs, repeats or is unpaired"
 
 abbrev pub refH : Header → List ℕ
-refH (header c us cs) = second c
+refH (header c us cs) = ush0534 c
 
 abbrev pub refT : Trailer → List ℕ
-refT (trailer c r) = reference c
+refT (trailer c r) = ust0534 c
 
 abbrev pub refO : Open → List ℕ
-refO (msg h hs b ts) = reference h
+refO (msg h hs b ts) = unh0062 h
 
 abbrev pub refM : Message → List ℕ
 refM (message o t) = refO o
 
 -- what the USYs name
 abbrev pub refsL : Link → Snoc (List ℕ)
-refsL (link c ys) = each reference ys
+refsL (link c ys) = each usy0534 ys
 
 abbrev pub linked : Body → Snoc (List ℕ)
 linked (plain b) = nil
@@ -125,14 +125,14 @@ refsOpen (msg h hs b ts) =
 -- "At UNT: 9 for 0062 or a header without trailer"
 abbrev pub refsMessage : Message → Rule
 refsMessage (message (msg h hs b ts) t) =
-    refsOpen (msg h hs b ts) and test (same (second t) (reference h)) and every (one (each refT ts)) (each refH hs)
+    refsOpen (msg h hs b ts) and test (same (unt0062 t) (unh0062 h)) and every (one (each refT ts)) (each refH hs)
 
 -- "0062 is used once in an interchange"; UNZ's 0020 is UNB's
 abbrev pub refs : Reading → Rule
 refs start = always
 refs (idle u ms) = distinct (each refM ms) and every refsMessage ms
 refs (busy u ms o) = distinct (each refM ms ▷ refO o) and every refsMessage ms and refsOpen o
-refs (done u ms z) = distinct (each refM ms) and every refsMessage ms and test (same (second z) (text u 5 0))
+refs (done u ms z) = distinct (each refM ms) and every refsMessage ms and test (same (unz0020 z) (unb0020 u))
 
 -- ---- 10: "count or control total differs"
 
@@ -148,19 +148,19 @@ sizeAt r (hs ▷ h) = cond (same (refH h) r) (size (showHeader h)) (sizeAt r hs)
 
 -- "0588 counts the segments of its header and trailer pair together."
 abbrev pub counted : Snoc Header → Trailer → Rule
-counted hs (trailer c r) = test (eqb (number c 2) (sizeAt (reference c) hs + size (showTrailer (trailer c r))))
+counted hs (trailer c r) = test (eqb (ust0588 c) (sizeAt (ust0534 c) hs + size (showTrailer (trailer c r))))
 
 -- "0074 counts UNH to UNT, both included."
 abbrev pub countsMessage : Message → Rule
 countsMessage (message (msg h hs b ts) t) =
-    test (eqb (number t 1) (size (showMessage (message (msg h hs b ts) t)))) and every (counted hs) ts and total b
+    test (eqb (unt0074 t) (size (showMessage (message (msg h hs b ts) t)))) and every (counted hs) ts and total b
 
 -- "0036 counts the messages."
 abbrev pub counts : Reading → Rule
 counts start = always
 counts (idle u ms) = every countsMessage ms
 counts (busy u ms o) = every countsMessage ms
-counts (done u ms z) = every countsMessage ms and test (eqb (number z 1) (size ms))
+counts (done u ms z) = every countsMessage ms and test (eqb (unz0036 z) (size ms))
 
 -- ---- 11: "0541 is 1 or 2; in AUTACK it is F01 and nothing else."
 
@@ -170,7 +170,7 @@ scopeCode true s = same s (octets "F01")
 scopeCode false s = same s (octets "1") || same s (octets "2")
 
 abbrev pub scopeRight : Bool → Header → Rule
-scopeRight a (header c us cs) = test (scopeCode a (text c 3 0))
+scopeRight a (header c us cs) = test (scopeCode a (ush0541 c))
 
 abbrev pub scopesOpen : Open → Rule
 scopesOpen (msg h hs b ts) = every (scopeRight (autack h)) hs

@@ -5,7 +5,7 @@ use mathlib.Core.List.{List, [], _∷_}
 use mathlib.Core.Option.{Option, none, some}
 use lib.ListN.{length, getElem?}
 use Rattle.syntax.specs.Octets.{octets, same}
-use Rattle.syntax.specs.Content.{valueFrom}
+use Rattle.syntax.specs.Content.{compared, valueFrom}
 use Rattle.syntax.specs.Tree.{Element, Segment, segment, componentOf, contentOf, countOf, repeatsOf, anyRepeatsIn}
 
 -- the segments that have a place of their own
@@ -80,12 +80,77 @@ text es p c = contentOf (componentOf (elementAt es p) c)
 abbrev pub number : List Element → ℕ → ℕ
 number es p = valueFrom 0 (text es p 0)
 
--- a message's reference and type, a header's and a trailer's reference: by position
-abbrev pub reference : List Element → List ℕ
-reference es = text es 1 0
+-- ---- elements by their numbers. A reference, 0020, 0062 or 0534, is given as it is compared; as it is written, for what is printed, it ends in `Text`
 
-abbrev pub second : List Element → List ℕ
-second es = text es 2 0
+-- UNB
+abbrev pub unb0001 : List Element → List ℕ
+unb0001 es = text es 1 0
+
+abbrev pub unb0002 : List Element → List ℕ
+unb0002 es = text es 1 1
+
+abbrev pub unb0020Text : List Element → List ℕ
+unb0020Text es = text es 5 0
+
+abbrev pub unb0020 : List Element → List ℕ
+unb0020 es = compared (unb0020Text es)
+
+-- UNH
+abbrev pub unh0062Text : List Element → List ℕ
+unh0062Text es = text es 1 0
+
+abbrev pub unh0062 : List Element → List ℕ
+unh0062 es = compared (unh0062Text es)
+
+abbrev pub unh0065 : List Element → List ℕ
+unh0065 es = text es 2 0
+
+-- UNT
+abbrev pub unt0074 : List Element → ℕ
+unt0074 es = number es 1
+
+abbrev pub unt0062 : List Element → List ℕ
+unt0062 es = compared (text es 2 0)
+
+-- UNZ
+abbrev pub unz0036 : List Element → ℕ
+unz0036 es = number es 1
+
+abbrev pub unz0020 : List Element → List ℕ
+unz0020 es = compared (text es 2 0)
+
+-- USH
+abbrev pub ush0534Text : List Element → List ℕ
+ush0534Text es = text es 2 0
+
+abbrev pub ush0534 : List Element → List ℕ
+ush0534 es = compared (ush0534Text es)
+
+abbrev pub ush0541 : List Element → List ℕ
+ush0541 es = text es 3 0
+
+abbrev pub ush0505 : List Element → List ℕ
+ush0505 es = text es 5 0
+
+-- UST
+abbrev pub ust0534 : List Element → List ℕ
+ust0534 es = compared (text es 1 0)
+
+abbrev pub ust0588 : List Element → ℕ
+ust0588 es = number es 2
+
+-- USR, USX, USY
+abbrev pub usr0560 : List Element → List ℕ
+usr0560 es = text es 1 1
+
+abbrev pub usx0020 : List Element → List ℕ
+usx0020 es = compared (text es 1 0)
+
+abbrev pub usy0534 : List Element → List ℕ
+usy0534 es = compared (text es 1 0)
+
+abbrev pub usy0560 : List Element → List ℕ
+usy0560 es = text es 2 1
 
 -- ---- all that the rules on single segments ask of a segment: its tag, how many elements it has, and of the element at a position the content of a
 -- component, how many components there are, and whether it repeats; and whether anything repeats

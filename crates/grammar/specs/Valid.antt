@@ -18,7 +18,7 @@ use Rattle.syntax.specs.declared.opening.Start.{Start}
 use Rattle.syntax.specs.declared.opening.Begun.{Begun}
 use Rattle.syntax.specs.declared.opening.Begun.the-variants.{Ready, Refused}
 use Rattle.grammar.specs.Lists.{Snoc, list, holds}
-use Rattle.grammar.specs.Segments.{text}
+use Rattle.grammar.specs.Segments.{unb0001, unb0002}
 use Rattle.grammar.specs.Interchange.{Leaf, Message, Reading, done, shown}
 use Rattle.grammar.specs.Rules.{inside, order, wellFormed, refs, counts, scopes, amounts}
 
@@ -43,7 +43,7 @@ openingIn none = record { service = standard; una = false; at = 0 }
 openingIn (some (una σ m)) = record { service = σ; una = true; at = 9 }
 
 abbrev pub begunIn : Interchange → Begun
-begunIn (interchange n u ms z) = bothNamed (openingIn n) (levelNamed (text u 1 0)) (versionNamed (text u 1 1))
+begunIn (interchange n u ms z) = bothNamed (openingIn n) (levelNamed (unb0001 u)) (versionNamed (unb0002 u))
 
 abbrev pub readied : Begun → Option Syntax
 readied (Ready x) = some (x .syntax)

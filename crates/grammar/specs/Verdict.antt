@@ -4,6 +4,7 @@ use mathlib.Core.Bool.{Bool, true, false, cond, not}
 use mathlib.Core.List.{List, [], _∷_}
 use mathlib.Core.Option.{Option, none, some}
 use lib.ListN.{length, getD, drop}
+use Rattle.syntax.specs.Content.{compared}
 use Rattle.syntax.specs.Octets.{same}
 use Rattle.syntax.specs.Cutting.{firstOutside}
 use Rattle.syntax.specs.Opening.{startsUna, unaService, isThere, begunOf}
@@ -144,7 +145,7 @@ totalsBy (refusedWith f) r = refusedTotals f
 totalsBy (accepted (interchange n u ms z)) r = totalsIn ms r
 
 abbrev pub totalsOf : List ℕ → List ℕ → Totals
-totalsOf s r = totalsBy (verdictOf s) r
+totalsOf s r = totalsBy (verdictOf s) (compared r)
 
 -- ---- the paper's number and place for each case, 0 where there is none
 

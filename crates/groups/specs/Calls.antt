@@ -6,6 +6,7 @@ use mathlib.Core.List.{List}
 use mathlib.Core.Option.{Option, none, some}
 use lib.Dec.{T}
 use lib.ListN.{length}
+use Rattle.syntax.specs.Content.{compared}
 use Rattle.syntax.specs.Refusals.{atZero}
 use Rattle.syntax.specs.Octets.{same}
 use Rattle.syntax.specs.Service.{fit}
@@ -51,7 +52,7 @@ abbrev pub serviceIn : Interchange → Service
 serviceIn t = inForce (syntaxIn t)
 
 abbrev pub messageIn : Interchange → List ℕ → Option Placed
-messageIn (interchange n u ms z) m = placedIn (serviceIn (interchange n u ms z)) (openingIn n .at) u ms m
+messageIn (interchange n u ms z) m = placedIn (serviceIn (interchange n u ms z)) (openingIn n .at) u ms (compared m)
 
 -- ---- the message that is named, in the octets s and in their reading
 

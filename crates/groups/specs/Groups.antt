@@ -6,7 +6,7 @@ use mathlib.Core.Option.{Option, none, some}
 use mathlib.Core.Path.{_≡_}
 use lib.ListN.{getD}
 use Rattle.syntax.specs.Octets.{same}
-use Rattle.syntax.specs.Content.{content}
+use Rattle.syntax.specs.Content.{content, compared}
 use Rattle.syntax.specs.Segment.{componentAt, partOf}
 use Rattle.syntax.specs.Tree.{Segment}
 use Rattle.syntax.specs.declared.Service.{Service}
@@ -35,11 +35,15 @@ chosenBy name (xs ▷ a) r = cond (same (name a) r) (some (chosen xs a)) (chosen
 abbrev pub nameAt : Service → List ℕ → ℕ → ℕ → List ℕ
 nameAt σ s a e = content (σ .release) (partOf s (componentAt σ s a e 0))
 
+-- the same of a reference, as it is compared
+abbrev pub refNameAt : Service → List ℕ → ℕ → ℕ → List ℕ
+refNameAt σ s a e = compared (nameAt σ s a e)
+
 -- of n groups, whose starts are in the rows from f on, and of which the last ends at `end`: the one whose first segment has the reference r
 abbrev pub soughtIn : Service → List ℕ → List ℕ → ℕ → ℕ → List ℕ → ℕ → ℕ → Sought
 soughtIn σ s rows f e r zero end = Nowhere
 soughtIn σ s rows f e r (suc n) end =
-    cond (same (nameAt σ s (getD rows (f + n) 0) e) r) (At (record { start = getD rows (f + n) 0; end = end })) (soughtIn σ s rows f e r n (getD rows (f + n) 0))
+    cond (same (refNameAt σ s (getD rows (f + n) 0) e) r) (At (record { start = getD rows (f + n) 0; end = end })) (soughtIn σ s rows f e r n (getD rows (f + n) 0))
 
 abbrev pub headersAs : Layout → Groups
 headersAs c = record { first = 0; count = c .headers; end = c .body; element = 2 }

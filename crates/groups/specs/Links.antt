@@ -5,11 +5,12 @@ use mathlib.Core.List.{List, [], _∷_}
 use mathlib.Core.Option.{Option, none, some}
 use lib.ListN.{length}
 use lib.Seq.{slice}
+use Rattle.syntax.specs.Content.{compared}
 use Rattle.syntax.specs.Octets.{octets, same}
 use Rattle.syntax.specs.Tree.{Segment, printS}
 use Rattle.syntax.specs.declared.Service.{Service}
 use Rattle.grammar.specs.Lists.{Snoc, nil, _▷_}
-use Rattle.grammar.specs.Segments.{tagText, elementsOf, reference}
+use Rattle.grammar.specs.Segments.{tagText, elementsOf, usy0534}
 use Rattle.grammar.specs.Interchange.{Leaf, Link, link, Body, plain, ack}
 use Rattle.message.specs.Summary.{orElse}
 use Rattle.groups.specs.declared.links.Places.{Places}
@@ -25,7 +26,7 @@ pub data Tie : Type 0 where
 -- the first USY, of those under one USX, that names the header r
 abbrev pub firstUsy : Leaf → Snoc Leaf → List ℕ → Option Tie
 firstUsy x nil r = none
-firstUsy x (ys ▷ y) r = orElse (firstUsy x ys r) (cond (same (reference y) r) (some (tie x y)) none)
+firstUsy x (ys ▷ y) r = orElse (firstUsy x ys r) (cond (same (usy0534 y) r) (some (tie x y)) none)
 
 abbrev pub firstLink : Snoc Link → List ℕ → Option Tie
 firstLink nil r = none
@@ -34,7 +35,7 @@ firstLink (ls ▷ link x ys) r = orElse (firstLink ls r) (firstUsy x ys r)
 -- only the body of an AUTACK has any
 abbrev pub tieIn : Body → List ℕ → Option Tie
 tieIn (plain b) r = none
-tieIn (ack c ls) r = firstLink ls r
+tieIn (ack c ls) r = firstLink ls (compared r)
 
 -- ---- along the segments of the body
 
@@ -46,7 +47,7 @@ abbrev pub isTagged : Segment → List ℕ → Bool
 isTagged g t = same (tagText g) t
 
 abbrev pub isUsyOf : Segment → List ℕ → Bool
-isUsyOf g r = isTagged g (octets "USY") && same (reference (elementsOf g)) r
+isUsyOf g r = isTagged g (octets "USY") && same (usy0534 (elementsOf g)) r
 
 -- the segments gs stand from p on; x is the place of the last USX before them
 abbrev pub linkFrom : Service → ℕ → ℕ → List Segment → List ℕ → Linked

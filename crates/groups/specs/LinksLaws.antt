@@ -20,7 +20,7 @@ use Rattle.syntax.specs.declared.Service.{Service}
 use Rattle.syntax.specs.declared.Found.{Found}
 use Rattle.syntax.specs.declared.Found.the-variants.{At as EndsAt, Nothing}
 use Rattle.grammar.specs.Lists.{Snoc, nil, _▷_, _+++_, each, joined, list, holds, every}
-use Rattle.grammar.specs.Segments.{Usb, Usx, Usy, seg, tags, kindIn, kindOf, tagText, elementsOf, reference, asked, Asked}
+use Rattle.grammar.specs.Segments.{Usb, Usx, Usy, seg, tags, kindIn, kindOf, tagText, elementsOf, asked, Asked, usy0534}
 use Rattle.grammar.specs.Rules.{isFree, okItem, okBody}
 use Rattle.grammar.specs.PlacingLaws.{same-eq}
 use Rattle.grammar.specs.Interchange.{Leaf, Header, Link, link, Body, plain, ack, showLink, showBody}
@@ -89,9 +89,9 @@ module _ {σ : Service} {s r : List ℕ} {body tail : ℕ} where
         by (g ∷ hs) v e =
             let a = row-asked σ s at fits g hs v in
             let t : (l : List ℕ) → isTagged g l ≡ taggedAt s at l = λ l. ap (λ (u : Asked). same (u .tag) l) (sym a) in
-            let n : same (reference (elementsOf g)) r ≡ same (nameAt σ s at 1) r = ap (λ (u : Asked). same (u .text 1 0) r) (sym a) in
+            let n : same (usy0534 (elementsOf g)) r ≡ same (nameAt σ s at 1) r = ap (λ (u : Asked). same (u .text 1 0) r) (sym a) in
             let j : cond (isTagged g (octets "USX")) at x ≡ z = ap (λ (c : Bool). cond c at x) (t (octets "USX")) ∙ sym usx in
-            let u : isUsyOf g r ≡ b = ap (λ (c : Bool). c && same (reference (elementsOf g)) r) (t (octets "USY")) ∙ ap (λ (c : Bool). taggedAt s at (octets "USY") && c) n ∙ sym usy in
+            let u : isUsyOf g r ≡ b = ap (λ (c : Bool). c && same (usy0534 (elementsOf g)) r) (t (octets "USY")) ∙ ap (λ (c : Bool). taggedAt s at (octets "USY") && c) n ∙ sym usy in
             record {
               g = g;
               hs = hs;
@@ -209,7 +209,7 @@ module _ (σ : Service) (r : List ℕ) where
         (sym (from-append p a (list (each (seg Usy) ys)) (seg Usy y ∷ [])
         ∙ ap (λ (i : ℕ). orLink (linkFrom σ p a (list (each (seg Usy) ys)) r) (linkFrom σ i (lastFrom p a (list (each (seg Usy) ys))) (seg Usy y ∷ []) r)) q
         ∙ ap (λ (i : ℕ). orLink (linkFrom σ p a (list (each (seg Usy) ys)) r) (linkFrom σ (p + wide σ (each (seg Usy) ys)) i (seg Usy y ∷ []) r)) (last-usys p a ys)))
-        (tie-or (usys-tied a x w p ys f) (by (same (reference y) r) b))
+        (tie-or (usys-tied a x w p ys f) (by (same (usy0534 y) r) b))
       where
         by : (c : Bool) → Stand σ s (p + wide σ (each (seg Usy) ys)) (nil ▷ seg Usy y)
             → TieAt σ s (cond c (some (tie x y)) none) (cond c (At (record { usx = a; usy = p + wide σ (each (seg Usy) ys) })) Nowhere)
@@ -258,7 +258,7 @@ free-none σ r p x nil w = refl
 free-none σ r p x (b ▷ g) w =
     from-append σ r p x (list b) (g ∷ []) ∙ ap (λ (k : Linked). orLink k (linkFrom σ (p + length (print σ (list b))) (lastFrom σ r p x (list b)) (g ∷ []) r)) (free-none σ r p x b (w .0))
     ∙ ap
-    (λ (c : Bool). cond (c && same (reference (elementsOf g)) r)
+    (λ (c : Bool). cond (c && same (usy0534 (elementsOf g)) r)
     (At (record { usx = cond (isTagged g (octets "USX")) (p + length (print σ (list b))) (lastFrom σ r p x (list b)); usy = p + length (print σ (list b)) })) Nowhere) (free-untagged g (w .1))
 
 -- the link of a body in order

@@ -2,9 +2,10 @@
 use Prim.Native.Nat.{ℕ, _+_}
 use mathlib.Core.List.{List}
 use mathlib.Core.Option.{Option}
+use Rattle.syntax.specs.Content.{compared}
 use Rattle.syntax.specs.declared.Service.{Service}
 use Rattle.grammar.specs.Lists.{joined}
-use Rattle.grammar.specs.Segments.{text}
+use Rattle.grammar.specs.Segments.{ush0541}
 use Rattle.grammar.specs.Interchange.{Header, header, Trailer, Body, Open, msg, showHeader, showTrailer}
 use Rattle.grammar.specs.Rules.{refH, refT}
 use Rattle.grammar.specs.Places.{wide}
@@ -13,15 +14,15 @@ use Rattle.groups.specs.Groups.{Chosen, chosen, chosenBy}
 
 -- "Calls name .. a header by its 0534, as content."
 abbrev pub headerNamed : Open → List ℕ → Option (Chosen Header)
-headerNamed (msg h hs b ts) r = chosenBy refH hs r
+headerNamed (msg h hs b ts) r = chosenBy refH hs (compared r)
 
 -- the associated trailer
 abbrev pub trailerNamed : Open → List ℕ → Option (Chosen Trailer)
-trailerNamed (msg h hs b ts) r = chosenBy refT ts r
+trailerNamed (msg h hs b ts) r = chosenBy refT ts (compared r)
 
 -- a header's scope code, 0541
 abbrev pub scopeH : Header → List ℕ
-scopeH (header c us cs) = text c 3 0
+scopeH (header c us cs) = ush0541 c
 
 -- where a header group starts and ends, and where a trailer group starts, of a message whose UNH stands at q
 abbrev pub headerAt : Service → ℕ → Open → Chosen Header → ℕ

@@ -5,17 +5,19 @@ ghost use mathlib.Core.Bool.{cond, _&&_};
 ghost use Prim.Native.Nat.{_<_};
 ghost use lib.Dec.{T};
 ghost use lib.ListN.{length};
+ghost use Rattle.syntax.specs.Content.{compared};
 ghost use Rattle.syntax.specs.Octets.{octets, same};
 ghost use Rattle.syntax.specs.Service.{fit};
 ghost use Rattle.syntax.specs.Repertoire.{Table};
 ghost use Rattle.syntax.specs.Tree.{Segment};
 ghost use Rattle.groups.specs.Stand.{Row};
-ghost use Rattle.groups.specs.Groups.{nameAt};
+ghost use Rattle.groups.specs.Groups.{refNameAt};
 ghost use Rattle.groups.specs.Links.{taggedAt, linkFrom};
 use syntax::Found;
 use syntax::Syntax;
 use syntax::content::content_is;
 use syntax::content::part;
+use syntax::content::reference_is;
 use syntax::cutting::stop;
 use syntax::reading::component_part;
 
@@ -53,11 +55,11 @@ fn last_usx(s: &[u8], at: usize, usx: usize) -> usize
 fn names_header(s: &[u8], at: usize, t: &[u8; 256], y: Syntax, reference: &[u8]) -> bool
     requires { ⌜ Table y (now t) ⌝ }
     requires { ⌜ at < length (now s) ⌝ }
-    ensures { λ r. ⌜ r ≡ (taggedAt (now (s .entry)) at (octets "USY") && same (nameAt (y .service) (now (s .entry)) at 1) (now (reference .entry))) ⌝ }
+    ensures { λ r. ⌜ r ≡ (taggedAt (now (s .entry)) at (octets "USY") && same (refNameAt (y .service) (now (s .entry)) at 1) (compared (now (reference .entry)))) ⌝ }
 {
     if is_tagged(s, at, b"USY") {
         let v = y.service;
-        return content_is(component_part(s, at, t, y, 1, 0), v.release, reference);
+        return reference_is(component_part(s, at, t, y, 1, 0), v.release, reference);
     }
     false
 }
@@ -73,7 +75,7 @@ pub fn link_named(
 ) -> Linked
     requires { ⌜ Table y (now t) ⌝ }
     requires { ⌜ T (fit (y .service)) ⌝ }
-    ensures { λ r. ⌜ ((gs : List Segment) → Row (y .service) (now (s .entry)) body gs tail → r ≡ linkFrom (y .service) body body gs (now (reference .entry))) ⌝ }
+    ensures { λ r. ⌜ ((gs : List Segment) → Row (y .service) (now (s .entry)) body gs tail → r ≡ linkFrom (y .service) body body gs (compared (now (reference .entry)))) ⌝ }
 {
     let mut usx = body;
     let mut at = body;

@@ -2,11 +2,11 @@
 ghost use mathlib.Core.Path.{_≡_};
 ghost use Prim.Native.Nat.{_+_, _≤_};
 ghost use lib.ListN.{length};
-ghost use Rattle.syntax.specs.Content.{content};
+ghost use Rattle.syntax.specs.Content.{compared, content};
 ghost use Rattle.syntax.specs.Repertoire.{Table};
 ghost use Rattle.groups.specs.Groups.{headersAs, trailersAs, soughtIn};
 use syntax::Syntax;
-use syntax::content::same_content;
+use syntax::content::same_reference;
 use syntax::reading::component_part;
 use walk::sections::Layout;
 
@@ -66,7 +66,7 @@ pub fn group_like(
 ) -> Sought
     requires { ⌜ Table y (now t) ⌝ }
     requires { ⌜ (g .first + g .count ≤ 18) × (length (now rows) ≡ 18) ⌝ }
-    ensures { λ r. ⌜ r ≡ soughtIn (y .service) (now (s .entry)) (now (rows .entry)) (g .first) (g .element) (content release (now (x .entry))) (g .count) (g .end) ⌝ }
+    ensures { λ r. ⌜ r ≡ soughtIn (y .service) (now (s .entry)) (now (rows .entry)) (g .first) (g .element) (compared (content release (now (x .entry)))) (g .count) (g .end) ⌝ }
 {
     let v = y.service;
     let first = g.first;
@@ -76,7 +76,7 @@ pub fn group_like(
     while 0 < i {
         let k = i - 1;
         let start = rows[first + k];
-        if same_content(
+        if same_reference(
             component_part(s, start, t, y, element, 0),
             v.release,
             x,
@@ -104,7 +104,7 @@ pub fn group_named(
 ) -> Sought
     requires { ⌜ Table y (now t) ⌝ }
     requires { ⌜ (g .first + g .count ≤ 18) × (length (now rows) ≡ 18) ⌝ }
-    ensures { λ r. ⌜ r ≡ soughtIn (y .service) (now (s .entry)) (now (rows .entry)) (g .first) (g .element) (now (reference .entry)) (g .count) (g .end) ⌝ }
+    ensures { λ r. ⌜ r ≡ soughtIn (y .service) (now (s .entry)) (now (rows .entry)) (g .first) (g .element) (compared (now (reference .entry))) (g .count) (g .end) ⌝ }
 {
     group_like(s, t, y, rows, g, reference, 32)
 }

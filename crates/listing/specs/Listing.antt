@@ -9,7 +9,7 @@ use lib.ListN.{length, drop}
 use Rattle.syntax.specs.Octets.{octets}
 use Rattle.syntax.specs.declared.Service.{Service}
 use Rattle.grammar.specs.Lists.{Snoc, nil, _▷_, size, sum}
-use Rattle.grammar.specs.Segments.{text, second}
+use Rattle.grammar.specs.Segments.{unb0020Text, unh0062Text, unh0065, ush0534Text, ush0541}
 use Rattle.grammar.specs.Interchange.{Leaf, Header, Trailer, Open, msg, Message, message, idle, shown, showHeader, showBody}
 use Rattle.grammar.specs.Rules.{refH, refO}
 use Rattle.grammar.specs.Valid.{interchange, openingIn}
@@ -25,9 +25,16 @@ use Rattle.lines.specs.Words.{refusalLine, acceptedLine, messageLine, sealLine}
 
 -- ---- the lines of a message whose UNH stands at q
 
+-- 0062 and 0534 as they are written
+abbrev pub writtenO : Open → List ℕ
+writtenO (msg h hs b ts) = unh0062Text h
+
+abbrev pub writtenH : Header → List ℕ
+writtenH (header c us cs) = ush0534Text c
+
 -- 0065
 abbrev pub typeO : Open → List ℕ
-typeO (msg h hs b ts) = second h
+typeO (msg h hs b ts) = unh0065 h
 
 -- the octets from the USH to before the UST of its trailer; in a message that is accepted every header has one
 abbrev pub toTrailer : Service → ℕ → Open → Chosen Header → Option (Chosen Trailer) → ℕ
@@ -36,7 +43,7 @@ toTrailer σ q o h (some t) = trailerAt σ q o t - headerAt σ q o h
 
 abbrev pub sealOf : Service → ℕ → Open → Snoc Header → Header → List ℕ
 sealOf σ q o hs h =
-    sealLine (refH h) (scopeH h) (wide σ (showHeader h) + wide σ (showBody (bodyIn o))) (toTrailer σ q o (chosen hs h) (trailerNamed o (refH h)))
+    sealLine (writtenH h) (scopeH h) (wide σ (showHeader h) + wide σ (showBody (bodyIn o))) (toTrailer σ q o (chosen hs h) (trailerNamed o (refH h)))
 
 -- "Seals follow their message in header order"
 abbrev pub sealsOf : Service → ℕ → Open → Snoc Header → List ℕ
@@ -45,7 +52,7 @@ sealsOf σ q o (hs ▷ h) = sealsOf σ q o hs ++ sealOf σ q o hs h
 
 abbrev pub messageOf : Service → ℕ → Message → List ℕ
 messageOf σ q (message o t) =
-    messageLine (refO o) (typeO o) (size (loadsM (message o t))) (sum (loadsM (message o t))) ++ sealsOf σ q o (headersIn o)
+    messageLine (writtenO o) (typeO o) (size (loadsM (message o t))) (sum (loadsM (message o t))) ++ sealsOf σ q o (headersIn o)
 
 -- ---- the text for the messages behind the UNB u, which stands at p
 
@@ -54,7 +61,7 @@ messagesOf σ p u nil = []
 messagesOf σ p u (ms ▷ m) = messagesOf σ p u ms ++ messageOf σ (p + wide σ (shown (idle u ms))) m
 
 abbrev pub acceptedOf : Service → ℕ → Leaf → Snoc Message → List ℕ
-acceptedOf σ p u ms = acceptedLine (text u 5 0) ++ messagesOf σ p u ms
+acceptedOf σ p u ms = acceptedLine (unb0020Text u) ++ messagesOf σ p u ms
 
 -- "A refusal prints only `refused 10 at 113`."
 abbrev pub listingBy : Verdict → List ℕ

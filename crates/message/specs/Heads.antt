@@ -7,7 +7,7 @@ use mathlib.Core.Option.{Option, none, some}
 use lib.Dec.{eqb}
 use lib.ListN.{length, getD}
 use lib.Seq.{slice}
-use Rattle.syntax.specs.Content.{content}
+use Rattle.syntax.specs.Content.{content, compared}
 use Rattle.grammar.specs.Lists.{Snoc, nil, _▷_}
 use Rattle.message.specs.Summary.{moreInLast, named}
 
@@ -18,7 +18,7 @@ upto (suc n) f = upto n f ▷ f n
 
 -- of header i: its 0534 in the octets s under the release ρ; its segments; whether a trailer has named it
 abbrev pub headRef : ℕ → List ℕ → List ℕ → ℕ → List ℕ
-headRef ρ s h i = content ρ (slice (getD h (4 * i) 0) (getD h (4 * i + 1) 0) s)
+headRef ρ s h i = compared (content ρ (slice (getD h (4 * i) 0) (getD h (4 * i + 1) 0) s))
 
 abbrev pub headSize : List ℕ → ℕ → ℕ
 headSize h i = getD h (4 * i + 2) 0
@@ -45,7 +45,7 @@ posOr n (some i) = i
 
 pub record Pushed (h h′ : List ℕ) (n a e : ℕ) : Type 0 where
   pub long : length h′ ≡ length h
-  pub refs : (ρ : ℕ) (s : List ℕ) → headRefs ρ s h′ (n + 1) ≡ headRefs ρ s h n ▷ content ρ (slice a e s)
+  pub refs : (ρ : ℕ) (s : List ℕ) → headRefs ρ s h′ (n + 1) ≡ headRefs ρ s h n ▷ compared (content ρ (slice a e s))
   pub sizes : headSizes h′ (n + 1) ≡ headSizes h n ▷ 1
   pub flags : headFlags h′ (n + 1) ≡ headFlags h n ▷ false
 

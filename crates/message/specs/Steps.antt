@@ -6,12 +6,12 @@ use mathlib.Core.List.{List, []}
 use mathlib.Core.Option.{Option, none, some}
 use lib.ListN.{getD}
 use lib.Seq.{slice}
-use Rattle.syntax.specs.Content.{content}
+use Rattle.syntax.specs.Content.{content, compared}
 use Rattle.grammar.specs.Lists.{among}
 use Rattle.grammar.specs.Segments.{Asked}
 use Rattle.grammar.specs.Rules.{scopeCode}
 use Rattle.grammar.specs.Loads.{loadIn, controlIn, loadRight}
-use Rattle.message.specs.Summary.{Summary, freeAt, pairsRight, moreInLast, usaGroup, uscGroup, grownBy, ownMore, ushNext, usrNext, ustNext, itemNext, usbNext, loaded, controlled}
+use Rattle.message.specs.Summary.{refIn, Summary, freeAt, pairsRight, moreInLast, usaGroup, uscGroup, grownBy, ownMore, ushNext, usrNext, ustNext, itemNext, usbNext, loaded, controlled}
 use Rattle.message.specs.Heads.{headRefs, headSizes, headFlags, posOr}
 use Rattle.elements.specs.Octets.{textAt}
 use Rattle.syntax.specs.declared.Service.{Service}
@@ -27,14 +27,14 @@ pub data AnswerM : Type 0 where
   badM : ℕ → AnswerM
 
 abbrev pub ushM : Summary → Asked → AnswerM
-ushM S a = cond (not (among (S .refs) (a .text 2 0))) (cond (scopeCode (S .m .autack) (a .text 3 0)) (toM (ushNext S a)) (badM 11)) (badM 9)
+ushM S a = cond (not (among (S .refs) (refIn a 2))) (cond (scopeCode (S .m .autack) (a .text 3 0)) (toM (ushNext S a)) (badM 11)) (badM 9)
 
 abbrev pub ustM : Summary → Asked → Option ℕ → AnswerM
 ustM S a none = badM 9
 ustM S a (some i) = toM (ustNext S a (some i))
 
 abbrev pub usyM : Summary → Asked → AnswerM
-usyM S a = cond (among (S .refs) (a .text 1 0)) (toM (grownBy S (Ack true true) (S .sizes))) (badM 9)
+usyM S a = cond (among (S .refs) (refIn a 1)) (toM (grownBy S (Ack true true) (S .sizes))) (badM 9)
 
 abbrev pub qtyM : Summary → Asked → AnswerM
 qtyM S a = cond (loadRight a) (toM (itemNext S (loaded (S .m .sums) (loadIn a)))) (badM 12)
@@ -49,7 +49,7 @@ stepM Ush S a = ushM S a
 stepM Usa S a = toM (grownBy S (usaGroup (S .m .group)) (moreInLast (S .sizes)))
 stepM Usc S a = toM (grownBy S (uscGroup (S .m .group)) (moreInLast (S .sizes)))
 stepM Usr S a = toM (usrNext S (S .m .group))
-stepM Ust S a = ustM S a (freeAt (a .text 1 0) (S .refs) (S .flags))
+stepM Ust S a = ustM S a (freeAt (refIn a 1) (S .refs) (S .flags))
 stepM Usb S a = toM (usbNext S)
 stepM Usx S a = toM (grownBy S (Ack true false) (S .sizes))
 stepM Usy S a = usyM S a
@@ -62,7 +62,7 @@ stepM Other S a = toM (itemNext S (S .m .sums))
 
 abbrev pub summaryIn : ℕ → List ℕ → Message → ℕ → ℕ → List ℕ → Summary
 summaryIn ρ s m a e h =
-    record { m = m; ref = content ρ (slice a e s); refs = headRefs ρ s h (m .headers); sizes = headSizes h (m .headers); flags = headFlags h (m .headers) }
+    record { m = m; ref = compared (content ρ (slice a e s)); refs = headRefs ρ s h (m .headers); sizes = headSizes h (m .headers); flags = headFlags h (m .headers) }
 
 -- one segment more: a header's USH, a trailer's UST, and the USR of the trailer group now open
 abbrev pub headed : Message → Message
@@ -92,7 +92,7 @@ pub record Roomy (m : Message) (h : List ℕ) : Type 0 where
 
 -- "Each UST names a header not yet named": of the UST at a, the first header of its reference that no trailer has named, or as many as there are headers
 pub record Sought (σ : Service) (s : List ℕ) (a : ℕ) (m : Message) (h : List ℕ) (i : ℕ) : Type 0 where
-  pub found : i ≡ posOr (m .headers) (freeAt (textAt σ s a 1 0) (headRefs (σ .release) s h (m .headers)) (headFlags h (m .headers)))
+  pub found : i ≡ posOr (m .headers) (freeAt (compared (textAt σ s a 1 0)) (headRefs (σ .release) s h (m .headers)) (headFlags h (m .headers)))
   pub most : i ≤ m .headers
 
 -- the answer of the code, with the headers' array as it is left

@@ -5,10 +5,10 @@ use mathlib.Core.List.{List, [], _∷_}
 use mathlib.Core.Option.{Option, none, some}
 use lib.Dec.{eqb, ltb}
 use Rattle.syntax.specs.Octets.{octets, same}
-use Rattle.syntax.specs.Content.{valueFrom}
+use Rattle.syntax.specs.Content.{valueFrom, compared}
 use Rattle.syntax.specs.declared.Syntax.{Syntax}
 use Rattle.grammar.specs.Lists.{Snoc, nil, _▷_, each, size, any, among, sum, test, check, every}
-use Rattle.grammar.specs.Segments.{Asked, text, number, reference}
+use Rattle.grammar.specs.Segments.{Asked, unb0020, unh0062, ust0534, ust0588}
 use Rattle.grammar.specs.Interchange.{Leaf, certificate, Header, header, Trailer, trailer, Link, link, Body, plain, ack, Open, msg, Reading, start, idle, busy, done, showHeader, showTrailer, showOpen}
 use Rattle.grammar.specs.Loads.{loads, controls, loadIn, controlIn, loadRight}
 use Rattle.grammar.specs.Elements.{formed}
@@ -72,7 +72,7 @@ noPair = record { right = true; claim = 0; base = 0; own = 0 }
 
 abbrev pub pairOf : Snoc Header → Snoc Trailer → Pair
 pairOf hs nil = noPair
-pairOf hs (ts ▷ trailer c r) = record { right = check (every (counted hs) ts); claim = number c 2; base = sizeAt (reference c) hs; own = size (showTrailer (trailer c r)) }
+pairOf hs (ts ▷ trailer c r) = record { right = check (every (counted hs) ts); claim = ust0588 c; base = sizeAt (ust0534 c) hs; own = size (showTrailer (trailer c r)) }
 
 -- ---- all of it: the code's struct; the message's 0062; of its headers 0534, the segments, and whether a trailer has named them
 
@@ -95,7 +95,7 @@ flagsOf names refs = each (among names) refs
 
 abbrev pub summaryOf : Open → Summary
 summaryOf (msg h hs b ts) =
-    record { m = keptOf (msg h hs b ts); ref = reference h; refs = each refH hs; sizes = each sizeH hs; flags = flagsOf (each refT ts) (each refH hs) }
+    record { m = keptOf (msg h hs b ts); ref = unh0062 h; refs = each refH hs; sizes = each sizeH hs; flags = flagsOf (each refT ts) (each refH hs) }
 
 -- nothing read; between messages, with UNB's 0020 and the 0062s so far; in a message; all read
 pub data StateS : Type 0 where
@@ -106,8 +106,8 @@ pub data StateS : Type 0 where
 
 abbrev pub stateOf : Reading → StateS
 stateOf start = startS
-stateOf (idle u ms) = idleS (text u 5 0) (each refM ms)
-stateOf (busy u ms o) = busyS (text u 5 0) (each refM ms) (summaryOf o)
+stateOf (idle u ms) = idleS (unb0020 u) (each refM ms)
+stateOf (busy u ms o) = busyS (unb0020 u) (each refM ms) (summaryOf o)
 stateOf (done u ms z) = doneS
 
 -- ---- 7, in a message: by group and kind. "Message: UNH, 0 to 9 header groups, body, one trailer group for each header, UNT."
@@ -287,12 +287,16 @@ abbrev pub allNamed : Snoc Bool → Bool
 allNamed nil = true
 allNamed (fs ▷ f) = allNamed fs && f
 
+-- the reference at position p
+abbrev pub refIn : Asked → ℕ → List ℕ
+refIn a p = compared (a .text p 0)
+
 abbrev pub refsK : StateS → Kind → Asked → Bool
 refsK startS k a = true
-refsK (idleS u rs) k a = atIdle (not (among rs (a .text 1 0))) (same (a .text 2 0) u) true k
+refsK (idleS u rs) k a = atIdle (not (among rs (refIn a 1))) (same (refIn a 2) u) true k
 refsK (busyS u rs S) k a =
-    atBusy (not (among (S .refs) (a .text 2 0))) (among (S .refs) (a .text 1 0)) (isFound (freeAt (a .text 1 0) (S .refs) (S .flags)))
-    (same (a .text 2 0) (S .ref) && allNamed (S .flags)) true k
+    atBusy (not (among (S .refs) (refIn a 2))) (among (S .refs) (refIn a 1)) (isFound (freeAt (refIn a 1) (S .refs) (S .flags)))
+    (same (refIn a 2) (S .ref) && allNamed (S .flags)) true k
 refsK doneS k a = true
 
 -- ---- 10
@@ -366,7 +370,7 @@ abbrev pub ushNext : Summary → Asked → Summary
 ushNext S a = record {
   m = record { group = InHeader 0; autack = S .m .autack; segments = suc (S .m .segments); headers = suc (S .m .headers); sums = S .m .sums; pair = S .m .pair };
   ref = S .ref;
-  refs = S .refs ▷ a .text 2 0;
+  refs = S .refs ▷ refIn a 2;
   sizes = S .sizes ▷ 1;
   flags = S .flags ▷ false;
 }
@@ -448,7 +452,7 @@ busyNext Ush u rs S a = busyS u rs (ushNext S a)
 busyNext Usa u rs S a = busyS u rs (grownBy S (usaGroup (S .m .group)) (moreInLast (S .sizes)))
 busyNext Usc u rs S a = busyS u rs (grownBy S (uscGroup (S .m .group)) (moreInLast (S .sizes)))
 busyNext Usr u rs S a = busyS u rs (usrNext S (S .m .group))
-busyNext Ust u rs S a = busyS u rs (ustNext S a (freeAt (a .text 1 0) (S .refs) (S .flags)))
+busyNext Ust u rs S a = busyS u rs (ustNext S a (freeAt (refIn a 1) (S .refs) (S .flags)))
 busyNext Usb u rs S a = busyS u rs (usbNext S)
 busyNext Usx u rs S a = busyS u rs (grownBy S (InAck true false) (S .sizes))
 busyNext Usy u rs S a = busyS u rs (grownBy S (InAck true true) (S .sizes))
@@ -461,14 +465,14 @@ busyNext Other u rs S a = busyS u rs (itemNext S (S .m .sums))
 abbrev pub opened : Asked → Summary
 opened a = record {
   m = record { group = Opened; autack = same (a .text 2 0) (octets "AUTACK"); segments = 1; headers = 0; sums = noSums; pair = noPair };
-  ref = a .text 1 0;
+  ref = refIn a 1;
   refs = nil;
   sizes = nil;
   flags = nil;
 }
 
 abbrev pub nextK : StateS → Kind → Asked → StateS
-nextK startS k a = idleS (a .text 5 0) nil
+nextK startS k a = idleS (refIn a 5) nil
 nextK (idleS u rs) k a = atIdle (busyS u rs (opened a)) doneS (idleS u rs) k
 nextK (busyS u rs S) k a = busyNext k u rs S a
 nextK doneS k a = doneS

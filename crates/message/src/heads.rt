@@ -1,13 +1,13 @@
 // The headers of the message now open, in a lent array: for header i, at 4 * i, start and end of its 0534, its segments, and 1 where a trailer has
 // named it.
 use syntax::content::part;
-use syntax::content::same_content;
+use syntax::content::same_reference;
 ghost use mathlib.Core.Path.{_≡_};
 ghost use mathlib.Core.Bool.{_&&_, not};
 ghost use Prim.Native.Nat.{_+_, _*_, _-_, _^_, _≤_, _<_};
 ghost use lib.ListN.{length, getD};
 ghost use Rattle.syntax.specs.Octets.{same};
-ghost use Rattle.syntax.specs.Content.{content};
+ghost use Rattle.syntax.specs.Content.{compared, content};
 ghost use Rattle.grammar.specs.Lists.{among};
 ghost use Rattle.message.specs.Summary.{allNamed};
 ghost use Rattle.message.specs.Heads.{headRef, headRefs, headFlag, headFlags, Pushed, GrownLast, Named};
@@ -15,13 +15,13 @@ ghost use Rattle.message.specs.Heads.{headRef, headRefs, headFlag, headF
 // Whether one of the first `n` headers has the content of `x`.
 pub fn header_named(s: &[u8], release: u8, heads: &[usize; 36], n: usize, x: &[u8]) -> bool
     requires { ⌜ n ≤ 9 ⌝ }
-    ensures { λ r. ⌜ r ≡ among (headRefs release (now (s .entry)) (now (heads .entry)) n) (content release (now (x .entry))) ⌝ }
+    ensures { λ r. ⌜ r ≡ among (headRefs release (now (s .entry)) (now (heads .entry)) n) (compared (content release (now (x .entry)))) ⌝ }
 {
     let mut i: usize = 0;
     while i < n {
         let a = heads[4 * i];
         let e = heads[4 * i + 1];
-        if same_content(part(s, a, e), release, x, release) {
+        if same_reference(part(s, a, e), release, x, release) {
             return true;
         }
         i += 1;
@@ -32,14 +32,14 @@ pub fn header_named(s: &[u8], release: u8, heads: &[usize; 36], n: usize, x: &[u
 // Whether no trailer has named header `i` yet, and its 0534 has the content of `x`.
 pub fn is_free(s: &[u8], release: u8, heads: &[usize; 36], i: usize, x: &[u8]) -> bool
     requires { ⌜ i < 9 ⌝ }
-    ensures { λ r. ⌜ r ≡ (same (headRef release (now (s .entry)) (now (heads .entry)) i) (content release (now (x .entry))) && not (headFlag (now (heads .entry)) i)) ⌝ }
+    ensures { λ r. ⌜ r ≡ (same (headRef release (now (s .entry)) (now (heads .entry)) i) (compared (content release (now (x .entry)))) && not (headFlag (now (heads .entry)) i)) ⌝ }
 {
     if heads[4 * i + 3] != 0 {
         return false;
     }
     let a = heads[4 * i];
     let e = heads[4 * i + 1];
-    same_content(part(s, a, e), release, x, release)
+    same_reference(part(s, a, e), release, x, release)
 }
 
 // Whether each is named.

@@ -25,6 +25,10 @@ contentFrom ρ f (b ∷ s) =
 abbrev pub content : ℕ → List ℕ → List ℕ
 content ρ s = contentFrom ρ false s
 
+-- "References are compared by content.": what a reference, of this content, is compared by, in a segment and where a call is given one
+abbrev pub compared : List ℕ → List ℕ
+compared r = r
+
 -- its first octet, and the place after that one; `i` is the place of the list's head
 abbrev pub released : List ℕ → ℕ → Next
 released [] i = Over

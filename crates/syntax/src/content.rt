@@ -5,7 +5,7 @@ ghost use Prim.Native.Nat.{_≤_, _<_};
 ghost use lib.ListN.{length, drop};
 ghost use lib.Seq.{slice};
 ghost use Rattle.syntax.specs.Octets.{same};
-ghost use Rattle.syntax.specs.Content.{content, nextOf, allDigits, numberIn};
+ghost use Rattle.syntax.specs.Content.{compared, content, nextOf, allDigits, numberIn};
 
 // The next octet of content, and the place after it.
 pub enum Next {
@@ -160,6 +160,20 @@ pub fn same_content(x: &[u8], release: u8, z: &[u8], other: u8) -> bool
         }
     }
     same_freed(x, release, z, other)
+}
+
+// The same of references.
+pub fn same_reference(x: &[u8], release: u8, z: &[u8], other: u8) -> bool
+    ensures { λ r. ⌜ r ≡ same (compared (content release (now (x .entry)))) (compared (content other (now (z .entry)))) ⌝ }
+{
+    same_content(x, release, z, other)
+}
+
+// .. where the other is given to a call, as content.
+pub fn reference_is(x: &[u8], release: u8, t: &[u8]) -> bool
+    ensures { λ r. ⌜ r ≡ same (compared (content release (now (x .entry)))) (compared (now (t .entry))) ⌝ }
+{
+    content_is(x, release, t)
 }
 
 pub fn all_digits(x: &[u8], release: u8) -> bool

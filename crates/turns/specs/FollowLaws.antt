@@ -12,7 +12,7 @@ use Rattle.syntax.specs.declared.Syntax.{Syntax}
 use Rattle.grammar.specs.Lists.{Snoc, nil, _▷_, each, size, any, among, test, _and_, holds, check, every}
 use Rattle.grammar.specs.ListsLaws.{each-size}
 use Rattle.grammar.specs.Segments as segments
-use Rattle.grammar.specs.Segments.{Name, Named, Free, Asked, asked, text, number, reference, second, elementsOf, tagText}
+use Rattle.grammar.specs.Segments.{Name, Named, Free, Asked, asked, elementsOf, tagText, unb0020, unh0062, unt0062, unz0020, ush0534, ust0534, usy0534, unt0074, unz0036}
 use Rattle.grammar.specs.Interchange.{Leaf, certificate, Header, header, Trailer, trailer, link, Body, plain, ack, Open, msg, Message, message, Reading, start, idle, busy, done, showOpen}
 use Rattle.grammar.specs.Loads.{loads, controls, loadIn, controlIn}
 use Rattle.grammar.specs.Rules.{insideS, order, formedS, refs, counts, scopes, amountS, autack, refH, refT, refM, isFree, okItem, whole, filled, one, counted, total, scopeRight}
@@ -57,7 +57,7 @@ module _ (y : Syntax) (u : Leaf) (ms : Snoc Message) (g : Segment) where
       (rw (heads h hs, each-size refH hs)
       (alike (order z) (test (ltb (size hs) 9))
       (λ p. p .1 .0) (λ p. (q .seven .0, (p, ((q .seven .1 .1 .0, (tt, (tt, tt))), q .seven .1 .1 .1))))))
-      (λ i. alike (refs z) (test (not (among (each refH hs) (second (elementsOf g)))))
+      (λ i. alike (refs z) (test (not (among (each refH hs) (ush0534 (elementsOf g)))))
       (λ p. p .1 .1 .0 .1) (λ p. (q .nine .0, (q .nine .1 .0, ((q .nine .1 .1 .0, p), q .nine .1 .1 .1)))))
       (λ i j. holds-check (counts z) (q .ten))
       (λ i. alike (scopes z) (scopeRight (autack h) (header (elementsOf g) nil nil)) (λ p. p .1 .1) (λ p. (q .eleven .0, (q .eleven .1, p))))
@@ -150,24 +150,24 @@ module _ (y : Syntax) (u : Leaf) (ms : Snoc Message) (g : Segment) where
   ends h hs b (ts ▷ trailer t r) q = holds-check (whole (autack h) b) (q .seven .1 .1 .1 .1)
 
   -- what the search for the header that a UST names finds
-  ust-found : (hs : Snoc Header) (names : Snoc (List ℕ)) (o : Option ℕ) → Spot (reference (elementsOf g)) hs names o
-      → (not (among names (reference (elementsOf g))) && among (each refH hs) (reference (elementsOf g))) ≡ isFound o
+  ust-found : (hs : Snoc Header) (names : Snoc (List ℕ)) (o : Option ℕ) → Spot (ust0534 (elementsOf g)) hs names o
+      → (not (among names (ust0534 (elementsOf g))) && among (each refH hs) (ust0534 (elementsOf g))) ≡ isFound o
   ust-found hs names o (no k) = k
   ust-found hs names o (yes i k l s f) = k
 
-  ust-next : (h : Leaf) (hs : Snoc Header) (b : Body) (ts : Snoc Trailer) (o : Option ℕ) → Spot (reference (elementsOf g)) hs (each refT ts) o
+  ust-next : (h : Leaf) (hs : Snoc Header) (b : Body) (ts : Snoc Trailer) (o : Option ℕ) → Spot (ust0534 (elementsOf g)) hs (each refT ts) o
       → isFound o ≡ true
-      → stateOf (busy u ms (msg h hs b (ts ▷ trailer (elementsOf g) none))) ≡ busyS (text u 5 0) (each refM ms) (ustNext (summaryOf (msg h hs b ts)) (asked g) o)
+      → stateOf (busy u ms (msg h hs b (ts ▷ trailer (elementsOf g) none))) ≡ busyS (unb0020 u) (each refM ms) (ustNext (summaryOf (msg h hs b ts)) (asked g) o)
   ust-next h hs b ts o (no k) e = absurd (false≢true e)
   ust-next h hs b ts o (yes i k l s f) e = rw (pairs-right hs ts, s, f)
 
   ust-refs : (h : Leaf) (hs : Snoc Header) (b : Body) (ts : Snoc Trailer) → Good y (busy u ms (msg h hs b ts))
-      → check (refs (busy u ms (msg h hs b (ts ▷ trailer (elementsOf g) none)))) ≡ isFound (freeAt (reference (elementsOf g)) (each refH hs) (flagsOf (each refT ts) (each refH hs)))
+      → check (refs (busy u ms (msg h hs b (ts ▷ trailer (elementsOf g) none)))) ≡ isFound (freeAt (ust0534 (elementsOf g)) (each refH hs) (flagsOf (each refT ts) (each refH hs)))
   ust-refs h hs b ts q =
-      alike (refs (busy u ms (msg h hs b (ts ▷ trailer (elementsOf g) none)))) (test (not (among (each refT ts) (reference (elementsOf g)))) and test (among (each refH hs) (reference (elementsOf g))))
+      alike (refs (busy u ms (msg h hs b (ts ▷ trailer (elementsOf g) none)))) (test (not (among (each refT ts) (ust0534 (elementsOf g)))) and test (among (each refH hs) (ust0534 (elementsOf g))))
       (λ p. (p .1 .1 .1 .1 .0 .1, p .1 .1 .1 .1 .1 .1))
       (λ p. (q .nine .0, (q .nine .1 .0, (q .nine .1 .1 .0, (q .nine .1 .1 .1 .0, ((q .nine .1 .1 .1 .1 .0, p .0), (q .nine .1 .1 .1 .1 .1, p .1)))))))
-      ∙ ust-found hs (each refT ts) _ (spot (reference (elementsOf g)) hs (each refT ts) (q .nine .1 .1 .0))
+      ∙ ust-found hs (each refT ts) _ (spot (ust0534 (elementsOf g)) hs (each refT ts) (q .nine .1 .1 .0))
 
   ust : (o : Open) → Good y (busy u ms o) → Follow (busy u ms o) Ust (asked g) (growNamed segments.Ust (elementsOf g) (busy u ms o))
   ust (msg h hs b ts) q =
@@ -179,7 +179,7 @@ module _ (y : Syntax) (u : Leaf) (ms : Snoc Message) (g : Segment) where
       (λ i. ust-refs h hs b ts q)
       (λ i j. holds-check (counts z) (q .ten))
       (λ i. holds-check (scopes z) (q .eleven))
-      (λ i j. ust-next h hs b ts _ (spot (reference (elementsOf g)) hs (each refT ts) (q .nine .1 .1 .0)) (sym (ust-refs h hs b ts q) ∙ holds-check (refs z) j))
+      (λ i j. ust-next h hs b ts _ (spot (ust0534 (elementsOf g)) hs (each refT ts) (q .nine .1 .1 .0)) (sym (ust-refs h hs b ts q) ∙ holds-check (refs z) j))
 
   usb : (o : Open) → Good y (busy u ms o) → Follow (busy u ms o) Usb (asked g) (growNamed segments.Usb (elementsOf g) (busy u ms o))
   usb (msg h hs (plain nil) nil) q =
@@ -231,7 +231,7 @@ module _ (y : Syntax) (u : Leaf) (ms : Snoc Message) (g : Segment) where
       let z : Reading = busy u ms (msg h hs (ack d (ls ▷ link e (ys ▷ elementsOf g))) nil) in
       here z
       (holds-check (order z) (q .seven))
-      (λ i. alike (refs z) (test (among (each refH hs) (reference (elementsOf g))))
+      (λ i. alike (refs z) (test (among (each refH hs) (usy0534 (elementsOf g))))
       (λ p. p .1 .1 .1 .0 .1) (λ p. (q .nine .0, (q .nine .1 .0, (q .nine .1 .1 .0, ((q .nine .1 .1 .1 .0, p), q .nine .1 .1 .1 .1))))))
       (λ i j. holds-check (counts z) (q .ten))
       (λ i. holds-check (scopes z) (q .eleven))
@@ -243,11 +243,11 @@ module _ (y : Syntax) (u : Leaf) (ms : Snoc Message) (g : Segment) where
       let z : Reading = idle u (ms ▷ message (msg h hs b ts) (elementsOf g)) in
       here z
       (alike (order z) (whole (autack h) b) (λ p. p .1 .1) (λ p. (q .seven .0, (q .seven .1, p))) ∙ ends h hs b ts q)
-      (λ i. alike (refs z) (test (same (second (elementsOf g)) (reference h)) and every (one (each refT ts)) (each refH hs))
+      (λ i. alike (refs z) (test (same (unt0062 (elementsOf g)) (unh0062 h)) and every (one (each refT ts)) (each refH hs))
       (λ p. p .1 .1 .1) (λ p. (q .nine .0, (q .nine .1 .0, (q .nine .1 .1, p))))
-      ∙ ap (λ (n : Bool). same (second (elementsOf g)) (reference h) && n) (all-named (each refT ts) (each refH hs)))
+      ∙ ap (λ (n : Bool). same (unt0062 (elementsOf g)) (unh0062 h) && n) (all-named (each refT ts) (each refH hs)))
       (λ i j. rw (← pairs-right hs ts, ← totals b)
-      (alike (counts z) (test (eqb (number (elementsOf g) 1) (suc (size (showOpen (msg h hs b ts))))) and every (counted hs) ts and total b)
+      (alike (counts z) (test (eqb (unt0074 (elementsOf g)) (suc (size (showOpen (msg h hs b ts))))) and every (counted hs) ts and total b)
       (λ p. p .1) (λ p. (q .ten, p))))
       (λ i. holds-check (scopes z) (q .eleven))
       (λ i j. refl)
@@ -259,7 +259,7 @@ module _ (y : Syntax) (u : Leaf) (ms : Snoc Message) (g : Segment) where
       let z : Reading = busy u ms (msg (elementsOf g) nil (plain nil) nil) in
       here z
       (holds-check (order z) (q .seven, (tt, (tt, (tt, tt)))))
-      (λ i. alike (refs z) (test (not (among (each refM ms) (reference (elementsOf g)))))
+      (λ i. alike (refs z) (test (not (among (each refM ms) (unh0062 (elementsOf g)))))
       (λ p. p .0 .1) (λ p. ((q .nine .0, p), (q .nine .1, (tt, (tt, (tt, tt)))))))
       (λ i j. holds-check (counts z) (q .ten))
       (λ i. holds-check (scopes z) (q .eleven, tt))
@@ -270,8 +270,8 @@ module _ (y : Syntax) (u : Leaf) (ms : Snoc Message) (g : Segment) where
       let z : Reading = done u ms (elementsOf g) in
       here z
       (rw (any-each refM ms) (alike (order z) (test (any ms)) (λ p. p .1) (λ p. (q .seven, p))))
-      (λ i. alike (refs z) (test (same (second (elementsOf g)) (text u 5 0))) (λ p. p .1 .1) (λ p. (q .nine .0, (q .nine .1, p))))
-      (λ i j. rw (each-size refM ms) (alike (counts z) (test (eqb (number (elementsOf g) 1) (size ms))) (λ p. p .1) (λ p. (q .ten, p))))
+      (λ i. alike (refs z) (test (same (unz0020 (elementsOf g)) (unb0020 u))) (λ p. p .1 .1) (λ p. (q .nine .0, (q .nine .1, p))))
+      (λ i j. rw (each-size refM ms) (alike (counts z) (test (eqb (unz0036 (elementsOf g)) (size ms))) (λ p. p .1) (λ p. (q .ten, p))))
       (λ i. holds-check (scopes z) (q .eleven))
       (λ i j. refl)
 
@@ -285,8 +285,8 @@ module _ (y : Syntax) (u : Leaf) (ms : Snoc Message) (g : Segment) where
       (λ p. p .1 .1 .1 .0 .0) (λ p. (q .seven .0, (q .seven .1 .0, (q .seven .1 .1 .0, ((p, (e, f)), tt)))))
 
   item-next : (h : Leaf) (hs : Snoc Header) (b : Snoc Segment) (s : Sums) → sumsOf (plain (b ▷ g)) ≡ s
-      → stateOf (busy u ms (msg h hs (plain (b ▷ g)) nil)) ≡ busyS (text u 5 0) (each refM ms) (itemNext (summaryOf (msg h hs (plain b) nil)) s)
-  item-next h hs b s e = ap (λ (t : Sums). busyS (text u 5 0) (each refM ms) (itemNext (summaryOf (msg h hs (plain b) nil)) t)) e
+      → stateOf (busy u ms (msg h hs (plain (b ▷ g)) nil)) ≡ busyS (unb0020 u) (each refM ms) (itemNext (summaryOf (msg h hs (plain b) nil)) s)
+  item-next h hs b s e = ap (λ (t : Sums). busyS (unb0020 u) (each refM ms) (itemNext (summaryOf (msg h hs (plain b) nil)) t)) e
 
   qty-sums : controlIn (asked g) ≡ none → (b : Snoc Segment) → sumsOf (plain (b ▷ g)) ≡ loaded (sumsOf (plain b)) (loadIn (asked g))
   qty-sums l b = rw l (load-sums (loads b) (controls b) (loadIn (asked g)))

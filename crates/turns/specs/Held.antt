@@ -6,7 +6,7 @@ use mathlib.Core.List.{List, [], _∷_}
 use lib.ListN.{length, drop}
 use lib.Seq.{slice}
 use Rattle.syntax.specs.Octets.{same}
-use Rattle.syntax.specs.Content.{content}
+use Rattle.syntax.specs.Content.{content, compared}
 use Rattle.syntax.specs.Cutting.{cutAt, tagOf}
 use Rattle.syntax.specs.declared.Service.{Service}
 use Rattle.syntax.specs.declared.Syntax.{Syntax}
@@ -82,7 +82,7 @@ phased Done u rs S = doneS
 -- under the release ρ, in the octets s, with the headers' array h and the references l
 abbrev pub stateIn : ℕ → List ℕ → State → List ℕ → List ℕ → StateS
 stateIn ρ s x h l =
-    phased (x .phase) (content ρ (slice (x .unb .start) (x .unb .end) s)) (refsIn l (x .count))
+    phased (x .phase) (compared (content ρ (slice (x .unb .start) (x .unb .end) s))) (refsIn l (x .count))
     (summaryIn ρ s (x .message) (x .unh .start) (x .unh .end) h)
 
 -- where the element at position p stands, by the marks
@@ -91,7 +91,7 @@ stretchIn m p = record { start = startIn m p 0; end = endIn m p 0 }
 
 -- "References are compared by content": the second element of UNT or UNZ at p, and the 0062 or 0020 that was kept
 abbrev pub repeatedRef : Service → List ℕ → ℕ → Stretch → Bool
-repeatedRef σ s p w = same (textAt σ s p 2 0) (content (σ .release) (slice (w .start) (w .end) s))
+repeatedRef σ s p w = same (compared (textAt σ s p 2 0)) (compared (content (σ .release) (slice (w .start) (w .end) s)))
 
 -- after UNB, whose 0020 stands at u: between messages, none so far
 abbrev pub afterUnb : State → Stretch → State
@@ -122,7 +122,7 @@ pub record Held (ρ : ℕ) (s : List ℕ) (x : State) (h l b : List ℕ) (i : �
   pub long : length h ≡ 36
   pub taken : 8 * x .count + 4 * openSize (x .phase) (x .message) ≤ i
   pub offered : x .phase ≡ Busy → 2 * x .count + 2 ≤ length l
-      → (refAt l (x .count) ≡ content ρ (slice (x .unh .start) (x .unh .end) s)) × Offered l b (x .count) (x .slot)
+      → (refAt l (x .count) ≡ compared (content ρ (slice (x .unh .start) (x .unh .end) s))) × Offered l b (x .count) (x .slot)
 
 -- ---- a step, of a segment that is whole and inside the repertoire: 7 to 12, then the state after it
 

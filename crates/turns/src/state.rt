@@ -59,7 +59,7 @@ use syntax::Breach;
 use syntax::Syntax;
 use syntax::content::content_is;
 use syntax::content::part;
-use syntax::content::same_content;
+use syntax::content::same_reference;
 use syntax::cutting::Cut;
 use syntax::cutting::Tag;
 use syntax::cutting::scan;
@@ -233,7 +233,7 @@ fn is_repeated(s: &[u8], at: usize, y: Syntax, marks: &[usize], w: Stretch) -> b
 {
     let v = y.service;
     let x = field(s, at, y, marks, 2, 0);
-    same_content(x, v.release, part(s, w.start, w.end), v.release)
+    same_reference(x, v.release, part(s, w.start, w.end), v.release)
 }
 
 // After UNB: between messages, none so far.

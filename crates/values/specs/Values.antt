@@ -4,7 +4,7 @@ use mathlib.Core.Bool.{cond}
 use mathlib.Core.List.{List, []}
 use mathlib.Core.Option.{Option, none, some}
 use Rattle.syntax.specs.Refusals.{atZero}
-use Rattle.grammar.specs.Segments.{text}
+use Rattle.grammar.specs.Segments.{ush0505, usr0560, usy0560}
 use Rattle.grammar.specs.Interchange.{Leaf, Header, header, Trailer, trailer, Body, Open, message}
 use Rattle.grammar.specs.Verdict.{verdictOf}
 use Rattle.grammar.specs.Named.{Placed, placed}
@@ -18,14 +18,14 @@ use Rattle.groups.specs.Calls.{Answered, given, refusedAs, answeredBy, then, me
 
 -- a header's filter, 0505
 abbrev pub filterH : Header → List ℕ
-filterH (header c us cs) = text c 5 0
+filterH (header c us cs) = ush0505 c
 
 -- ---- the text of the value. None is empty: "An empty or absent value is refused."
 
 -- 0560 of the USR after a UST
 abbrev pub usrText : Option Leaf → List ℕ
 usrText none = []
-usrText (some u) = text u 1 1
+usrText (some u) = usr0560 u
 
 abbrev pub behind : Option (Chosen Trailer) → List ℕ
 behind none = []
@@ -37,7 +37,7 @@ trailerText o r = behind (trailerNamed o r)
 -- 0560 of the first USY that names the header
 abbrev pub usyText : Option Tie → List ℕ
 usyText none = []
-usyText (some (tie x y)) = text y 2 1
+usyText (some (tie x y)) = usy0560 y
 
 abbrev pub linkText : Body → List ℕ → List ℕ
 linkText b r = usyText (tieIn b r)

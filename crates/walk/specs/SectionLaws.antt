@@ -20,7 +20,7 @@ use Rattle.syntax.specs.declared.Breach.{Breach}
 use Rattle.grammar.specs.Lists.{Snoc, nil, _▷_, _+++_, size, sum, joined}
 use Rattle.grammar.specs.ListsLaws.{each-size}
 use Rattle.grammar.specs.Segments as segments
-use Rattle.grammar.specs.Segments.{Named, Free, kindIn, tags, seg, elementsOf, reference}
+use Rattle.grammar.specs.Segments.{Named, Free, kindIn, tags, seg, elementsOf}
 use Rattle.grammar.specs.Interchange.{Leaf, Body, plain, ack, Open, msg, Message, message, Reading, start, idle, busy, done, showHeader, showBody, showTrailer, showOpen, showMessage, shown}
 use Rattle.grammar.specs.Rules.{refH, refO}
 use Rattle.grammar.specs.Placing.{place}

@@ -8,7 +8,7 @@ use lib.ListN.{length}
 use lib.Seq.{slice}
 use Rattle.syntax.specs.Octets.{octets, same}
 use Rattle.syntax.specs.Service.{fit}
-use Rattle.syntax.specs.Content.{content}
+use Rattle.syntax.specs.Content.{content, compared}
 use Rattle.syntax.specs.Tree.{printS}
 use Rattle.syntax.specs.declared.Service.{Service}
 use Rattle.syntax.specs.declared.Syntax.{Syntax}
@@ -88,7 +88,7 @@ pub record Laid (σ : Service) (s : List ℕ) (p : ℕ) (o : Open) (t : Leaf) (c
   pub autack : c .autack ≡ autackO o
   pub loads : c .loads ≡ size (loadsM (message o t))
   pub grams : c .grams ≡ sum (loadsM (message o t))
-  pub reference : content (σ .release) (slice (c .reference .start) (c .reference .end) s) ≡ refO o
+  pub reference : compared (content (σ .release) (slice (c .reference .start) (c .reference .end) s)) ≡ refO o
 
 -- ---- inside a message
 

@@ -13,7 +13,7 @@ use Rattle.syntax.specs.Tree.{Octet, plain, freed, Ne, ne, Component, Element}
 use Rattle.syntax.specs.declared.Service.{Service}
 use Rattle.syntax.specs.declared.Syntax.{Syntax}
 use Rattle.grammar.specs.Lists.{Snoc, nil, _▷_, _+++_, each, size, among, list}
-use Rattle.grammar.specs.Segments.{number}
+use Rattle.grammar.specs.Segments.{unt0074}
 use Rattle.grammar.specs.Interchange.{Leaf, Header, header, Trailer, trailer, Open, msg, Message, message, showHeader, showBody}
 use Rattle.grammar.specs.Rules.{autack, refH, refM}
 use Rattle.grammar.specs.Valid.{Interchange, interchange, print}
@@ -70,7 +70,7 @@ newTrailer σ r t = trailer (ustLeaf r) (some (usrLeaf σ t))
 -- ---- "0074 grows by 4, without leading zeros": it is UNT's first element, and everything else of UNT stays
 
 abbrev pub grown : Leaf → Leaf
-grown n = single (decimalOf (number n 1 + 4)) ∷ drop 1 n
+grown n = single (decimalOf (unt0074 n + 4)) ∷ drop 1 n
 
 -- ---- the sealed interchange
 

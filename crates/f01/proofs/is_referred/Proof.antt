@@ -10,7 +10,7 @@ use Rattle.f01.proofs.is_referred.Tie as tie
 use Rattle.f01.proofs.is_referred.Reads as reads
 use Rattle.f01.proofs.is_referred.Lts as lts
 use Rattle.syntax.proofs.content.part.Reads as part-reads
-use Rattle.syntax.proofs.content.same_content.Reads as same-content-reads
+use Rattle.syntax.proofs.content.same_reference.Reads as same-reference-reads
 use Rattle.syntax.proofs.reading.component_part.Reads as component-part-reads
 
 -- src/lib.rt:116:23
@@ -26,8 +26,8 @@ part-requires : tie.Need-part-requires
 part-requires c κs = search needs
 
 -- src/lib.rt:119:13
-same-content-requires : tie.Need-same-content-requires
-same-content-requires c κs = search needs
+same-reference-requires : tie.Need-same-reference-requires
+same-reference-requires c κs = search needs
 
 -- src/lib.rt:121:31
 enum-told : tie.Need-enum-told
@@ -39,7 +39,7 @@ enum-told-2 c = search needs
 
 -- src/lib.rt:111:1
 returns : tie.Need-returns
-returns c = referred-at (c .before .before .before .before .before .before .before .before .before .args .autack .now) _ (now (c .before .before .component-part .result)) (now (c .before .part .result)) (c .before .before .before .before .before .before .before .before .before .args .y .service .release) (c .before .before .before .before .before .r .given .1) (ap (content (c .before .before .before .before .before .before .before .before .before .args .y .service .release)) (c .before .before .component-part .ensures)) (c .before .part .ensures) (c .same-content .ensures)
+returns c = referred-at (c .before .before .before .before .before .before .before .before .before .args .autack .now) _ (now (c .before .before .component-part .result)) (now (c .before .part .result)) (c .before .before .before .before .before .before .before .before .before .args .y .service .release) (c .before .before .before .before .before .r .given .1) (ap (content (c .before .before .before .before .before .before .before .before .before .args .y .service .release)) (c .before .before .component-part .ensures)) (c .before .part .ensures) (c .same-reference .ensures)
 
 -- src/lib.rt:111:1
 returns-2 : tie.Need-returns-2
@@ -56,7 +56,7 @@ is-referred-spec =
     enum-known-r
     component-part-requires
     part-requires
-    same-content-requires
+    same-reference-requires
     enum-told
     enum-told-2
     returns

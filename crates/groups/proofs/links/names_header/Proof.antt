@@ -5,7 +5,7 @@ use Rattle.groups.proofs.links.names_header.Tie as tie
 use Rattle.groups.proofs.links.names_header.Reads as reads
 use Rattle.groups.proofs.links.names_header.Lts as lts
 use Rattle.groups.proofs.links.is_tagged.Reads as is-tagged-reads
-use Rattle.syntax.proofs.content.content_is.Reads as content-is-reads
+use Rattle.syntax.proofs.content.reference_is.Reads as reference-is-reads
 use Rattle.syntax.proofs.reading.component_part.Reads as component-part-reads
 
 -- src/links.rt:58:25
@@ -21,12 +21,12 @@ component-part-requires : tie.Need-component-part-requires
 component-part-requires c κs = search needs
 
 -- src/links.rt:60:9
-content-is-requires : tie.Need-content-is-requires
-content-is-requires c κs = search needs
+reference-is-requires : tie.Need-reference-is-requires
+reference-is-requires c κs = search needs
 
 -- src/links.rt:60:9
 returns : tie.Need-returns
-returns c = usy-here (c .before .before .before .before .before .before .before .before .args .s .now) (c .before .before .before .before .before .before .before .before .args .at) _ (c .before .before .before .before .is-tagged .ensures) (c .before .before .before .if1 .taken) (name-is (c .before .before .before .before .before .before .before .before .args .y .service) (c .before .before .before .before .before .before .before .before .args .s .now) (c .before .before .before .before .before .before .before .before .args .at) 1 (c .before .before .before .before .before .before .before .before .args .reference .now) (c .before .component-part .ensures) (c .content-is .ensures))
+returns c = usy-here (c .before .before .before .before .before .before .before .before .args .s .now) (c .before .before .before .before .before .before .before .before .args .at) _ (c .before .before .before .before .is-tagged .ensures) (c .before .before .before .if1 .taken) (name-is (c .before .before .before .before .before .before .before .before .args .y .service) (c .before .before .before .before .before .before .before .before .args .s .now) (c .before .before .before .before .before .before .before .before .args .at) 1 (c .before .before .before .before .before .before .before .before .args .reference .now) (c .before .component-part .ensures) (c .reference-is .ensures))
 
 -- src/links.rt:53:1
 returns-2 : tie.Need-returns-2
@@ -39,6 +39,6 @@ names-header-spec =
     slice-aggregate-is-tagged
     is-tagged-requires
     component-part-requires
-    content-is-requires
+    reference-is-requires
     returns
     returns-2)

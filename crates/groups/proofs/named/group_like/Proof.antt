@@ -10,7 +10,7 @@ use Rattle.groups.proofs.named.group_like.Statement.{statement}
 use Rattle.groups.proofs.named.group_like.Tie as tie
 use Rattle.groups.proofs.named.group_like.Reads as reads
 use Rattle.groups.proofs.named.group_like.Lts as lts
-use Rattle.syntax.proofs.content.same_content.Reads as same-content-reads
+use Rattle.syntax.proofs.content.same_reference.Reads as same-reference-reads
 use Rattle.syntax.proofs.reading.component_part.Reads as component-part-reads
 
 abbrev Inv-loop : tie.InvT-loop
@@ -37,17 +37,17 @@ element-copy-out-start c = search needs
 component-part-requires : tie.Need-component-part-requires Inv-loop μ-loop
 component-part-requires c κs = search needs
 
-same-content-requires : tie.Need-same-content-requires Inv-loop μ-loop
-same-content-requires c κs = search needs
+same-reference-requires : tie.Need-same-reference-requires Inv-loop μ-loop
+same-reference-requires c κs = search needs
 
 returns : tie.Need-returns Inv-loop μ-loop
-returns c = seeking-hit _ _ (c .before .before .before .before .before .loop .inv) (c .before .before .before .before .loop-test .taken) refl refl (sym (name-is (c .before .before .before .before .before .before .before .before .before .args .y .service) (c .before .before .before .before .before .before .before .before .before .args .s .now) (getD (c .before .before .before .before .before .before .before .before .before .args .rows .now) (c .before .before .before .before .before .before .before .before .before .args .g .first + (c .before .before .before .before .before .loop .i - 1)) 0) (c .before .before .before .before .before .before .before .before .before .args .g .element) (content (c .before .before .before .before .before .before .before .before .before .args .release) (c .before .before .before .before .before .before .before .before .before .args .x .now)) (c .before .before .component-part .ensures) (c .before .same-content .ensures)) ∙ c .if1 .taken)
+returns c = seeking-hit _ _ (c .before .before .before .before .before .loop .inv) (c .before .before .before .before .loop-test .taken) refl refl (sym (name-is (c .before .before .before .before .before .before .before .before .before .args .y .service) (c .before .before .before .before .before .before .before .before .before .args .s .now) (getD (c .before .before .before .before .before .before .before .before .before .args .rows .now) (c .before .before .before .before .before .before .before .before .before .args .g .first + (c .before .before .before .before .before .loop .i - 1)) 0) (c .before .before .before .before .before .before .before .before .before .args .g .element) (content (c .before .before .before .before .before .before .before .before .before .args .release) (c .before .before .before .before .before .before .before .before .before .args .x .now)) (c .before .before .component-part .ensures) (c .before .same-reference .ensures)) ∙ c .if1 .taken)
 
 loop-less : tie.Need-loop-less Inv-loop μ-loop
 loop-less c = search needs
 
 loop-again : tie.Need-loop-again Inv-loop μ-loop
-loop-again c = seeking-on _ _ (c .before .before .before .before .before .loop .inv) (c .before .before .before .before .loop-test .taken) refl refl (sym (name-is (c .before .before .before .before .before .before .before .before .before .args .y .service) (c .before .before .before .before .before .before .before .before .before .args .s .now) (getD (c .before .before .before .before .before .before .before .before .before .args .rows .now) (c .before .before .before .before .before .before .before .before .before .args .g .first + (c .before .before .before .before .before .loop .i - 1)) 0) (c .before .before .before .before .before .before .before .before .before .args .g .element) (content (c .before .before .before .before .before .before .before .before .before .args .release) (c .before .before .before .before .before .before .before .before .before .args .x .now)) (c .before .before .component-part .ensures) (c .before .same-content .ensures)) ∙ c .if1 .left)
+loop-again c = seeking-on _ _ (c .before .before .before .before .before .loop .inv) (c .before .before .before .before .loop-test .taken) refl refl (sym (name-is (c .before .before .before .before .before .before .before .before .before .args .y .service) (c .before .before .before .before .before .before .before .before .before .args .s .now) (getD (c .before .before .before .before .before .before .before .before .before .args .rows .now) (c .before .before .before .before .before .before .before .before .before .args .g .first + (c .before .before .before .before .before .loop .i - 1)) 0) (c .before .before .before .before .before .before .before .before .before .args .g .element) (content (c .before .before .before .before .before .before .before .before .before .args .release) (c .before .before .before .before .before .before .before .before .before .args .x .now)) (c .before .before .component-part .ensures) (c .before .same-reference .ensures)) ∙ c .if1 .left)
 
 returns-2 : tie.Need-returns-2 Inv-loop μ-loop
 returns-2 c = seeking-end (c .before .loop .inv) (c .loop-test .left)
@@ -64,7 +64,7 @@ group-like-spec =
     mul-start
     element-copy-out-start
     component-part-requires
-    same-content-requires
+    same-reference-requires
     returns
     loop-less
     loop-again

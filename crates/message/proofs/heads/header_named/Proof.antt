@@ -5,7 +5,7 @@ use Rattle.message.specs.HeadsLaws.{Naming, naming-hit, naming-on, namin
 use Rattle.message.proofs.heads.header_named.Statement.{statement}
 use Rattle.message.proofs.heads.header_named.Tie as tie
 use Rattle.syntax.proofs.content.part.Reads as part-reads
-use Rattle.syntax.proofs.content.same_content.Reads as same-content-reads
+use Rattle.syntax.proofs.content.same_reference.Reads as same-reference-reads
 
 abbrev Inv-loop : tie.InvT-loop
 Inv-loop s release heads n x i₀ i = Naming release s heads x n i
@@ -40,8 +40,8 @@ element-copy-out-e c = search needs
 part-requires : tie.Need-part-requires Inv-loop μ-loop
 part-requires c κs = search needs
 
-same-content-requires : tie.Need-same-content-requires Inv-loop μ-loop
-same-content-requires c κs = search needs
+same-reference-requires : tie.Need-same-reference-requires Inv-loop μ-loop
+same-reference-requires c κs = search needs
 
 returns : tie.Need-returns Inv-loop μ-loop
 returns c = search (naming-hit, needs)
@@ -73,7 +73,7 @@ header-named-spec =
     mul-e-2
     element-copy-out-e
     part-requires
-    same-content-requires
+    same-reference-requires
     returns
     add-i
     loop-less

@@ -6,7 +6,7 @@ use Rattle.message.proofs.heads.is_free.Tie as tie
 use Rattle.message.proofs.heads.is_free.Reads as reads
 use Rattle.message.proofs.heads.is_free.Lts as lts
 use Rattle.syntax.proofs.content.part.Reads as part-reads
-use Rattle.syntax.proofs.content.same_content.Reads as same-content-reads
+use Rattle.syntax.proofs.content.same_reference.Reads as same-reference-reads
 
 -- src/heads.rt:37:14
 mul-if1 : tie.Need-mul-if1
@@ -61,12 +61,12 @@ part-requires : tie.Need-part-requires
 part-requires c κs = search needs
 
 -- src/heads.rt:42:5
-same-content-requires : tie.Need-same-content-requires
-same-content-requires c κs = search needs
+same-reference-requires : tie.Need-same-reference-requires
+same-reference-requires c κs = search needs
 
 -- src/heads.rt:33:1
 returns-2 : tie.Need-returns-2
-returns-2 c = free-by (c .before .before .before .before .before .before .before .before .args .release) (c .before .before .before .before .before .before .before .before .args .s .now) (c .before .before .before .before .before .before .before .before .args .heads .now) (content (c .before .before .before .before .before .before .before .before .args .release) (c .before .before .before .before .before .before .before .before .args .x .now)) (c .before .before .before .before .before .before .before .before .args .i) (c .before .before .before .before .if1 .left) (c .before .part .ensures) (c .same-content .ensures)
+returns-2 c = free-by (c .before .before .before .before .before .before .before .before .args .release) (c .before .before .before .before .before .before .before .before .args .s .now) (c .before .before .before .before .before .before .before .before .args .heads .now) (content (c .before .before .before .before .before .before .before .before .args .release) (c .before .before .before .before .before .before .before .before .args .x .now)) (c .before .before .before .before .before .before .before .before .args .i) (c .before .before .before .before .if1 .left) (c .before .part .ensures) (c .same-reference .ensures)
 
 pub is-free-spec : {M : Type 1} → statement M
 is-free-spec =
@@ -85,5 +85,5 @@ is-free-spec =
     mul-e-2
     element-copy-out-e
     part-requires
-    same-content-requires
+    same-reference-requires
     returns-2)

@@ -9,13 +9,13 @@ field-requires c κs = search needs
 part-requires : tie.Need-part-requires
 part-requires c κs = search needs
 
-same-content-requires : tie.Need-same-content-requires
-same-content-requires c κs = search needs
+same-reference-requires : tie.Need-same-reference-requires
+same-reference-requires c κs = search needs
 
 returns : tie.Need-returns
 returns c =
     let g = c .before .before .before .before .before .before in
-    ref-same (g .args .y) (g .args .s .now) (g .args .at) (g .args .w) (c .before .before .field .ensures) (c .before .part .ensures) (c .same-content .ensures)
+    ref-same (g .args .y) (g .args .s .now) (g .args .at) (g .args .w) (c .before .before .field .ensures) (c .before .part .ensures) (c .same-reference .ensures)
 
 pub is-repeated-spec : {M : Type 1} → statement M
 is-repeated-spec =
@@ -23,5 +23,5 @@ is-repeated-spec =
     (tie.spec
     field-requires
     part-requires
-    same-content-requires
+    same-reference-requires
     returns)
