@@ -5,7 +5,8 @@ use mathlib.Core.List.{List}
 use lib.Dec.{T}
 use Rattle.syntax.specs.Tree.{Segment, print, well}
 use Rattle.syntax.specs.declared.Service.{Service}
-use Rattle.grammar.specs.Lists.{Snoc, _+++_, joined, list, any, sum, Rule, test, _and_, holds, every, few}
+use Rattle.grammar.specs.Lists.{Snoc, _+++_, joined, list, any, Rule, test, _and_, holds, every, few}
+use Rattle.grammar.specs.Grams.{Grams, sum}
 use Rattle.grammar.specs.Interchange.{Header, Trailer, Message, showHeader, showTrailer, showMessage}
 use Rattle.grammar.specs.Rules.{okHeader, okItem, okMessage}
 use Rattle.grammar.specs.Loads.{loads as loadsIn}
@@ -16,7 +17,7 @@ use Rattle.spans.specs.Span.{other}
 pub record Grammar (A : Type 0) : Type 0 where
   pub segments : A → Snoc Segment
   pub rule : A → Rule
-  pub loads : A → Snoc ℕ
+  pub loads : A → Snoc Grams
 
 -- t is a reading of the octets o: it keeps the rules, its segments are well-formed under the service characters σ, and o is what they print
 pub record Reads {A : Type 0} (g : Grammar A) (σ : Service) (o : List ℕ) (t : A) : Type 0 where
@@ -47,7 +48,7 @@ segments1 (range1 h b) = showHeader h +++ b
 abbrev pub rule1 : Range1 → Rule
 rule1 (range1 h b) = okHeader h and every okItem b
 
-abbrev pub loads1 : Range1 → Snoc ℕ
+abbrev pub loads1 : Range1 → Snoc Grams
 loads1 (range1 h b) = loadsIn b
 
 abbrev pub scope1 : Grammar Range1
@@ -66,7 +67,7 @@ segments2 (range2 h hs b ts) = showHeader h +++ joined showHeader hs +++ b +++ j
 abbrev pub rule2 : Range2 → Rule
 rule2 (range2 h hs b ts) = okHeader h and few 8 hs and every okHeader hs and every okItem b
 
-abbrev pub loads2 : Range2 → Snoc ℕ
+abbrev pub loads2 : Range2 → Snoc Grams
 loads2 (range2 h hs b ts) = loadsIn b
 
 abbrev pub scope2 : Grammar Range2

@@ -6,7 +6,8 @@ use mathlib.Core.Option.{Option, none}
 use lib.Seq.{slice}
 use Rattle.syntax.specs.Tree.{Segment, print}
 use Rattle.syntax.specs.declared.Syntax.{Syntax}
-use Rattle.grammar.specs.Lists.{Snoc, list, each, size, sum}
+use Rattle.grammar.specs.Lists.{Snoc, list, each, size}
+use Rattle.grammar.specs.Grams.{Grams, sum}
 use Rattle.grammar.specs.Interchange.{plain, Message, showHeader}
 use Rattle.grammar.specs.Rules.{refM}
 use Rattle.grammar.specs.Valid.{syntaxIn}
@@ -25,7 +26,7 @@ abbrev pub syntaxOf : List ℕ → Option Syntax
 syntaxOf s = syntaxBy (verdictOf s)
 
 -- what the totals call gives for a message with these loads: how many, and the grams
-abbrev pub totalsFor : Snoc ℕ → Totals
+abbrev pub totalsFor : Snoc Grams → Totals
 totalsFor l = totalled (size l) (sum l)
 
 -- ---- scope 1

@@ -15,7 +15,8 @@ use Rattle.syntax.specs.ContentLaws.{same-self}
 use Rattle.syntax.specs.TreeLaws.{and-left, and-right}
 use Rattle.syntax.specs.declared.Service.{Service}
 use Rattle.syntax.specs.declared.Syntax.{Syntax}
-use Rattle.grammar.specs.Lists.{Snoc, nil, _▷_, _+++_, joined, list, each, size, any, check, among, sum, holds, every, few, distinct}
+use Rattle.grammar.specs.Lists.{Snoc, nil, _▷_, _+++_, joined, list, each, size, any, check, among, holds, every, few, distinct}
+use Rattle.grammar.specs.Grams.{sum}
 use Rattle.grammar.specs.Segments.{Unb, Unh, Unt, Unz, seg}
 use Rattle.grammar.specs.Interchange.{Leaf, Header, header, Body, plain, ack, Open, msg, Message, message, showHeader, showTrailer, showBody, showOpen, showMessage, shown, idle}
 use Rattle.grammar.specs.Rules.{autack, okHeader, okItem, okBody, okMessage, scopeRight, scopesMessage, refM}

@@ -1,7 +1,8 @@
 -- What is counted of each message of a reading.
 use Prim.Native.Nat.{ℕ}
 use mathlib.Core.List.{List}
-use Rattle.grammar.specs.Lists.{Snoc, each, size, sum}
+use Rattle.grammar.specs.Lists.{Snoc, each, size}
+use Rattle.grammar.specs.Grams.{Grams, sum}
 use Rattle.grammar.specs.Segments.{unh0062Text, unh0065}
 use Rattle.grammar.specs.Interchange.{Open, msg, Message, message, showMessage}
 use Rattle.grammar.specs.Valid.{Interchange, interchange}
@@ -12,8 +13,8 @@ pub record Counted : Type 0 where
   pub ref : List ℕ
   pub type : List ℕ
   pub segments : ℕ
-  pub loads : Snoc ℕ
-  pub grams : ℕ
+  pub loads : Snoc Grams
+  pub grams : Grams
 
 abbrev pub countedM : Message → Counted
 countedM (message (msg h hs b ts) t) = record {

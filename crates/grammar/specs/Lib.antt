@@ -1,5 +1,6 @@
 -- the definitions, in reading order
 pub mod Lists
+pub mod Grams
 pub mod Segments
 pub mod Interchange
 pub mod Loads

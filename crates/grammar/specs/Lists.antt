@@ -43,10 +43,6 @@ abbrev pub among : Snoc (List ℕ) → List ℕ → Bool
 among nil r = false
 among (s ▷ a) r = same a r || among s r
 
-abbrev pub sum : Snoc ℕ → ℕ
-sum nil = 0
-sum (s ▷ n) = sum s + n
-
 -- the same as a plain list
 abbrev pub list : {A : Type 0} → Snoc A → List A
 list nil = []

@@ -9,6 +9,7 @@ use Rattle.syntax.specs.Octets.{octets, same, within}
 use Rattle.syntax.specs.Content.{allDigits, valueFrom}
 use Rattle.syntax.specs.Tree.{Segment}
 use Rattle.grammar.specs.Lists.{Snoc, nil, _▷_}
+use Rattle.grammar.specs.Grams.{Grams}
 use Rattle.grammar.specs.Segments.{Asked, asked}
 
 -- ---- amounts: digits, optionally a mark and digits; "comma and full stop both serve", "No sign"
@@ -47,7 +48,7 @@ abbrev pub fraction : ℕ → Option (List ℕ) → ℕ
 fraction d none = 0
 fraction d (some f) = valueFrom 0 f * tens (d - length f)
 
-abbrev pub grams : Shape → List ℕ → ℕ
+abbrev pub grams : Shape → List ℕ → Grams
 grams (shape w d) s = valueFrom 0 (before s) * tens d + fraction d (behind s)
 
 -- the shape that a unit gives
@@ -70,12 +71,12 @@ threePart a = eqb (a .size) 1 && eqb (a .parts 1) 3
 abbrev pub loadShape : Asked → Option Shape
 loadShape a = cond (same (a .tag) (octets "QTY") && threePart a) (loadUnit (a .text 1 2)) none
 
-abbrev pub loadBy : Option Shape → List ℕ → Option ℕ
+abbrev pub loadBy : Option Shape → List ℕ → Option Grams
 loadBy none s = none
 loadBy (some u) s = some (grams u s)
 
 -- the grams of a segment that is a load
-abbrev pub loadIn : Asked → Option ℕ
+abbrev pub loadIn : Asked → Option Grams
 loadIn a = loadBy (loadShape a) (a .text 1 1)
 
 abbrev pub rightBy : Option Shape → List ℕ → Bool
@@ -101,19 +102,19 @@ controlWritten a = threePart a && controlBy (controlUnit (a .text 1 2)) (a .text
 abbrev pub controlRight : Asked → Bool
 controlRight a = cond (isControl a) (controlWritten a) true
 
-abbrev pub controlIn : Asked → Option ℕ
+abbrev pub controlIn : Asked → Option Grams
 controlIn a = cond (isControl a) (loadBy (controlUnit (a .text 1 2)) (a .text 1 1)) none
 
 -- ---- of a body, in order
 
-abbrev pub put : Snoc ℕ → Option ℕ → Snoc ℕ
+abbrev pub put : Snoc Grams → Option Grams → Snoc Grams
 put s none = s
 put s (some n) = s ▷ n
 
-abbrev pub loads : Snoc Segment → Snoc ℕ
+abbrev pub loads : Snoc Segment → Snoc Grams
 loads nil = nil
 loads (b ▷ g) = put (loads b) (loadIn (asked g))
 
-abbrev pub controls : Snoc Segment → Snoc ℕ
+abbrev pub controls : Snoc Segment → Snoc Grams
 controls nil = nil
 controls (b ▷ g) = put (controls b) (controlIn (asked g))

@@ -6,7 +6,8 @@ use mathlib.Core.Option.{Option, none, some}
 use Rattle.syntax.specs.Octets.{same}
 use Rattle.syntax.specs.Refusals.{atZero}
 use Rattle.syntax.specs.declared.Service.{Service}
-use Rattle.grammar.specs.Lists.{Snoc, nil, _▷_, size, sum}
+use Rattle.grammar.specs.Lists.{Snoc, nil, _▷_, size}
+use Rattle.grammar.specs.Grams.{sum}
 use Rattle.grammar.specs.Interchange.{Leaf, Message, Reading, start, idle, busy, done, shown}
 use Rattle.grammar.specs.Rules.{refM}
 use Rattle.grammar.specs.Places.{wide}

@@ -10,7 +10,8 @@ use Rattle.syntax.specs.Cutting.{firstOutside}
 use Rattle.syntax.specs.Opening.{isThere}
 use Rattle.syntax.specs.Tree.{Segment, printS}
 use Rattle.syntax.specs.declared.Syntax.{Syntax}
-use Rattle.grammar.specs.Lists.{Snoc, nil, _▷_, each, joined, size, any, among, sum, Rule, always, test, _and_, every, few, distinct}
+use Rattle.grammar.specs.Lists.{Snoc, nil, _▷_, each, joined, size, any, among, Rule, always, test, _and_, every, few, distinct}
+use Rattle.grammar.specs.Grams.{Grams, sameGrams, sum}
 use Rattle.grammar.specs.Segments.{Kind, Named, Reserved, Free, kindOf, asked, unb0020, unh0062, unh0065, unt0074, unt0062, unz0036, unz0020, ush0534, ush0541, ust0534, ust0588, usy0534}
 use Rattle.grammar.specs.Interchange.{Leaf, Certificate, certificate, Header, header, Trailer, trailer, Link, link, Body, plain, ack, Open, msg, Message, message, Reading, start, idle, busy, done, showHeader, showTrailer, showMessage, shown}
 use Rattle.grammar.specs.Elements.{formed}
@@ -138,7 +139,7 @@ refs (done u ms z) = distinct (each refM ms) and every refsMessage ms and test (
 
 -- "it equals the message's load total"
 abbrev pub total : Body → Rule
-total (plain b) = every (λ (n : ℕ). test (eqb n (sum (loads b)))) (controls b)
+total (plain b) = every (λ (n : Grams). test (sameGrams n (sum (loads b)))) (controls b)
 total (ack c ls) = always
 
 -- the segments of the header of this reference

@@ -18,7 +18,8 @@ use Rattle.syntax.specs.declared.Found.the-variants.{At, Nothing}
 use Rattle.syntax.specs.declared.opening.Start.{Start}
 use Rattle.syntax.specs.declared.opening.Begun.{Begun}
 use Rattle.syntax.specs.declared.opening.Begun.the-variants.{Ready, Refused}
-use Rattle.grammar.specs.Lists.{Snoc, nil, _▷_, size, sum, Rule, check}
+use Rattle.grammar.specs.Lists.{Snoc, nil, _▷_, size, Rule, check}
+use Rattle.grammar.specs.Grams.{Grams, sum}
 use Rattle.grammar.specs.Interchange.{Body, plain, ack, Open, msg, Message, message, Reading, start, idle, busy, done}
 use Rattle.grammar.specs.Rules.{insideS, order, formedS, refs, counts, scopes, amountS, refM}
 use Rattle.grammar.specs.Loads.{loads}
@@ -124,15 +125,15 @@ verdictOf s = verdictBy s (begunOf s)
 
 -- ---- the loads and grams of the message with a given 0062
 
-abbrev pub loadsB : Body → Snoc ℕ
+abbrev pub loadsB : Body → Snoc Grams
 loadsB (plain b) = loads b
 loadsB (ack c ls) = nil
 
-abbrev pub loadsM : Message → Snoc ℕ
+abbrev pub loadsM : Message → Snoc Grams
 loadsM (message (msg h hs b ts) t) = loadsB b
 
 pub data Totals : Type 0 where
-  totalled : ℕ → ℕ → Totals
+  totalled : ℕ → Grams → Totals
   refusedTotals : Refusal → Totals
 
 -- 13: "no such message", at 0

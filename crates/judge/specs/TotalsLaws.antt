@@ -13,7 +13,8 @@ use Rattle.syntax.specs.declared.Service.{Service}
 use Rattle.syntax.specs.declared.opening.Start.{Start as Opening}
 use Rattle.syntax.specs.declared.opening.Begun.{Begun}
 use Rattle.syntax.specs.declared.opening.Begun.the-variants.{Ready as Begins, Refused as Refuses}
-use Rattle.grammar.specs.Lists.{Snoc, nil, _▷_, size, sum}
+use Rattle.grammar.specs.Lists.{Snoc, nil, _▷_, size}
+use Rattle.grammar.specs.Grams.{sum}
 use Rattle.grammar.specs.Interchange.{Leaf, Message, idle, shown}
 use Rattle.grammar.specs.Rules.{refM}
 use Rattle.grammar.specs.Places.{wide}

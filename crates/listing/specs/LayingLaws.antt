@@ -10,7 +10,8 @@ use lib.ListN.{length, getD}
 use borrow.Author.Tests.{ltb-true, ltb-false}
 use Rattle.syntax.specs.Service.{fit}
 use Rattle.syntax.specs.declared.Service.{Service}
-use Rattle.grammar.specs.Lists.{Snoc, nil, _▷_, _+++_, joined, size, sum, holds}
+use Rattle.grammar.specs.Lists.{Snoc, nil, _▷_, _+++_, joined, size, holds}
+use Rattle.grammar.specs.Grams.{sum}
 use Rattle.grammar.specs.Segments.{Unh, Unt, seg, text, Asked}
 use Rattle.grammar.specs.Interchange.{Leaf, Header, header, Trailer, Body, Open, msg, message, showHeader, showTrailer, showBody, showOpen, showMessage}
 use Rattle.grammar.specs.Rules.{refH, refO, okMessage, refsMessage}

@@ -7,7 +7,8 @@ use lib.Dec.{eqb, ltb}
 use Rattle.syntax.specs.Octets.{octets, same}
 use Rattle.syntax.specs.Content.{valueFrom, compared}
 use Rattle.syntax.specs.declared.Syntax.{Syntax}
-use Rattle.grammar.specs.Lists.{Snoc, nil, _▷_, each, size, any, among, sum, test, check, every}
+use Rattle.grammar.specs.Lists.{Snoc, nil, _▷_, each, size, any, among, test, check, every}
+use Rattle.grammar.specs.Grams.{Grams, noGrams, sameGrams, sum}
 use Rattle.grammar.specs.Segments.{Asked, unb0020, unh0062, ust0534, ust0588}
 use Rattle.grammar.specs.Interchange.{Leaf, certificate, Header, header, Trailer, trailer, Link, link, Body, plain, ack, Open, msg, Reading, start, idle, busy, done, showHeader, showTrailer, showOpen}
 use Rattle.grammar.specs.Loads.{loads, controls, loadIn, controlIn, loadRight}
@@ -45,17 +46,17 @@ groupOf (msg h hs b (ts ▷ trailer c r)) = InTrailer (given r)
 -- ---- its loads and control totals
 
 -- the first, 0 if there is none
-abbrev pub firstIn : Snoc ℕ → ℕ
-firstIn nil = 0
+abbrev pub firstIn : Snoc Grams → Grams
+firstIn nil = noGrams
 firstIn (nil ▷ n) = n
 firstIn (s ▷ m ▷ n) = firstIn (s ▷ m)
 
 -- all are equal to the first
-abbrev pub agreeIn : Snoc ℕ → Bool
-agreeIn s = check (every (λ (n : ℕ). test (eqb n (firstIn s))) s)
+abbrev pub agreeIn : Snoc Grams → Bool
+agreeIn s = check (every (λ (n : Grams). test (sameGrams n (firstIn s))) s)
 
 -- of the loads s and the control totals c
-abbrev pub sumsIn : Snoc ℕ → Snoc ℕ → Sums
+abbrev pub sumsIn : Snoc Grams → Snoc Grams → Sums
 sumsIn s c = record { loads = size s; grams = sum s; controlled = any c; control = firstIn c; agree = agreeIn c }
 
 abbrev pub noSums : Sums

@@ -8,7 +8,8 @@ use lib.ListN.{length}
 use Rattle.syntax.specs.Octets.{same}
 use Rattle.syntax.specs.declared.Syntax.{Syntax}
 use Rattle.syntax.specs.declared.Service.{Service}
-use Rattle.grammar.specs.Lists.{Snoc, nil, _▷_, size, sum}
+use Rattle.grammar.specs.Lists.{Snoc, nil, _▷_, size}
+use Rattle.grammar.specs.Grams.{sum}
 use Rattle.grammar.specs.Interchange.{Leaf, Message, Reading, start, idle, busy, done, shown, showMessage}
 use Rattle.grammar.specs.Valid.{Interchange, interchange, openingIn}
 use Rattle.grammar.specs.Verdict.{Verdict, accepted, refusedWith, verdictOf, loadsM, read, refused}

@@ -17,7 +17,8 @@ use Rattle.syntax.specs.declared.Syntax.{Syntax}
 use Rattle.syntax.specs.declared.opening.Start.{Start}
 use Rattle.syntax.specs.declared.opening.Begun.{Begun}
 use Rattle.syntax.specs.declared.opening.Begun.the-variants.{Ready as Begins, Refused as Refuses}
-use Rattle.grammar.specs.Lists.{Snoc, nil, _▷_, size, sum}
+use Rattle.grammar.specs.Lists.{Snoc, nil, _▷_, size}
+use Rattle.grammar.specs.Grams.{sum}
 use Rattle.grammar.specs.Interchange.{Leaf, Open, Message, message, Reading, idle, done, shown, showMessage}
 use Rattle.grammar.specs.Places.{wide}
 use Rattle.grammar.specs.Valid.{Interchange, interchange, openingIn}

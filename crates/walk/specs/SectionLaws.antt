@@ -17,7 +17,8 @@ use Rattle.syntax.specs.Tree.{Segment, printS}
 use Rattle.syntax.specs.declared.Service.{Service}
 use Rattle.syntax.specs.declared.Syntax.{Syntax}
 use Rattle.syntax.specs.declared.Breach.{Breach}
-use Rattle.grammar.specs.Lists.{Snoc, nil, _▷_, _+++_, size, sum, joined}
+use Rattle.grammar.specs.Lists.{Snoc, nil, _▷_, _+++_, size, joined}
+use Rattle.grammar.specs.Grams.{sum}
 use Rattle.grammar.specs.ListsLaws.{each-size}
 use Rattle.grammar.specs.Segments as segments
 use Rattle.grammar.specs.Segments.{Named, Free, kindIn, tags, seg, elementsOf}

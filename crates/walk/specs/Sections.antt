@@ -12,7 +12,8 @@ use Rattle.syntax.specs.Content.{content, compared}
 use Rattle.syntax.specs.Tree.{printS}
 use Rattle.syntax.specs.declared.Service.{Service}
 use Rattle.syntax.specs.declared.Syntax.{Syntax}
-use Rattle.grammar.specs.Lists.{Snoc, nil, _▷_, size, sum}
+use Rattle.grammar.specs.Lists.{Snoc, nil, _▷_, size}
+use Rattle.grammar.specs.Grams.{sum}
 use Rattle.grammar.specs.Segments.{Unt, seg}
 use Rattle.grammar.specs.Interchange.{Leaf, Open, msg, Message, message, Reading, start, idle, busy, done, showOpen}
 use Rattle.grammar.specs.Rules.{autack, refO}
