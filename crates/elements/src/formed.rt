@@ -26,7 +26,7 @@ ghost use Rattle.syntax.specs.Segment.{piecesAt, anyRepeats};
 ghost use Rattle.grammar.specs.Segments as named;
 ghost use Rattle.grammar.specs.Loads.{controlUnit, controlBy};
 ghost use Rattle.grammar.specs.Elements as checked;
-ghost use Rattle.grammar.specs.Elements.{inRange, formedAs, formedRow, row, formed, dateDigits};
+ghost use Rattle.grammar.specs.Elements.{inRange, formedAs, formedRow, row, valueRow, formed, dateDigits};
 ghost use Rattle.elements.specs.Octets.{textAt, askedAt};
 ghost use Rattle.elements.specs.Kinds.{kindOf};
 ghost use Rattle.elements.specs.Fields.{Marked, Fields};
@@ -199,7 +199,7 @@ fn single_digits(
 fn value_formed(s: &[u8], at: usize, y: Syntax, marks: &[usize], p: usize) -> bool
     requires { ⌜ Marked (y .service) (now s) at (now marks) ⌝ }
     requires { ⌜ (1 ≤ p) × (p ≤ 5) ⌝ }
-    ensures { λ r. ⌜ r ≡ formedAs (checked.composite (checked.text 1 3 ∷ checked.text 0 512 ∷ [])) (askedAt (y .service) (now (s .entry)) at) p ⌝ }
+    ensures { λ r. ⌜ r ≡ formedAs (valueRow (y .version)) (askedAt (y .service) (now (s .entry)) at) p ⌝ }
 {
     if composite(s, at, y, marks, p, 1, 3) {
         return text(s, at, y, marks, p, 1, 0, 512);

@@ -71,12 +71,17 @@ versionNamed c = cond (same c (octets "3")) (Versioned Three) (cond (same c (oct
 abbrev pub refusedUnb : ℕ → ℕ → Begun
 refusedUnb n p = RefusedUnb (record { number = n; place = p })
 
--- "in version 3 no repetition", and "In version 3 a UNA repetition octet must be a space."
+-- whether a version has a repetition: "in version 3 no repetition"
+abbrev pub repeating : Version → Bool
+repeating Four = true
+repeating Three = false
+
+-- "In version 3 a UNA repetition octet must be a space."
 abbrev pub settled : Opening → Level → Version → Begun
-settled o l Four = Ready (record { syntax = record { version = Four; level = l; service = o .service }; at = o .at })
-settled o l Three =
-    cond (o .una && not (eqb (o .service .repetition) 32)) (refusedUnb 6 (o .at))
-    (Ready (record { syntax = record { version = Three; level = l; service = withoutRepetition (o .service) }; at = o .at }))
+settled o l v =
+    cond (repeating v) (Ready (record { syntax = record { version = v; level = l; service = o .service }; at = o .at }))
+    (cond (o .una && not (eqb (o .service .repetition) 32)) (refusedUnb 6 (o .at))
+    (Ready (record { syntax = record { version = v; level = l; service = withoutRepetition (o .service) }; at = o .at })))
 
 -- 6: "0001 or 0002 unknown; version 3 with a repetition octet"
 abbrev pub bothNamed : Opening → LevelName → VersionName → Begun
