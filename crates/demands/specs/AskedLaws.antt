@@ -8,6 +8,7 @@ use mathlib.Core.Bool.{Bool, true, false, cond}
 use lib.Dec.{T}
 use lib.ListN.{length}
 use lib.Seq.{slice}
+use Rattle.syntax.specs.declared.Refusal.{Refusal}
 use Rattle.syntax.specs.Octets.{octets, same}
 use Rattle.syntax.specs.Opening.{begunOf}
 use Rattle.syntax.specs.Tree.{Segment, print, well}

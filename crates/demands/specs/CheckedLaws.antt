@@ -8,6 +8,7 @@ use mathlib.Core.Path.{_≡_, refl, ap, sym, _∙_, subst}
 use lib.Dec.{T, ltb}
 use lib.ListN.{length, drop}
 use borrow.Author.Tests.{ltb-false, le-ltb}
+use Rattle.syntax.specs.declared.Refusal.{Refusal}
 use Rattle.syntax.specs.Octets.{same}
 use Rattle.syntax.specs.ContentLaws.{same-self}
 use Rattle.grammar.specs.PlacingLaws.{same-eq}

@@ -7,6 +7,7 @@ use mathlib.Core.Path.{_≡_, refl, subst}
 use lib.Dec.{T, eqb, leb, ltb}
 use lib.ListN.{length, drop}
 use borrow.Author.Tests.{leb-true}
+use Rattle.syntax.specs.declared.Refusal.{Refusal}
 use Rattle.syntax.specs.Octets.{within}
 use Rattle.syntax.specs.Service.{withoutRepetition, fit}
 use Rattle.syntax.specs.Content.{content}

@@ -7,6 +7,7 @@ use mathlib.Core.Option.{Option, none, some}
 use mathlib.Core.Bool.{Bool, true, false, cond, _&&_}
 use lib.Dec.{T}
 use lib.ListN.{length}
+use Rattle.syntax.specs.declared.Refusal.{Refusal}
 use Rattle.syntax.specs.Refusals.{atZero}
 use Rattle.syntax.specs.TreeLaws.{and-left, and-right}
 use Rattle.grammar.specs.Lists.{Snoc}

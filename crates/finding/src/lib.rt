@@ -3,15 +3,15 @@ ghost use mathlib.Core.Path.{_≡_};
 ghost use Prim.Native.Nat.{_≤_};
 ghost use lib.Dec.{T};
 ghost use lib.ListN.{length};
-ghost use Rattle.syntax.specs.Content.{compared};
+ghost use Rattle.syntax.specs.Content.{compared, content};
 ghost use Rattle.syntax.specs.Service.{fit};
 ghost use Rattle.syntax.specs.Repertoire.{Table};
 ghost use Rattle.walk.specs.RunLaws.{Fresh};
 ghost use Rattle.finding.specs.Finding.{namedBy, FoundIs};
 use syntax::Breach;
 use syntax::Syntax;
-use syntax::content::reference_is;
 use syntax::content::part;
+use syntax::content::same_reference;
 use walk::sections::Layout;
 use walk::sections::Reached;
 use walk::sections::next_section;
@@ -36,13 +36,13 @@ fn keep(rows: &mut [usize; 18], here: &[usize; 18])
     }
 }
 
-// Whether the section closed the message with this 0062.
-fn is_named(s: &[u8], release: u8, closed: bool, c: Layout, reference: &[u8]) -> bool
-    ensures { λ r. ⌜ r ≡ namedBy release (now (s .entry)) closed c (compared (now (reference .entry))) ⌝ }
+// Whether the section closed the message with this 0062, whose content is that of `reference` under the release `other`.
+fn is_named(s: &[u8], release: u8, closed: bool, c: Layout, reference: &[u8], other: u8) -> bool
+    ensures { λ r. ⌜ r ≡ namedBy release (now (s .entry)) closed c (compared (content other (now (reference .entry)))) ⌝ }
 {
     if closed {
         let w = c.reference;
-        return reference_is(part(s, w.start, w.end), release, reference);
+        return same_reference(part(s, w.start, w.end), release, reference, other);
     }
     false
 }
@@ -54,6 +54,7 @@ fn find_among(
     t: &[u8; 256],
     y: Syntax,
     reference: &[u8],
+    other: u8,
     names: &mut [u64],
     slots: &mut [u16],
     marks: &mut [usize],
@@ -64,7 +65,7 @@ fn find_among(
     requires { ⌜ Table y (now t) ⌝ }
     requires { ⌜ Fresh y (now s) (now names) (now slots) ⌝ }
     requires { ⌜ (length (now marks) ≡ 40) × (length (now heads) ≡ 36) × (length (now here) ≡ 18) × (length (now rows) ≡ 18) ⌝ }
-    ensures { λ r. ⌜ FoundIs y (now (s .entry)) from (compared (now (reference .entry))) r (now (rows .exit)) ⌝ }
+    ensures { λ r. ⌜ FoundIs y (now (s .entry)) from (compared (content other (now (reference .entry)))) r (now (rows .exit)) ⌝ }
 {
     let mut st = unread();
     let mut at = from;
@@ -76,7 +77,7 @@ fn find_among(
             Reached::Over => return found,
             Reached::On(a) => {
                 let l = a.layout;
-                if is_named(s, v.release, a.closed, l, reference) {
+                if is_named(s, v.release, a.closed, l, reference, other) {
                     keep(rows, here);
                     found = Found::Message(l);
                 }
@@ -94,12 +95,13 @@ fn find_small(
     t: &[u8; 256],
     y: Syntax,
     reference: &[u8],
+    other: u8,
     rows: &mut [usize; 18],
 ) -> Found
     requires { ⌜ Table y (now t) ⌝ }
     requires { ⌜ T (fit (y .service)) ⌝ }
     requires { ⌜ (length (now s) ≤ 2048) × (length (now rows) ≡ 18) ⌝ }
-    ensures { λ r. ⌜ FoundIs y (now (s .entry)) from (compared (now (reference .entry))) r (now (rows .exit)) ⌝ }
+    ensures { λ r. ⌜ FoundIs y (now (s .entry)) from (compared (content other (now (reference .entry)))) r (now (rows .exit)) ⌝ }
 {
     let mut names = [0u64; 512];
     let mut slots = [0u16; 763];
@@ -112,6 +114,7 @@ fn find_small(
         t,
         y,
         reference,
+        other,
         &mut names,
         &mut slots,
         &mut marks,
@@ -127,12 +130,13 @@ fn find_large(
     t: &[u8; 256],
     y: Syntax,
     reference: &[u8],
+    other: u8,
     rows: &mut [usize; 18],
 ) -> Found
     requires { ⌜ Table y (now t) ⌝ }
     requires { ⌜ T (fit (y .service)) ⌝ }
     requires { ⌜ (length (now s) ≤ 65535) × (length (now rows) ≡ 18) ⌝ }
-    ensures { λ r. ⌜ FoundIs y (now (s .entry)) from (compared (now (reference .entry))) r (now (rows .exit)) ⌝ }
+    ensures { λ r. ⌜ FoundIs y (now (s .entry)) from (compared (content other (now (reference .entry)))) r (now (rows .exit)) ⌝ }
 {
     let mut names = [0u64; 16384];
     let mut slots = [0u16; 20405];
@@ -145,6 +149,7 @@ fn find_large(
         t,
         y,
         reference,
+        other,
         &mut names,
         &mut slots,
         &mut marks,
@@ -154,22 +159,23 @@ fn find_large(
     )
 }
 
-// The message with the 0062 `reference`, of an interchange whose UNB stands at `from`.
+// The message with the 0062 `reference`, read under the release `other` (32: none), of an interchange whose UNB stands at `from`.
 pub fn find(
     s: &[u8],
     from: usize,
     t: &[u8; 256],
     y: Syntax,
     reference: &[u8],
+    other: u8,
     rows: &mut [usize; 18],
 ) -> Found
     requires { ⌜ Table y (now t) ⌝ }
     requires { ⌜ T (fit (y .service)) ⌝ }
     requires { ⌜ (length (now s) ≤ 65535) × (length (now rows) ≡ 18) ⌝ }
-    ensures { λ r. ⌜ FoundIs y (now (s .entry)) from (compared (now (reference .entry))) r (now (rows .exit)) ⌝ }
+    ensures { λ r. ⌜ FoundIs y (now (s .entry)) from (compared (content other (now (reference .entry)))) r (now (rows .exit)) ⌝ }
 {
     if s.len() <= 2048 {
-        return find_small(s, from, t, y, reference, rows);
+        return find_small(s, from, t, y, reference, other, rows);
     }
-    find_large(s, from, t, y, reference, rows)
+    find_large(s, from, t, y, reference, other, rows)
 }

@@ -7,6 +7,7 @@ use mathlib.Core.Option.{none, some, Option·none-ne-some}
 use mathlib.Core.Bool.{Bool, true, false, cond}
 use lib.Dec.{T}
 use lib.ListN.{drop}
+use Rattle.syntax.specs.Content.{content}
 use Rattle.syntax.specs.Octets.{same}
 use Rattle.syntax.specs.Service.{fit}
 use Rattle.syntax.specs.Opening.{begunOf}
@@ -32,6 +33,7 @@ use Rattle.grammar.specs.PlacingLaws.{regroup}
 use Rattle.grammar.specs.PairLaws.{few-headers, few-tails}
 use Rattle.grammar.specs.Places.{wide, headersIn, trailersIn}
 use Rattle.grammar.specs.Named.{placed, placedIn}
+use Rattle.walk.specs.SectionLaws.{plain-content}
 use Rattle.walk.specs.RunLaws.{answerFrom, verdict-by}
 use Rattle.walk.specs.declared.sections.Layout.{Layout}
 use Rattle.finding.specs.Finding.{FoundIs, WholeBy, SeeksBy}
@@ -166,6 +168,10 @@ module _ (s m : List ℕ) {g : Begun} where
               ordered = placed-every (x .syntax .service) (x .at) u m okMessage ms (k .3 .0) (b .valid .inOrder .0);
               few = (omega (arith, h, k .3 .1 .headers), omega (arith, h, j, k .3 .1 .trailers), k .3 .1 .starts .long);
             }
+
+-- a name that is content already
+pub named-plain : (s m t rows : List ℕ) (r : Named) → NamedIs s (content 32 m) r t rows → NamedIs s m r t rows
+named-plain s m t rows r q = subst (λ (k : List ℕ). NamedIs s k r t rows) (plain-content m) q
 
 -- what is told, by the case of the answer
 module _ (s m t rows : List ℕ) {r : Named} (n : NamedIs s m r t rows) where

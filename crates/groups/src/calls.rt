@@ -1,6 +1,7 @@
 // The message that a call names: the interchange is begun, judged, and the message found.
 ghost use mathlib.Core.Path.{_≡_};
 ghost use lib.ListN.{length};
+ghost use Rattle.syntax.specs.Content.{content};
 ghost use Rattle.syntax.specs.Refusals.{atZero};
 ghost use Rattle.groups.specs.Calls.{NamedIs};
 use beginning::begin;
@@ -36,10 +37,11 @@ pub fn missing() -> Refusal
     }
 }
 
-// The message with the 0062 `message`, for any octets. The class table is put into `t`, and where the message's groups start into `rows`.
-pub fn message_named(s: &[u8], message: &[u8], t: &mut [u8; 256], rows: &mut [usize; 18]) -> Named
+// The message whose 0062 has the content of `message` under the release `other`, for any octets. The class table is put into `t`, and where the
+// message's groups start into `rows`.
+pub fn message_like(s: &[u8], message: &[u8], other: u8, t: &mut [u8; 256], rows: &mut [usize; 18]) -> Named
     requires { ⌜ length (now rows) ≡ 18 ⌝ }
-    ensures { λ r. ⌜ NamedIs (now (s .entry)) (now (message .entry)) r (now (t .exit)) (now (rows .exit)) ⌝ }
+    ensures { λ r. ⌜ NamedIs (now (s .entry)) (content other (now (message .entry))) r (now (t .exit)) (now (rows .exit)) ⌝ }
 {
     match begin(s) {
         Begun::Refused(f) => Named::Refused(refusal(s, f)),
@@ -47,7 +49,7 @@ pub fn message_named(s: &[u8], message: &[u8], t: &mut [u8; 256], rows: &mut [us
             let y = b.syntax;
             let at = b.at;
             *t = table(y);
-            match find(s, at, t, y, message, rows) {
+            match find(s, at, t, y, message, other, rows) {
                 Found::Message(c) => Named::Message(Opened {
                     syntax: y,
                     layout: c,
@@ -57,4 +59,12 @@ pub fn message_named(s: &[u8], message: &[u8], t: &mut [u8; 256], rows: &mut [us
             }
         }
     }
+}
+
+// The message with the 0062 `message`, which is content already: no octet of it is a release.
+pub fn message_named(s: &[u8], message: &[u8], t: &mut [u8; 256], rows: &mut [usize; 18]) -> Named
+    requires { ⌜ length (now rows) ≡ 18 ⌝ }
+    ensures { λ r. ⌜ NamedIs (now (s .entry)) (now (message .entry)) r (now (t .exit)) (now (rows .exit)) ⌝ }
+{
+    message_like(s, message, 32, t, rows)
 }

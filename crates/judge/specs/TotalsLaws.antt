@@ -1,13 +1,15 @@
 -- Laws of the totals of the message that a call names.
 use Prim.Native.Nat.{ℕ, _+_}
-use mathlib.Core.Path.{_≡_, refl, ap, sym, _∙_}
+use mathlib.Core.Path.{_≡_, refl, ap, sym, _∙_, subst}
 use mathlib.Core.Bool.{Bool, true, false, cond}
 use mathlib.Core.List.{List}
 use mathlib.Core.Option.{Option, some}
+use Rattle.syntax.specs.Content.{content}
 use Rattle.syntax.specs.Octets.{same}
 use Rattle.syntax.specs.Opening.{begunOf}
 use Rattle.syntax.specs.Refusals.{refusalAt}
 use Rattle.syntax.specs.declared.Breach.{Breach}
+use Rattle.syntax.specs.declared.Syntax.{Syntax}
 use Rattle.syntax.specs.declared.Refusal.{Refusal}
 use Rattle.syntax.specs.declared.Service.{Service}
 use Rattle.syntax.specs.declared.opening.Start.{Start as Opening}
@@ -20,6 +22,7 @@ use Rattle.grammar.specs.Rules.{refM}
 use Rattle.grammar.specs.Places.{wide}
 use Rattle.grammar.specs.Named.{Placed, placed, placedIn, totalsAt}
 use Rattle.grammar.specs.Verdict.{Verdict, verdictBy, loadsM, Totals, totalled, refusedTotals, totalsIn, totalsBy, totalsOf, totalNumbers}
+use Rattle.walk.specs.SectionLaws.{plain-content}
 use Rattle.walk.specs.RunLaws.{verdict-by}
 use Rattle.finding.specs.Finding.{FoundIs}
 use Rattle.finding.specs.declared.Found.{Found}
@@ -54,6 +57,11 @@ module _ (s r : List ℕ) where
       sym (ap (λ (v : Verdict). totalsAs (totalsBy v r)) (verdict-by s e d (q .3 .0))
       ∙ ap totalsAs (totals-placed (b .syntax .service) (b .at) (q .0) (q .1) r) ∙ ap (λ (o : Option Placed). totalsAs (totalsAt o)) (k .3 .0)
       ∙ rw (k .3 .1 .loads, k .3 .1 .grams))
+
+  -- a name that is content already
+  pub totals-plain : {b : Opening} {g : Begun} (f : Found) (rows : List ℕ) → g ≡ begunOf s → g ≡ Begins b → FoundIs (b .syntax) s (b .at) (content 32 r) f rows
+      → totalledBy s f ≡ totalsAs (totalsOf s r)
+  totals-plain {b} f rows e d q = totals-found f rows e d (subst (λ (k : List ℕ). FoundIs (b .syntax) s (b .at) k f rows) (plain-content r) q)
 
 -- what the call promises: the answer, and with it the numbers
 pub totals-promised : {a : Totalled} (t : Totals) → a ≡ totalsAs t → (a ≡ totalsAs t) × (toldTotals a ≡ totalNumbers t)

@@ -48,7 +48,7 @@ pub fn message_totals(s: &[u8], reference: &[u8]) -> Totals
             let at = b.at;
             let t = table(y);
             let mut rows = [0usize; 18];
-            totalled(s, find(s, at, &t, y, reference, &mut rows))
+            totalled(s, find(s, at, &t, y, reference, 32, &mut rows))
         }
     }
 }

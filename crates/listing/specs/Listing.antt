@@ -11,7 +11,7 @@ use Rattle.syntax.specs.declared.Service.{Service}
 use Rattle.grammar.specs.Lists.{Snoc, nil, _▷_, size}
 use Rattle.grammar.specs.Grams.{sum}
 use Rattle.grammar.specs.Segments.{unb0020Text, unh0062Text, unh0065, ush0534Text, ush0541}
-use Rattle.grammar.specs.Interchange.{Leaf, Header, Trailer, Open, msg, Message, message, idle, shown, showHeader, showBody}
+use Rattle.grammar.specs.Interchange.{header, Leaf, Header, Trailer, Open, msg, Message, message, idle, shown, showHeader, showBody}
 use Rattle.grammar.specs.Rules.{refH, refO}
 use Rattle.grammar.specs.Valid.{interchange, openingIn}
 use Rattle.grammar.specs.Verdict.{Verdict, accepted, refusedWith, verdictOf, loadsM}

@@ -190,7 +190,7 @@ Tells s out (Refused f) out′ = verdictOf s ≡ refusedWith f
 
 module _ (s : List ℕ) (x : Start) (e : begunOf s ≡ Begins x) where
   tells : (out : List ℕ) (r : Written) (out′ : List ℕ) → LaysAll (x .syntax) s (x .at) out r out′ → Tells s out r out′
-  tells out (Refused f) out′ q = refused-so (verdict-by s refl e refl) q
+  tells out (Refused f) out′ q = refused-so s (unaAt s) (answerFrom (x .syntax) s (x .at)) (verdict-by s refl e refl) q
   tells out (Length n) out′ q = by (q .0) (q .1) (q .2) (q .3 .0) (q .3 .1)
     where
       by : (u : Leaf) (ms : Snoc Message) (z : Leaf) → answerFrom (x .syntax) s (x .at) ≡ read (done u ms z)

@@ -13,5 +13,5 @@ abbrev pub RefusedBy : List ℕ → Answer → Refusal → Type 0
 RefusedBy s a f = (n : ℕ) × (p : ℕ) × (a ≡ refused n p) × (f ≡ refusalAt s n p)
 
 -- such a walk concludes with that refusal
-pub refused-so : {s : List ℕ} {u : Option Una} {a : Answer} {f : Refusal} {v : Verdict} → v ≡ concluded s u a → RefusedBy s a f → v ≡ refusedWith f
-refused-so {s} {u} e q = e ∙ ap (concluded s u) (q .2) ∙ ap refusedWith (sym (q .3))
+pub refused-so : (s : List ℕ) (u : Option Una) (a : Answer) {f : Refusal} {v : Verdict} → v ≡ concluded s u a → RefusedBy s a f → v ≡ refusedWith f
+refused-so s u a e q = e ∙ ap (concluded s u) (q .2) ∙ ap refusedWith (sym (q .3))

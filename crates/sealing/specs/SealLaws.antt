@@ -13,6 +13,7 @@ use Rattle.syntax.specs.Refusals.{atZero}
 use Rattle.syntax.specs.Octets.{every, within}
 use Rattle.syntax.specs.RepertoireLaws.{and-l, and-r}
 use Rattle.syntax.specs.CuttingLaws.{slice-take}
+use Rattle.syntax.specs.declared.Refusal.{Refusal}
 use Rattle.syntax.specs.declared.Syntax.{Syntax}
 use Rattle.grammar.specs.Interchange.{message}
 use Rattle.grammar.specs.Valid.{Interchange, syntaxIn}
