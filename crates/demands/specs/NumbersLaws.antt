@@ -159,12 +159,10 @@ verdict-number s = by (begunOf s) (begun-number s)
         (walk-number (x .syntax) start (chain (x .syntax .service) false (drop (x .at) s)) (x .at))
 
 pub refused-number : (s : List ℕ) (f : Refusal) → verdictOf s ≡ refusedWith f → (1 ≤ f .number) × (f .number ≤ 12)
-refused-number s f e = by (leb 1 n) (leb-true 1 n) (leb n 12) (leb-true n 12) (subst OfVerdict e (verdict-number s))
+refused-number s f e =
+    by (leb 1 (f .number)) (leb-true 1 (f .number)) (leb (f .number) 12) (leb-true (f .number) 12) (subst OfVerdict e (verdict-number s))
   where
-    abbrev n : ℕ
-    n = f .number
-
-    by : (a : Bool) → (a ≡ true → 1 ≤ n) → (b : Bool) → (b ≡ true → n ≤ 12) → T (a && b) → (1 ≤ n) × (n ≤ 12)
-    by true f true g h = (f refl, g refl)
-    by true f false g h = absurd h
-    by false f b g h = absurd h
+    by : (a : Bool) → (a ≡ true → 1 ≤ f .number) → (b : Bool) → (b ≡ true → f .number ≤ 12) → T (a && b) → (1 ≤ f .number) × (f .number ≤ 12)
+    by true k true g h = (k refl, g refl)
+    by true k false g h = absurd h
+    by false k b g h = absurd h

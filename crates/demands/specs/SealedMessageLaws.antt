@@ -129,7 +129,7 @@ module _ (r : List ℕ) (f : ℕ) (σ : Service) (t : List ℕ) (u : Leaf) (hs :
         ),
         (k .1 .0, every-front (one (tr ▷ r)) r hr (last-among tr) (longer r tr hr (k .1 .1))),
       ) in
-      subst (λ (s : List ℕ). holds (refsAs (each refH (front (newHeader r f) hs)) (each refT ts ▷ refT (newTrailer σ r t)) (same s (unh0062 u)))) (sym (grown-unt0062 n))
+      subst (λ (s : List ℕ). holds (refsAs (each refH (front (newHeader r f) hs)) (each refT ts ▷ refT (newTrailer σ r t)) (same s (unh0062 u)))) (sym (grown-0062 n))
       (subst (λ (x : List ℕ). holds (refsAs (each refH (front (newHeader r f) hs)) (each refT ts ▷ x) (same (unt0062 n) (unh0062 u)))) (sym (ref-trailer σ r t))
       (subst (λ (x : Snoc (List ℕ)). holds (refsAs x (each refT ts ▷ r) (same (unt0062 n) (unh0062 u)))) (sym eh) w))
     where

@@ -28,6 +28,7 @@ ghost use Rattle.writing.specs.declared.Written.the-variants.{Length};
 ghost use Rattle.values.specs.Values.{valueOf};
 ghost use Rattle.sealing.specs.Sealing.{sealOf};
 ghost use Rattle.register.specs.Register.{registerOf, checkNumbers, told};
+ghost use Rattle.register.specs.declared.forms.Form.the-variants.{Old};
 ghost use Rattle.register.specs.declared.register.Checked.the-variants.{Same};
 ghost use Rattle.demands.specs.Printed.{Scope1, Scope2, F01};
 ghost use Rattle.demands.specs.Sealed.{Accepted, Signed, Kept};
@@ -114,8 +115,9 @@ pub fn sealed_keeps_ranges()
 // D2e. The check call accepts exactly what the write call writes. Left is what `register_check` promises, with the answer `Same`; right what
 // `register_write` promises, with the answer the length of g, and a lent buffer that now starts with g. The buffer is any that has room for g.
 // A register longer than 65,535 octets (more than 3,276 messages) is not written (15), and the check accepts none there: it answers 13.
+// `Old` is document 01's form of a register, the one that there is.
 pub fn check_accepts_written()
-    ensures { λ _. ⌜ ((s g out : List ℕ) → length g ≤ length out → (told Same ≡ checkNumbers (registerOf s) g) ↔ Writes (registerOf s) out (Length (length g)) (g ++ drop (length g) out)) ⌝ }
+    ensures { λ _. ⌜ ((s g out : List ℕ) → length g ≤ length out → (told Same ≡ checkNumbers (registerOf Old s) g) ↔ Writes (registerOf Old s) out (Length (length g)) (g ++ drop (length g) out)) ⌝ }
 {}
 
 // D3. "Equal sealed octets mean equal readings". Scope 1: the header group, then the body, joined. Octets have at most one reading under the

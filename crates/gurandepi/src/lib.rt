@@ -12,6 +12,7 @@ ghost use Rattle.writing.specs.Written.{toldWritten};
 ghost use Rattle.values.specs.Values.{valueOf};
 ghost use Rattle.sealing.specs.Sealing.{sealOctetsOf, sealOf};
 ghost use Rattle.register.specs.Register.{registerOf, checkNumbers, told as toldChecked};
+ghost use Rattle.register.specs.declared.forms.Form.the-variants.{Old};
 ghost use Rattle.gurandepi.specs.Answers.{answerFields, totalsFields, partsFields, rangeFields, Gives, writtenFields};
 use f01::f01_places;
 use judge::run::Verdict;
@@ -266,7 +267,7 @@ pub extern "C" fn gurandepi_seal(
 // The register of an interchange, into `out`.
 #[no_mangle]
 pub extern "C" fn gurandepi_register_write(interchange: &[u8], out: &mut [u8]) -> Written
-    ensures { λ r. ⌜ Gives (registerOf (now (interchange .entry))) (now (out .entry)) r (now (out .exit)) ⌝ }
+    ensures { λ r. ⌜ Gives (registerOf Old (now (interchange .entry))) (now (out .entry)) r (now (out .exit)) ⌝ }
 {
     written_answer(register_write(interchange, out))
 }
@@ -274,7 +275,7 @@ pub extern "C" fn gurandepi_register_write(interchange: &[u8], out: &mut [u8]) -
 // Whether `register` is the register of the interchange.
 #[no_mangle]
 pub extern "C" fn gurandepi_register_check(interchange: &[u8], register: &[u8]) -> Answer
-    ensures { λ r. ⌜ answerFields r ≡ checkNumbers (registerOf (now (interchange .entry))) (now (register .entry)) ⌝ }
+    ensures { λ r. ⌜ answerFields r ≡ checkNumbers (registerOf Old (now (interchange .entry))) (now (register .entry)) ⌝ }
 {
     checked_answer(register_check(interchange, register))
 }

@@ -2,80 +2,75 @@
 use Prim.Native.Nat.{ℕ, zero, suc, _+_, _-_, _*_, _/_, _%_, _≤_, _<_}
 use native.Mathlib.Omega.{arith}
 use mathlib.Core.Bool.{Bool, true, false, cond}
-use mathlib.Core.List.{List, [], _∷_, _++_, append-nil}
+use mathlib.Core.List.{List, [], _∷_, _++_, append-assoc, append-nil}
 use mathlib.Core.Path.{_≡_, refl, ap, sym, _∙_, subst}
-use lib.ListN.{length, length-append}
+use lib.ListN.{length, length-append, replicate}
 use lib.Seq.{slice}
 use Rattle.syntax.specs.CuttingLaws.{slice-take}
 use borrow.Author.Tests.{lt-ltb, le-ltb}
 use Rattle.syntax.specs.Octets.{same}
 use Rattle.syntax.specs.Content.{content}
 use Rattle.syntax.specs.Opening.{begunOf}
+use Rattle.syntax.specs.Refusals.{refusalAt, atZero}
+use Rattle.syntax.specs.declared.Breach.{Breach}
 use Rattle.syntax.specs.declared.Refusal.{Refusal}
 use Rattle.syntax.specs.declared.Service.{Service}
 use Rattle.syntax.specs.declared.Syntax.{Syntax}
-use Rattle.syntax.specs.declared.opening.Start.{Start}
 use Rattle.syntax.specs.declared.opening.Begun.{Begun}
-use Rattle.syntax.specs.declared.opening.Begun.the-variants.{Ready as Begins, Refused as Refuses}
-use Rattle.grammar.specs.Lists.{Snoc, nil, _▷_, size}
-use Rattle.grammar.specs.Grams.{sum}
-use Rattle.grammar.specs.Interchange.{Leaf, Open, Message, message, Reading, idle, done, shown, showMessage}
+use Rattle.syntax.specs.declared.opening.Begun.the-variants.{Refused as Refuses}
+use Rattle.grammar.specs.Interchange.{Leaf, Open, message, Reading, idle, shown, showMessage}
 use Rattle.grammar.specs.Places.{wide}
 use Rattle.grammar.specs.Valid.{Interchange, interchange, openingIn}
-use Rattle.grammar.specs.Verdict.{Verdict, read, refused, accepted, verdictOf, verdictBy, unaAt, loadsM}
+use Rattle.grammar.specs.Verdict.{read, refused, accepted, refusedWith, verdictOf, verdictBy, unaAt}
 use Rattle.turns.specs.declared.state.State.{State}
-use Rattle.walk.specs.RunLaws.{Fresh, answerFrom, Walking, ReadAll, unreadAs, verdict-by}
+use Rattle.walk.specs.RunLaws.{Fresh, answerFrom, Walking, ReadAll, unreadAs, verdict-by, begun-fits, fresh-tables}
 use Rattle.walk.specs.Sections.{Laid as LaidOut, Stays, begins, ends, breaks, SectionBy, Passing}
 use Rattle.walk.specs.SectionLaws.{plain-content, Looping, looping-start, looping-on, unread-start}
 use Rattle.walk.specs.declared.sections.Layout.{Layout}
 use Rattle.walk.specs.declared.sections.Section.{Section}
 use Rattle.groups.specs.CallsLaws.{begins as begun-so}
 use Rattle.writing.specs.Laid.{Laid}
-use Rattle.writing.specs.LaidLaws.{laid-same, laid-length, laid-part, laid-more, laid-none}
+use Rattle.writing.specs.LaidLaws.{laid-same, laid-part, laid-more, laid-none}
 use Rattle.writing.specs.Written.{Text, text, noText, refusedAs, Writes, tooLong}
-use Rattle.writing.specs.WrittenLaws.{writes-none, writes-over, writes-fit}
+use Rattle.writing.specs.WrittenLaws.{writes-as, writes-none, writes-over, writes-fit}
 use Rattle.writing.specs.declared.Written.{Written}
 use Rattle.writing.specs.declared.Written.the-variants.{Length, Refused}
-use Rattle.register.specs.Register.{highest, entryOf, entriesOf, registerBy, registerOf, entryAt, sectionAt, entriesRead, LaysAll, checkRefused, checkedAs}
+use Rattle.register.specs.Register.{highest, countText, entryText, entriesText, registerText, entryOf, entriesOf, entriesIn, registerBy, registerOf, checkedAs}
+use Rattle.register.specs.Laying.{BeginsAt, entryAt, sectionAt, entriesRead, noneFrom, Adds, LaysEntries, LaysAll, Measured, MeasuredAs, Lays}
+use Rattle.register.specs.declared.forms.Form.{Form}
+use Rattle.register.specs.declared.forms.Form.the-variants.{Old}
+use Rattle.register.specs.declared.forms.Entry.{Entry}
+use Rattle.register.specs.declared.entries.Extent.{Extent}
+use Rattle.register.specs.declared.register.Entries.{Entries}
+use Rattle.register.specs.declared.register.Entries.the-variants.{Of, Refused as Unread}
 use Rattle.register.specs.declared.register.Checked.the-variants.{Same, Refused as Differs}
 
--- ---- lengths
+-- ---- lengths: what a form takes at most
 
-pub highest-length : (k n : ℕ) → length (highest k n) ≡ k
+highest-length : (k n : ℕ) → length (highest k n) ≡ k
 highest-length zero n = refl
 highest-length (suc k) n = ap suc (highest-length k n)
 
 four-parts : (a b c d : List ℕ) → length (a ++ b ++ c ++ d) ≡ length a + length b + length c + length d
 four-parts a b c d = omega (arith, length-append (a ++ b ++ c) d, length-append (a ++ b) c, length-append a b)
 
-pub entry-length : (c : Layout) → length (entryAt c) ≡ 20
-entry-length c =
+pub count-short : (f : Form) (n : ℕ) → length (countText f n) ≤ 4
+count-short Old n = omega (arith, highest-length 4 n)
+
+entry-short : (f : Form) (e : Entry) → length (entryText f e) ≤ 20
+entry-short Old e =
     omega (
       arith,
-      four-parts (highest 4 (c .unh)) (highest 4 (c .end - c .unh)) (highest 4 (c .loads)) (highest 8 (c .grams)),
-      highest-length 4 (c .unh),
-      highest-length 4 (c .end - c .unh),
-      highest-length 4 (c .loads),
-      highest-length 8 (c .grams),
+      four-parts (highest 4 (e .place)) (highest 4 (e .length)) (highest 4 (e .loads)) (highest 8 (e .grams)),
+      highest-length 4 (e .place),
+      highest-length 4 (e .length),
+      highest-length 4 (e .loads),
+      highest-length 8 (e .grams),
     )
 
-module _ (σ : Service) (p : ℕ) (u : Leaf) where
-  one-length : (q : ℕ) (m : Message) → length (entryOf σ q m) ≡ 20
-  one-length q m =
-      omega (
-        arith,
-        four-parts (highest 4 q) (highest 4 (wide σ (showMessage m))) (highest 4 (size (loadsM m))) (highest 8 (sum (loadsM m))),
-        highest-length 4 q,
-        highest-length 4 (wide σ (showMessage m)),
-        highest-length 4 (size (loadsM m)),
-        highest-length 8 (sum (loadsM m)),
-      )
-
-  pub entries-length : (ms : Snoc Message) → length (entriesOf σ p u ms) ≡ 20 * size ms
-  entries-length nil = refl
-  entries-length (ms ▷ m) =
-      omega
-      (arith, entries-length ms, length-append (entriesOf σ p u ms) (entryOf σ (p + wide σ (shown (idle u ms))) m), one-length (p + wide σ (shown (idle u ms))) m)
+entries-short : (f : Form) (es : List Entry) → length (entriesText f es) ≤ 20 * length es
+entries-short f [] = omega arith
+entries-short f (e ∷ es) = omega (arith, length-append (entryText f e) (entriesText f es), entry-short f e, entries-short f es)
 
 -- ---- numbers in octets
 
@@ -88,39 +83,76 @@ pub eight-laid : (n : ℕ) {a b c d i j k m : ℕ} {out out′ : List ℕ} {at r
     → Laid out at (a ∷ b ∷ c ∷ d ∷ i ∷ j ∷ k ∷ m ∷ []) r out′ → Laid out at (highest 8 n) r out′
 eight-laid n e f g h e′ f′ g′ h′ l = laid-same (rw (e, f, g, h, e′, f′, g′, h′)) l
 
-pub section-entry : {b : Bool} (c : Layout) {out out′ : List ℕ} {at r : ℕ} → b ≡ true → Laid out at (entryAt c) r out′ → Laid out at (sectionAt c b) r out′ × (r ≤ at + 20)
-section-entry {b} c {out} {out′} {at} {r} e l = (subst (λ (k : Bool). Laid out at (sectionAt c k) r out′) (sym e) l, omega (arith, l .place, entry-length c))
+-- what is laid in the old form is laid in the form asked for: there is no other
+pub count-laid : (f : Form) (n : ℕ) {out out′ : List ℕ} {at r : ℕ} → Laid out at (countText Old n) r out′ → Laid out at (countText f n) r out′
+count-laid Old n l = l
 
-pub section-none : {b : Bool} (c : Layout) (out : List ℕ) (at : ℕ) → b ≡ false → Laid out at (sectionAt c b) at out × (at ≤ at + 20)
-section-none {b} c out at e = (subst (λ (k : Bool). Laid out at (sectionAt c k) at out) (sym e) laid-none, omega arith)
+pub entry-laid : (f : Form) (e : Entry) {out out′ : List ℕ} {at r : ℕ} → Laid out at (entryText Old e) r out′ → Laid out at (entryText f e) r out′
+entry-laid Old e l = l
+
+-- ---- entries laid one after the other
+
+entries-joined : (f : Form) (es gs : List Entry) → entriesText f (es ++ gs) ≡ entriesText f es ++ entriesText f gs
+entries-joined f [] gs = refl
+entries-joined f (e ∷ es) gs = ap (λ (t : List ℕ). entryText f e ++ t) (entries-joined f es gs) ∙ sym (append-assoc (entryText f e) (entriesText f es) (entriesText f gs))
+
+adds-same : {f : Form} {out out′ : List ℕ} {x r : Extent} {es gs : List Entry} → es ≡ gs → Adds f out x es r out′ → Adds f out x gs r out′
+adds-same e a = rw e at a
+
+adds-none : {f : Form} {out : List ℕ} {x : Extent} → Adds f out x [] x out
+adds-none = record { count = omega arith; laid = laid-none }
+
+adds-more : {f : Form} {out out₁ out′ : List ℕ} {x z r : Extent} {es gs : List Entry} → Adds f out x es z out₁ → Adds f out₁ z gs r out′ → Adds f out x (es ++ gs) r out′
+adds-more {f} {es = es} {gs = gs} a b =
+    record { count = omega (arith, a .count, b .count, length-append es gs); laid = laid-same (sym (entries-joined f es gs)) (laid-more (a .laid) (b .laid)) }
+
+-- so many messages, and at most 20 octets for each
+adds-short : {f : Form} {out out′ : List ℕ} {x r : Extent} {es : List Entry} → Adds f out x es r out′ → r .end + 20 * x .count ≤ x .end + 20 * r .count
+adds-short {f} {es = es} a = omega (arith, a .count, a .laid .place, entries-short f es)
+
+pub section-entry : {f : Form} {b : Bool} (c : Layout) {out out′ : List ℕ} {x r : Extent} {e : Entry} → b ≡ true → e ≡ entryAt c → r .count ≡ x .count + 1 → Laid out (x .end) (entryText f e) (r .end) out′
+    → Adds f out x (sectionAt c b) r out′
+section-entry {f} {b} c {out} {out′} {x} {r} {e} d q n l =
+    subst (λ (k : Bool). Adds f out x (sectionAt c k) r out′) (sym d)
+    (adds-same (ap (λ (e : Entry). e ∷ []) q) (record { count = n; laid = laid-same (sym (append-nil (entryText f e))) l }))
+
+pub section-none : {f : Form} {b : Bool} (c : Layout) {out : List ℕ} {x : Extent} → b ≡ false → Adds f out x (sectionAt c b) x out
+section-none {f} c {out} {x} d = subst (λ (k : Bool). Adds f out x (sectionAt c k) x out) (sym d) adds-none
 
 -- ---- an entry is what the layout says
 
-pub entry-laid : (σ : Service) (s : List ℕ) (q : ℕ) (o : Open) (t : Leaf) (c : Layout) (rows : List ℕ) → LaidOut σ s q o t c rows → entryAt c ≡ entryOf σ q (message o t)
-entry-laid σ s q o t c rows l =
+entry-so : (σ : Service) (s : List ℕ) (q : ℕ) (o : Open) (t : Leaf) (c : Layout) (rows : List ℕ) → LaidOut σ s q o t c rows → entryAt c ≡ entryOf σ q (message o t)
+entry-so σ s q o t c rows l =
     let e : c .end - c .unh ≡ wide σ (showMessage (message o t)) = omega (arith, l .unh, l .unt, l .end) in
-    rw (l .unh, l .loads, l .grams) (rest (l .unh) e)
+    entry-one (l .unh) e (l .loads) (l .grams)
   where
-    rest : c .unh ≡ q → c .end - c .unh ≡ wide σ (showMessage (message o t))
-        → highest 4 q ++ highest 4 (c .end - q) ++ highest 4 (size (loadsM (message o t))) ++ highest 8 (sum (loadsM (message o t))) ≡ entryOf σ q (message o t)
-    rest d e = let f : c .end - q ≡ wide σ (showMessage (message o t)) = omega (arith, d, e) in ap (λ (n : ℕ). highest 4 q ++ highest 4 n ++ highest 4 (size (loadsM (message o t))) ++ highest 8 (sum (loadsM (message o t)))) f
+    entry-one : {a b d e a′ b′ d′ e′ : ℕ} → a ≡ a′ → b ≡ b′ → d ≡ d′ → e ≡ e′
+        → _≡_ {A = Entry} (record { place = a; length = b; loads = d; grams = e }) (record { place = a′; length = b′; loads = d′; grams = e′ })
+    entry-one p q r s = rw (p, q, r, s)
 
-pub laid-forward : {σ : Service} {s : List ℕ} {q : ℕ} {o : Open} {t : Leaf} {c : Layout} {rows : List ℕ} → LaidOut σ s q o t c rows → c .unh ≤ c .end
+laid-forward : {σ : Service} {s : List ℕ} {q : ℕ} {o : Open} {t : Leaf} {c : Layout} {rows : List ℕ} → LaidOut σ s q o t c rows → c .unh ≤ c .end
 laid-forward l = omega (arith, l .unh, l .unt, l .end)
 
--- ---- the walk: what holds at its head
+-- ---- the walk: what it starts with, and what holds at its head
 
-pub record Registering (y : Syntax) (s : List ℕ) (from : ℕ) (x : State) (h l b : List ℕ) (i : ℕ) (m rows l₀ b₀ out₀ : List ℕ) (out : List ℕ) (p : ℕ) : Type 0 where
+pub begun-short : (y : Syntax) (s : List ℕ) (from : ℕ) → BeginsAt y s from → length s ≤ 65535
+begun-short y s from e = begun-fits s refl e .1
+
+pub begun-fresh : (m k : ℕ) (y : Syntax) (s : List ℕ) (from : ℕ) {l b : List ℕ} → BeginsAt y s from → length s ≤ 4 * m → m < k → l ≡ replicate {A = ℕ} m 0 → b ≡ replicate {A = ℕ} k 0 → Fresh y s l b
+begun-fresh m k y s from e n z d c = let w = begun-fits s refl e in fresh-tables m k z d c (w .0) (w .1) n
+
+pub record Registering (f : Form) (p : ℕ) (y : Syntax) (s : List ℕ) (from : ℕ) (x : State) (h l b : List ℕ) (i : ℕ) (m rows l₀ b₀ out₀ : List ℕ) (out : List ℕ) (r : Extent) : Type 0 where
   pub looping : Looping y s from x h l b i m rows l₀ b₀
-  pub near : p ≤ 4 + 20 * i
-  pub same : length out ≡ length out₀
-  pub laid : Laid out₀ 4 (entriesRead (y .service) from (looping .walks .tree)) p out
+  pub few : r .count ≤ i
+  pub inside : r .count ≤ length s
+  pub adds : Adds f out₀ (noneFrom p) (entriesRead (y .service) from (looping .walks .tree)) r out
 
-pub registering-start : {y : Syntax} {s : List ℕ} {from : ℕ} {x : State} {h l b m rows out : List ℕ} → Fresh y s l b → (length m ≡ 40) × (length h ≡ 36) × (length rows ≡ 18)
-    → x ≡ unreadAs → Registering y s from x h l b from m rows l b out out 4
-registering-start {y} {from = from} f n e =
-    let g = looping-start f n e in
-    record { looping = g; near = omega arith; same = refl; laid = laid-same (sym (ap (entriesRead (y .service) from) (unread-start (g .walks) e))) laid-none }
+pub registering-start : {f : Form} {p : ℕ} {y : Syntax} {s : List ℕ} {from : ℕ} {x : State} {h l b m rows out : List ℕ} {r : Extent} → Fresh y s l b → (length m ≡ 40) × (length h ≡ 36) × (length rows ≡ 18)
+    → x ≡ unreadAs → r ≡ noneFrom p → Registering f p y s from x h l b from m rows l b out out r
+registering-start {f} {p} {y} {s} {from} {x} {h} {l} {b} {m} {rows} {out} k n e d =
+    let g = looping-start k n e in
+    subst (λ (r : Extent). Registering f p y s from x h l b from m rows l b out out r) (sym d)
+    (record { looping = g; few = omega arith; inside = omega arith; adds = adds-same (sym (ap (entriesRead (y .service) from) (unread-start (g .walks) e))) adds-none })
 
 stays-read : (σ : Service) (p : ℕ) {x z : Reading} → Stays x z → entriesRead σ p x ≡ entriesRead σ p z
 stays-read σ p (begins u) = refl
@@ -135,159 +167,163 @@ module _ {y : Syntax} {s : List ℕ} {from : ℕ} {x : State} {h l b : List ℕ}
         by : SectionBy true y s i (w .tree) (g .walks .tree) (c .layout) rows → c .layout .unh ≤ c .layout .end
         by v = laid-forward (v .4 .2)
 
-    entries-on : {out₀ out out′ : List ℕ} {p r : ℕ} → Laid out₀ 4 (entriesRead (y .service) from (w .tree)) p out → Laid out p (sectionAt (c .layout) (c .closed)) r out′
-        → Laid out₀ 4 (entriesRead (y .service) from (g .walks .tree)) r out′
-    entries-on {out₀} {out} {out′} {p} {r} q d = by (c .closed) (g .by) d
+    -- a section brings its entries
+    read-on : entriesRead (y .service) from (w .tree) ++ sectionAt (c .layout) (c .closed) ≡ entriesRead (y .service) from (g .walks .tree)
+    read-on = by (c .closed) (g .by)
       where
-        by : (k : Bool) → SectionBy k y s i (w .tree) (g .walks .tree) (c .layout) rows → Laid out p (sectionAt (c .layout) k) r out′
-            → Laid out₀ 4 (entriesRead (y .service) from (g .walks .tree)) r out′
-        by false j d = laid-same (append-nil (entriesRead (y .service) from (w .tree)) ∙ stays-read (y .service) from j) (laid-more q d)
-        by true j d =
+        by : (k : Bool) → SectionBy k y s i (w .tree) (g .walks .tree) (c .layout) rows
+            → entriesRead (y .service) from (w .tree) ++ sectionAt (c .layout) k ≡ entriesRead (y .service) from (g .walks .tree)
+        by false j = append-nil (entriesRead (y .service) from (w .tree)) ∙ stays-read (y .service) from j
+        by true j =
             let u = j .0 in
             let ms = j .1 in
-            let m = message (j .2) (j .3) in
             let n : i ≡ from + wide (y .service) (shown (idle u ms)) = w .placed ∙ ap (λ (t : Reading). from + wide (y .service) (shown t)) (j .4 .0) in
-            let t : entryAt (c .layout) ≡ entryOf (y .service) (from + wide (y .service) (shown (idle u ms))) m =
-            entry-laid (y .service) s i (j .2) (j .3) (c .layout) rows (j .4 .2) ∙ ap (λ (k : ℕ). entryOf (y .service) k m) n in
-            laid-same
-            (ap (λ (z : Reading). entriesRead (y .service) from z ++ entryOf (y .service) (from + wide (y .service) (shown (idle u ms))) m) (j .4 .0)
-            ∙ ap (entriesRead (y .service) from) (sym (j .4 .1)))
-            (laid-more q (laid-same t d))
+            let e : entryAt (c .layout) ≡ entryOf (y .service) (from + wide (y .service) (shown (idle u ms))) (message (j .2) (j .3)) =
+            entry-so (y .service) s i (j .2) (j .3) (c .layout) rows (j .4 .2) ∙ ap (λ (k : ℕ). entryOf (y .service) k (message (j .2) (j .3))) n in
+            ap (λ (z : Reading). entriesRead (y .service) from z ++ (entryAt (c .layout) ∷ [])) (j .4 .0)
+            ∙ ap (λ (e : Entry). entriesOf (y .service) from u ms ++ (e ∷ [])) e
+            ∙ ap (entriesRead (y .service) from) (sym (j .4 .1))
 
-pub registering-on : {y : Syntax} {s : List ℕ} {from : ℕ} {x : State} {h l b : List ℕ} {i : ℕ} {m rows l₀ b₀ out₀ : List ℕ} {out : List ℕ} {p : ℕ}
-    (g : Registering y s from x h l b i m rows l₀ b₀ out₀ out p)
-    → {c : Section} {h′ l′ b′ m′ rows′ out′ : List ℕ} {r : ℕ} → Passing (g .looping .walks) c h′ l′ b′ rows′ → length m′ ≡ 40 → length l′ ≡ length l → length b′ ≡ length b
-    → Laid out p (sectionAt (c .layout) (c .closed)) r out′ → r ≤ p + 20
-    → Registering y s from (c .state) h′ l′ b′ (c .next) m′ rows′ l₀ b₀ out₀ out′ r
-registering-on g v n a d e k = record {
-  looping = looping-on (g .looping) v n a d;
-  near = omega (arith, g .near, k, v .far);
-  same = laid-length e ∙ g .same;
-  laid = entries-on (g .looping .walks) v (g .laid) e;
-}
+module _ {f : Form} {p : ℕ} {y : Syntax} {s : List ℕ} {from : ℕ} {x : State} {h l b : List ℕ} {i : ℕ} {m rows l₀ b₀ out₀ : List ℕ} {out : List ℕ} {r : Extent}
+    (g : Registering f p y s from x h l b i m rows l₀ b₀ out₀ out r) where
+  -- there is room for the numbers of one entry more
+  pub registering-fits : p ≤ 65535 → i < length s → (r .count < 65536) × (r .end + 20 < 18446744073709551616)
+  registering-fits h k = (omega (arith, g .few, g .looping .walks .short), omega (arith, g .few, adds-short (g .adds), g .looping .walks .short))
 
--- all was read
-pub lays-told : {y : Syntax} {s : List ℕ} {from : ℕ} {x : State} {h l b : List ℕ} {i : ℕ} {m rows l₀ b₀ out₀ out′ : List ℕ} {p : ℕ}
-    (g : Registering y s from x h l b i m rows l₀ b₀ out₀ out′ p)
-    → ReadAll (g .looping .walks) → LaysAll y s from out₀ (Length p) out′
-lays-told {y} {s} {from} g a =
-    let t = a .1 in
-    let e = t .3 in
-    (t .0, t .1, t .2, (a .0 ∙ ap read e, laid-same (ap (entriesRead (y .service) from) e) (g .laid)))
+  pub registering-on : {c : Section} {h′ l′ b′ m′ rows′ out′ : List ℕ} {r′ : Extent} → i < length s → Passing (g .looping .walks) c h′ l′ b′ rows′ → length m′ ≡ 40 → length l′ ≡ length l → length b′ ≡ length b
+      → Adds f out r (sectionAt (c .layout) (c .closed)) r′ out′
+      → Registering f p y s from (c .state) h′ l′ b′ (c .next) m′ rows′ l₀ b₀ out₀ out′ r′
+  registering-on {c} k v n a d e =
+      let q : length (sectionAt (c .layout) (c .closed)) ≤ 1 = section-short (c .layout) (c .closed) in
+      record {
+        looping = looping-on (g .looping) v n a d;
+        few = omega (arith, g .few, q, e .count, v .far);
+        inside = omega (arith, g .few, q, e .count, k);
+        adds = adds-same (read-on (g .looping .walks) v) (adds-more (g .adds) e);
+      }
+    where
+      section-short : (c : Layout) (b : Bool) → length (sectionAt c b) ≤ 1
+      section-short c false = omega arith
+      section-short c true = omega arith
+
+  -- all was read
+  pub lays-told : BeginsAt y s from → ReadAll (g .looping .walks) → LaysAll f p s out₀ (Of r) out
+  lays-told e a =
+      let u = a .1 .0 in
+      let ms = a .1 .1 in
+      let i : Interchange = interchange (unaAt s) u ms (a .1 .2) in
+      let v : verdictOf s ≡ accepted i = verdict-by s refl e (a .0 ∙ ap read (a .1 .3)) in
+      let k = begun-so s i (record { syntax = y; at = from }) e v in
+      let n : entriesRead (y .service) from (g .looping .walks .tree) ≡ entriesIn i =
+      ap (entriesRead (y .service) from) (a .1 .3)
+      ∙ sym (ap (λ (σ : Service). entriesOf σ (openingIn (unaAt s) .at) u ms) (k .service) ∙ ap (λ (n : ℕ). entriesOf (y .service) n u ms) (k .at)) in
+      record { whole = i; accepts = v; few = omega (arith, g .inside, g .looping .walks .short); adds = adds-same n (g .adds) }
+
+pub lays-stopped : (y : Syntax) (s : List ℕ) (from : ℕ) (b : Breach) {w : Refusal} → BeginsAt y s from → answerFrom y s from ≡ refused (b .number) (b .place)
+    → w ≡ refusalAt s (b .number) (b .place) → verdictOf s ≡ refusedWith w
+lays-stopped y s from b e a k = verdict-by s refl e a ∙ ap refusedWith (sym k)
 
 -- ---- the register is measured, and then laid behind its count
 
--- what the walk reads, and the register of it
-pub record Whole (y : Syntax) (s : List ℕ) (p m : ℕ) : Type 0 where
-  pub u : Leaf
-  pub ms : Snoc Message
-  pub z : Leaf
-  pub reads : answerFrom y s p ≡ read (done u ms z)
-  pub long : m ≡ 4 + 20 * size ms
+-- by what `lay` and `measure` answer
+pub laid-all : (f : Form) (p : ℕ) (s out out′ : List ℕ) {a : Entries} {x : Extent} → a ≡ Of x → LaysAll f p s out a out′ → LaysEntries f p s out x out′
+laid-all f p s out out′ e g = subst (λ (a : Entries). LaysAll f p s out a out′) e g
 
-abbrev pub registerAt : Service → ℕ → Leaf → Snoc Message → List ℕ
-registerAt σ p u ms = highest 4 (size ms) ++ entriesOf σ p u ms
+pub laid-refused : (f : Form) (p : ℕ) (s out out′ : List ℕ) {a : Entries} {w : Refusal} → a ≡ Unread w → LaysAll f p s out a out′ → MeasuredAs f s (Unread w)
+laid-refused f p s out out′ e g = subst (λ (a : Entries). LaysAll f p s out a out′) e g
 
-register-length : (σ : Service) (p : ℕ) (u : Leaf) (ms : Snoc Message) → length (registerAt σ p u ms) ≡ 4 + 20 * size ms
-register-length σ p u ms = omega (arith, length-append (highest 4 (size ms)) (entriesOf σ p u ms), highest-length 4 (size ms), entries-length σ p u ms)
+pub measured : (f : Form) (s : List ℕ) {a v : Entries} → a ≡ v → MeasuredAs f s a → MeasuredAs f s v
+measured f s e g = subst (MeasuredAs f s) e g
 
-pub measured : {y : Syntax} {s : List ℕ} {p : ℕ} (out out′ : List ℕ) {r : Written} {m : ℕ} → r ≡ Length m → LaysAll y s p out r out′ → Whole y s p m
-measured {y} {s} {p} out out′ {r} {m} e g = by (subst (λ (r : Written). LaysAll y s p out r out′) e g)
-  where
-    by : LaysAll y s p out (Length m) out′ → Whole y s p m
-    by q = record {
-      u = q .0;
-      ms = q .1;
-      z = q .2;
-      reads = q .3 .0;
-      long = q .3 .1 .place ∙ ap (λ (n : ℕ). 4 + n) (entries-length (y .service) p (q .0) (q .1));
-    }
+module _ {f : Form} {s out out′ : List ℕ} {x : Extent} (g : LaysEntries f 0 s out x out′) {q : ℕ} {z z′ : List ℕ} (l : Laid z 0 (countText f (x .count)) q z′) where
+  pub measured-fits : q + x .end < 18446744073709551616
+  measured-fits = omega (arith, l .place, count-short f (x .count), g .few, adds-short (g .adds))
 
-done-one : {u v : Leaf} {ms ns : Snoc Message} {z w : Leaf} → read (done u ms z) ≡ read (done v ns w) → (u ≡ v) × (ms ≡ ns)
-done-one e = (cc, cc)
-
-pub long-enough : {y : Syntax} {s : List ℕ} {p m : ℕ} → Whole y s p m → 4 ≤ m
-long-enough w = omega (arith, w .long)
+  pub measured-so : Measured f s (record { count = x .count; end = q + x .end })
+  measured-so =
+      let es = entriesIn (g .whole) in
+      let n : x .count ≡ length es = omega (arith, g .adds .count) in
+      let c : length (countText f (x .count)) ≡ length (countText f (length es)) = ap (λ (k : ℕ). length (countText f k)) n in
+      record {
+        whole = g .whole;
+        accepts = g .accepts;
+        count = n;
+        long = omega (arith, l .place, c, g .adds .laid .place, length-append (countText f (length es)) (entriesText f es));
+      }
 
 -- the count, and the entries behind it
-pub filled : {y : Syntax} {s : List ℕ} {p m : ℕ} (w : Whole y s p m) {out out₁ : List ℕ} {n k : ℕ} → n ≡ (m - 4) / 20 → Laid out 0 (highest 4 n) k out₁
-    → (out′ : List ℕ) (r : Written) → LaysAll y s p out₁ r out′ → (r ≡ Length m) × Laid out 0 (registerAt (y .service) p (w .u) (w .ms)) m out′
-filled {y} {s} {p} {m} w {out} {out₁} {n} {k} e g out′ (Refused f) q =
-    let b : read (done (w .u) (w .ms) (w .z)) ≡ refused (f .number) (f .place) = sym (w .reads) ∙ q in
-    let v : _≡_ {A = ℕ} 0 1 = cc in
-    absurd (omega arith)
-filled {y} {s} {p} {m} w {out} {out₁} {n} {k} e g out′ (Length j) q =
-    let d = done-one (sym (q .3 .0) ∙ w .reads) in
-    let l : Laid out₁ 4 (entriesOf (y .service) p (w .u) (w .ms)) j out′ =
-    laid-same (ap (λ (v : Leaf). entriesOf (y .service) p v (q .1)) (d .0) ∙ ap (entriesOf (y .service) p (w .u)) (d .1)) (q .3 .1) in
-    let c : n ≡ size (w .ms) = omega (arith, e, w .long) in
-    let h : k ≡ 4 = omega (arith, g .place, highest-length 4 n) in
-    let i : j ≡ m = omega (arith, l .place, entries-length (y .service) p (w .u) (w .ms), w .long) in (
-      ap Length i,
-      subst (λ (v : ℕ). Laid out 0 (registerAt (y .service) p (w .u) (w .ms)) v out′) i
-          (laid-more (laid-same (ap (highest 4) c) g) (subst (λ (v : ℕ). Laid out₁ v (entriesOf (y .service) p (w .u) (w .ms)) j out′) (sym h) l)),
-    )
+pub filled : {f : Form} {s : List ℕ} {p : ℕ} {out₀ out out′ : List ℕ} {x z : Extent} → Measured f s x → Laid out₀ 0 (countText f (x .count)) p out → LaysEntries f p s out z out′
+    → Lays (registerOf f s) out₀ (Length (z .end)) out′
+filled {f} {out₀ = out₀} {out′ = out′} {x = x} {z = z} w l g =
+    let es = entriesIn (g .whole) in
+    let i : w .whole ≡ g .whole = accepted-one (sym (w .accepts) ∙ g .accepts) in
+    let n : x .count ≡ length es = w .count ∙ ap (λ (i : Interchange). length (entriesIn i)) i in
+    let d : Laid out₀ 0 (registerText f es) (z .end) out′ = laid-more (laid-same (ap (countText f) n) l) (g .adds .laid) in
+    let k : z .end ≡ length (registerText f es) = omega (arith, d .place) in
+    record { octets = registerText f es; is = ap (registerBy f) (g .accepts); answer = ap Length k; laid = rw k at d }
+  where
+    accepted-one : {i j : Interchange} → accepted i ≡ accepted j → i ≡ j
+    accepted-one e = cc
 
-module _ (s : List ℕ) (x : Start) (e : begunOf s ≡ Begins x) where
-  -- the register of the reading
-  pub register-so : {m : ℕ} (w : Whole (x .syntax) s (x .at) m) → registerOf s ≡ text (registerAt (x .syntax .service) (x .at) (w .u) (w .ms))
-  register-so w =
-      let i : Interchange = interchange (unaAt s) (w .u) (w .ms) (w .z) in
-      let v : verdictOf s ≡ accepted i = verdict-by s refl e (w .reads) in
-      let b = begun-so s i x e v in
-      ap registerBy v
-      ∙ ap (λ (σ : Service). text (highest 4 (size (w .ms)) ++ entriesOf σ (openingIn (unaAt s) .at) (w .u) (w .ms))) (b .service)
-      ∙ ap (λ (n : ℕ). text (highest 4 (size (w .ms)) ++ entriesOf (x .syntax .service) n (w .u) (w .ms))) (b .at)
+module _ (f : Form) (s : List ℕ) (w : Refusal) (e : MeasuredAs f s (Unread w)) where
+  unwritten : registerOf f s ≡ noText w
+  unwritten = ap (registerBy f) e
 
-  pub write-refused : (out none none′ : List ℕ) {r : Written} {f : Refusal} → r ≡ Refused f → LaysAll (x .syntax) s (x .at) none r none′ → Writes (registerOf s) out (Refused f) out
-  write-refused out none none′ {r} {f} d q =
-      subst (λ (t : Text). Writes t out (Refused f) out) (sym (ap registerBy (verdict-by s refl e (subst (λ (r : Written). LaysAll (x .syntax) s (x .at) none r none′) d q)))) (writes-none refl)
+  pub write-refused : (out : List ℕ) → Writes (registerOf f s) out (Refused w) out
+  write-refused out = writes-as (sym unwritten) (writes-none refl)
 
-  module _ {m : ℕ} (w : Whole (x .syntax) s (x .at) m) where
-    long : m ≡ length (registerAt (x .syntax .service) (x .at) (w .u) (w .ms))
-    long = w .long ∙ sym (register-length (x .syntax .service) (x .at) (w .u) (w .ms))
+  pub check-refused : (r : List ℕ) → Differs w ≡ checkedAs (registerOf f s) r
+  check-refused r = sym (ap (λ (t : Text). checkedAs t r) unwritten)
 
-    -- by what `too_long` answers
-    module _ {out : List ℕ} {b : Bool} (d : b ≡ tooLong (length out) m) where
-      pub write-over : {r : Written} → b ≡ true → r ≡ refusedAs 15 → Writes (registerOf s) out r out
-      write-over {r} h q = subst (λ (t : Text). Writes t out r out) (sym (register-so w)) (writes-over long d h q)
+module _ {f : Form} {s : List ℕ} {x : Extent} (w : Measured f s x) where
+  -- what is measured is not refused
+  pub unrefused : {A : Type 0} (v : Refusal) → MeasuredAs f s (Unread v) → A
+  unrefused v e =
+      let d : accepted (w .whole) ≡ refusedWith v = sym (w .accepts) ∙ e in
+      let z : _≡_ {A = ℕ} 0 1 = cc in
+      absurd (omega arith)
 
-      pub write-fit : {r : Written} {out′ : List ℕ} → b ≡ false → (r ≡ Length m) × Laid out 0 (registerAt (x .syntax .service) (x .at) (w .u) (w .ms)) m out′ → Writes (registerOf s) out r out′
-      write-fit {r} {out′} h q =
-          subst (λ (t : Text). Writes t out r out′) (sym (register-so w))
-          (subst (λ (r : Written). Writes (text (registerAt (x .syntax .service) (x .at) (w .u) (w .ms))) out r out′) (sym (q .0)) (writes-fit long d h (q .1)))
+  abbrev octets : List ℕ
+  octets = registerText f (entriesIn (w .whole))
 
-    -- the check: it is compared with what would be written
-    pub check-long : (r : List ℕ) → 65535 < m → checkRefused 13 0 ≡ checkedAs (registerOf s) r
-    check-long r h = sym (ap (λ (t : Text). checkedAs t r) (register-so w) ∙ rw (← long, lt-ltb _ _ h))
+  register-so : registerOf f s ≡ text octets
+  register-so = ap (registerBy f) (w .accepts)
 
-    pub check-laid : (r : List ℕ) {out : List ℕ} {a : Written} {out′ z : List ℕ} {b : Bool} → m ≤ 65535 → m ≤ length out → (a ≡ Length m) × Laid out 0 (registerAt (x .syntax .service) (x .at) (w .u) (w .ms)) m out′
-        → z ≡ slice 0 m out′ → b ≡ same (content 32 z) r → cond b Same (checkRefused 13 0) ≡ checkedAs (registerOf s) r
-    check-laid r {out = out} {out′ = out′} {z = z} {b = b} l h q d f =
-        let k : length (registerAt (x .syntax .service) (x .at) (w .u) (w .ms)) ≤ length out = omega (arith, long, h) in
-        let v : slice 0 m out′ ≡ registerAt (x .syntax .service) (x .at) (w .u) (w .ms) =
-        slice-take 0 m out′ ∙ laid-part (q .1) k in
-        let g : b ≡ same (registerAt (x .syntax .service) (x .at) (w .u) (w .ms)) r = f ∙ ap (λ (y : List ℕ). same y r) (plain-content z ∙ d ∙ v) in
-        ap (λ (c : Bool). cond c Same (checkRefused 13 0)) g ∙ sym (ap (λ (t : Text). checkedAs t r) (register-so w) ∙ rw (← long, le-ltb _ _ l))
+  lays-so : {out out′ : List ℕ} {a : Written} → Lays (registerOf f s) out a out′ → (a ≡ Length (x .end)) × Laid out 0 octets (x .end) out′
+  lays-so q =
+      let e : text (q .octets) ≡ text octets = sym (q .is) ∙ register-so in
+      let d : q .octets ≡ octets = cc in
+      (q .answer ∙ ap (λ (t : List ℕ). Length (length t)) d ∙ sym (ap Length (w .long)), rw (d, ← w .long) at (q .laid))
 
-    module _ (r : List ℕ) {out : List ℕ} {a : Written} {out′ z : List ℕ} {b : Bool} (l : m ≤ 65535) (h : m ≤ length out)
-        (q : (a ≡ Length m) × Laid out 0 (registerAt (x .syntax .service) (x .at) (w .u) (w .ms)) m out′) (d : z ≡ slice 0 m out′) (f : b ≡ same (content 32 z) r) where
-      pub check-same : b ≡ true → Same ≡ checkedAs (registerOf s) r
-      check-same k = sym (ap (λ (c : Bool). cond c Same (checkRefused 13 0)) k) ∙ check-laid r l h q d f
+  -- by what `too_long` answers
+  module _ {out : List ℕ} {b : Bool} (d : b ≡ tooLong (length out) (x .end)) where
+    pub write-over : {r : Written} → b ≡ true → r ≡ refusedAs 15 → Writes (registerOf f s) out r out
+    write-over h q = writes-as (sym register-so) (writes-over (w .long) d h q)
 
-      pub check-other : b ≡ false → checkRefused 13 0 ≡ checkedAs (registerOf s) r
-      check-other k = sym (ap (λ (c : Bool). cond c Same (checkRefused 13 0)) k) ∙ check-laid r l h q d f
+    pub write-fit : {r : Written} {out′ : List ℕ} → b ≡ false → Lays (registerOf f s) out r out′ → Writes (registerOf f s) out r out′
+    write-fit {r} {out′} h q =
+        let g = lays-so q in
+        writes-as (sym register-so) (subst (λ (r : Written). Writes (text octets) out r out′) (sym (g .0)) (writes-fit (w .long) d h (g .1)))
 
-  pub check-refused : (r none none′ : List ℕ) {a : Written} {f : Refusal} → a ≡ Refused f → LaysAll (x .syntax) s (x .at) none a none′ → Differs f ≡ checkedAs (registerOf s) r
-  check-refused r none none′ {a} {f} d q =
-      sym (ap (λ (v : Verdict). checkedAs (registerBy v) r) (verdict-by s refl e (subst (λ (r : Written). LaysAll (x .syntax) s (x .at) none r none′) d q)))
+  -- the check: it is compared with what would be written
+  pub check-long : (r : List ℕ) → 65535 < x .end → Differs (atZero 13) ≡ checkedAs (registerOf f s) r
+  check-long r h = sym (ap (λ (t : Text). checkedAs t r) register-so ∙ rw (← w .long, lt-ltb _ _ h))
 
-module _ (s : List ℕ) {g : Begun} {f : Refusal} (e : g ≡ begunOf s) (d : g ≡ Refuses f) where
-  unbegun : registerOf s ≡ noText (f .number) (f .place)
-  unbegun = ap (λ (b : Begun). registerBy (verdictBy s b)) (sym e ∙ d)
+  module _ (r : List ℕ) {out : List ℕ} {a : Written} {out′ z : List ℕ} {b : Bool} (l : x .end ≤ 65535) (h : x .end ≤ length out) (q : Lays (registerOf f s) out a out′)
+      (d : z ≡ slice 0 (x .end) out′) (e : b ≡ same (content 32 z) r) where
+    check-laid : cond b Same (Differs (atZero 13)) ≡ checkedAs (registerOf f s) r
+    check-laid =
+        let k : length octets ≤ length out = omega (arith, w .long, h) in
+        let v : slice 0 (x .end) out′ ≡ octets = slice-take 0 (x .end) out′ ∙ laid-part (lays-so q .1) k in
+        let g : b ≡ same octets r = e ∙ ap (λ (y : List ℕ). same y r) (plain-content z ∙ d ∙ v) in
+        ap (λ (c : Bool). cond c Same (Differs (atZero 13))) g ∙ sym (ap (λ (t : Text). checkedAs t r) register-so ∙ rw (← w .long, le-ltb _ _ l))
 
-  pub write-unbegun : (out : List ℕ) → Writes (registerOf s) out (Refused f) out
-  write-unbegun out = subst (λ (t : Text). Writes t out (Refused f) out) (sym unbegun) (writes-none refl)
+    pub check-same : b ≡ true → Same ≡ checkedAs (registerOf f s) r
+    check-same k = sym (ap (λ (c : Bool). cond c Same (Differs (atZero 13))) k) ∙ check-laid
 
-  pub check-unbegun : (r : List ℕ) → Differs f ≡ checkedAs (registerOf s) r
-  check-unbegun r = sym (ap (λ (t : Text). checkedAs t r) unbegun)
+    pub check-other : b ≡ false → Differs (atZero 13) ≡ checkedAs (registerOf f s) r
+    check-other k = sym (ap (λ (c : Bool). cond c Same (Differs (atZero 13))) k) ∙ check-laid
+
+module _ (f : Form) (s : List ℕ) {g : Begun} {b : Breach} {w : Refusal} (e : g ≡ begunOf s) (d : g ≡ Refuses b) (k : w ≡ refusalAt s (b .number) (b .place)) where
+  pub unbegun : MeasuredAs f s (Unread w)
+  unbegun = ap (verdictBy s) (sym e ∙ d) ∙ ap refusedWith (sym k)

@@ -1,21 +1,21 @@
 // Writing the register of an interchange, and checking one against it.
 ghost use mathlib.Core.Path.{_≡_};
 ghost use Prim.Native.Nat.{_≤_};
-ghost use lib.Dec.{T};
 ghost use lib.ListN.{length};
-ghost use Rattle.syntax.specs.Service.{fit};
-ghost use Rattle.syntax.specs.Opening.{begunOf};
+ghost use Rattle.syntax.specs.Refusals.{atZero};
 ghost use Rattle.syntax.specs.Repertoire.{Table};
-ghost use Rattle.syntax.specs.declared.opening.Begun.the-variants.{Ready as Begins};
 ghost use Rattle.walk.specs.RunLaws.{Fresh};
 ghost use Rattle.writing.specs.Written.{Writes};
-ghost use Rattle.writing.specs.Laid.{Laid};
-ghost use Rattle.writing.specs.declared.Written.the-variants.{Length};
-ghost use Rattle.register.specs.Register.{registerOf, LaysAll, checkRefused, checkedAs, told, checkNumbers};
-ghost use Rattle.register.specs.RegisterLaws.{Whole, registerAt};
-use crate::entries::put_four;
+ghost use Rattle.register.specs.Register.{registerOf, checkedAs, told, checkNumbers};
+ghost use Rattle.register.specs.Laying.{BeginsAt, LaysAll, Measured, MeasuredAs, Lays};
+ghost use Rattle.register.specs.declared.forms.Form.the-variants.{Old};
+use crate::entries::Extent;
+use crate::entries::none_from;
+use crate::entries::put_count;
 use crate::entries::put_section;
+use crate::forms::Form;
 use beginning::begin;
+use refusals::refusal;
 use syntax::Refusal;
 use syntax::Syntax;
 use syntax::content::content_is;
@@ -34,46 +34,63 @@ pub enum Checked {
     Refused(Refusal),
 }
 
-// Every section from `from` on, with the entries of what was read behind the 4 octets of the count; or why the interchange is refused.
+// How far the entries of an interchange reach, or its register; or why it is refused.
+pub enum Entries {
+    Of(Extent),
+    Refused(Refusal),
+}
+
+// Every section from `from` on, with the entries of what was read from `start` on; or why the interchange is refused.
 fn lay_among(
     s: &[u8],
     from: usize,
     t: &[u8; 256],
     y: Syntax,
+    form: Form,
+    start: usize,
     names: &mut [u64],
     slots: &mut [u16],
     marks: &mut [usize],
     heads: &mut [usize; 36],
     rows: &mut [usize; 18],
     out: &mut [u8],
-) -> Written
+) -> Entries
     requires { ⌜ Table y (now t) ⌝ }
+    requires { ⌜ BeginsAt y (now s) from × (start ≤ 65535) ⌝ }
     requires { ⌜ Fresh y (now s) (now names) (now slots) ⌝ }
     requires { ⌜ (length (now marks) ≡ 40) × (length (now heads) ≡ 36) × (length (now rows) ≡ 18) ⌝ }
-    ensures { λ r. ⌜ LaysAll y (now (s .entry)) from (now (out .entry)) r (now (out .exit)) ⌝ }
+    ensures { λ r. ⌜ LaysAll form start (now (s .entry)) (now (out .entry)) r (now (out .exit)) ⌝ }
 {
-    let mut p: usize = 4;
+    let mut x = none_from(start);
     let mut st = unread();
     let mut at = from;
     loop {
         match next_section(s, at, t, y, st, marks, heads, names, slots, rows) {
-            Reached::Stop(f) => return Written::Refused(f),
-            Reached::Over => return Written::Length(p),
+            Reached::Stop(f) => return Entries::Refused(refusal(s, f)),
+            Reached::Over => return Entries::Of(x),
             Reached::On(a) => {
-                p = put_section(&mut *out, p, a.closed, a.layout);
-                let x = a.state;
-                st = x;
+                x = put_section(&mut *out, x, form, a.closed, a.layout);
+                let z = a.state;
+                st = z;
                 at = a.next;
             }
         }
     }
 }
 
-fn lay_small(s: &[u8], from: usize, t: &[u8; 256], y: Syntax, out: &mut [u8]) -> Written
+fn lay_small(
+    s: &[u8],
+    from: usize,
+    t: &[u8; 256],
+    y: Syntax,
+    form: Form,
+    start: usize,
+    out: &mut [u8],
+) -> Entries
     requires { ⌜ Table y (now t) ⌝ }
-    requires { ⌜ T (fit (y .service)) ⌝ }
+    requires { ⌜ BeginsAt y (now s) from × (start ≤ 65535) ⌝ }
     requires { ⌜ length (now s) ≤ 2048 ⌝ }
-    ensures { λ r. ⌜ LaysAll y (now (s .entry)) from (now (out .entry)) r (now (out .exit)) ⌝ }
+    ensures { λ r. ⌜ LaysAll form start (now (s .entry)) (now (out .entry)) r (now (out .exit)) ⌝ }
 {
     let mut names = [0u64; 512];
     let mut slots = [0u16; 763];
@@ -85,6 +102,8 @@ fn lay_small(s: &[u8], from: usize, t: &[u8; 256], y: Syntax, out: &mut [u8]) ->
         from,
         t,
         y,
+        form,
+        start,
         &mut names,
         &mut slots,
         &mut marks,
@@ -94,11 +113,18 @@ fn lay_small(s: &[u8], from: usize, t: &[u8; 256], y: Syntax, out: &mut [u8]) ->
     )
 }
 
-fn lay_large(s: &[u8], from: usize, t: &[u8; 256], y: Syntax, out: &mut [u8]) -> Written
+fn lay_large(
+    s: &[u8],
+    from: usize,
+    t: &[u8; 256],
+    y: Syntax,
+    form: Form,
+    start: usize,
+    out: &mut [u8],
+) -> Entries
     requires { ⌜ Table y (now t) ⌝ }
-    requires { ⌜ T (fit (y .service)) ⌝ }
-    requires { ⌜ length (now s) ≤ 65535 ⌝ }
-    ensures { λ r. ⌜ LaysAll y (now (s .entry)) from (now (out .entry)) r (now (out .exit)) ⌝ }
+    requires { ⌜ BeginsAt y (now s) from × (start ≤ 65535) ⌝ }
+    ensures { λ r. ⌜ LaysAll form start (now (s .entry)) (now (out .entry)) r (now (out .exit)) ⌝ }
 {
     let mut names = [0u64; 16384];
     let mut slots = [0u16; 20405];
@@ -110,6 +136,8 @@ fn lay_large(s: &[u8], from: usize, t: &[u8; 256], y: Syntax, out: &mut [u8]) ->
         from,
         t,
         y,
+        form,
+        start,
         &mut names,
         &mut slots,
         &mut marks,
@@ -119,67 +147,108 @@ fn lay_large(s: &[u8], from: usize, t: &[u8; 256], y: Syntax, out: &mut [u8]) ->
     )
 }
 
-// The entries of an interchange whose UNB stands at `from`, as far as `out` has room; or why it is refused.
-fn lay(s: &[u8], from: usize, t: &[u8; 256], y: Syntax, out: &mut [u8]) -> Written
+// The entries of an interchange whose UNB stands at `from`, laid from `start` on as far as `out` has room; or why it is refused.
+fn lay(
+    s: &[u8],
+    from: usize,
+    t: &[u8; 256],
+    y: Syntax,
+    form: Form,
+    start: usize,
+    out: &mut [u8],
+) -> Entries
     requires { ⌜ Table y (now t) ⌝ }
-    requires { ⌜ T (fit (y .service)) ⌝ }
-    requires { ⌜ length (now s) ≤ 65535 ⌝ }
-    ensures { λ r. ⌜ LaysAll y (now (s .entry)) from (now (out .entry)) r (now (out .exit)) ⌝ }
+    requires { ⌜ BeginsAt y (now s) from × (start ≤ 65535) ⌝ }
+    ensures { λ r. ⌜ LaysAll form start (now (s .entry)) (now (out .entry)) r (now (out .exit)) ⌝ }
 {
     if s.len() <= 2048 {
-        return lay_small(s, from, t, y, out);
+        return lay_small(s, from, t, y, form, start, out);
     }
-    lay_large(s, from, t, y, out)
+    lay_large(s, from, t, y, form, start, out)
 }
 
-// The register of `m` octets: the count of messages, each of which has 20 octets, and the entries behind it.
-fn fill(s: &[u8], from: usize, t: &[u8; 256], y: Syntax, m: usize, out: &mut [u8]) -> Written
+// How many messages the interchange has, and how long its register is: both are laid into no room.
+fn measure(s: &[u8], from: usize, t: &[u8; 256], y: Syntax, form: Form) -> Entries
     requires { ⌜ Table y (now t) ⌝ }
-    requires { ⌜ T (fit (y .service)) ⌝ }
-    requires { ⌜ (length (now s) ≤ 65535) × (4 ≤ m) ⌝ }
-    ensures { λ r. ⌜ ((w : Whole y (now (s .entry)) from m) → (r ≡ Length m) × Laid (now (out .entry)) 0 (registerAt (y .service) from (w .u) (w .ms)) m (now (out .exit))) ⌝ }
-{
-    let count = (m - 4) / 20;
-    put_four(&mut *out, 0, count as u64);
-    lay(s, from, t, y, out)
-}
-
-// Measured in no room, and then laid.
-fn write_from(s: &[u8], from: usize, t: &[u8; 256], y: Syntax, out: &mut [u8]) -> Written
-    requires { ⌜ Table y (now t) ⌝ }
-    requires { ⌜ T (fit (y .service)) ⌝ }
-    requires { ⌜ (length (now s) ≤ 65535) × (begunOf (now s) ≡ Begins (record { syntax = y; at = from })) ⌝ }
-    ensures { λ r. ⌜ Writes (registerOf (now (s .entry))) (now (out .entry)) r (now (out .exit)) ⌝ }
+    requires { ⌜ BeginsAt y (now s) from ⌝ }
+    ensures { λ r. ⌜ MeasuredAs form (now (s .entry)) r ⌝ }
 {
     let mut none = [0u8; 1];
-    match lay(s, from, t, y, &mut none) {
-        Written::Refused(f) => Written::Refused(f),
-        Written::Length(m) => {
-            if too_long(out.len(), m) {
+    match lay(s, from, t, y, form, 0, &mut none) {
+        Entries::Refused(f) => Entries::Refused(f),
+        Entries::Of(x) => {
+            let start = put_count(&mut none, form, x.count as u64);
+            Entries::Of(Extent {
+                count: x.count,
+                end: start + x.end,
+            })
+        }
+    }
+}
+
+// The count of messages, and their entries behind it.
+fn fill(
+    s: &[u8],
+    from: usize,
+    t: &[u8; 256],
+    y: Syntax,
+    form: Form,
+    x: Extent,
+    out: &mut [u8],
+) -> Written
+    requires { ⌜ Table y (now t) ⌝ }
+    requires { ⌜ BeginsAt y (now s) from ⌝ }
+    requires { ⌜ Measured form (now s) x ⌝ }
+    ensures { λ r. ⌜ Lays (registerOf form (now (s .entry))) (now (out .entry)) r (now (out .exit)) ⌝ }
+{
+    let start = put_count(&mut *out, form, x.count as u64);
+    match lay(s, from, t, y, form, start, out) {
+        Entries::Refused(f) => Written::Refused(f),
+        Entries::Of(z) => Written::Length(z.end),
+    }
+}
+
+// Measured, and then laid.
+fn write_from(
+    s: &[u8],
+    from: usize,
+    t: &[u8; 256],
+    y: Syntax,
+    form: Form,
+    out: &mut [u8],
+) -> Written
+    requires { ⌜ Table y (now t) ⌝ }
+    requires { ⌜ BeginsAt y (now s) from ⌝ }
+    ensures { λ r. ⌜ Writes (registerOf form (now (s .entry))) (now (out .entry)) r (now (out .exit)) ⌝ }
+{
+    match measure(s, from, t, y, form) {
+        Entries::Refused(f) => Written::Refused(f),
+        Entries::Of(x) => {
+            if too_long(out.len(), x.end) {
                 return refused(15);
             }
-            fill(s, from, t, y, m, out)
+            fill(s, from, t, y, form, x, out)
         }
     }
 }
 
 // The register of an interchange, into `out`.
 pub fn register_write(s: &[u8], out: &mut [u8]) -> Written
-    ensures { λ r. ⌜ Writes (registerOf (now (s .entry))) (now (out .entry)) r (now (out .exit)) ⌝ }
+    ensures { λ r. ⌜ Writes (registerOf Old (now (s .entry))) (now (out .entry)) r (now (out .exit)) ⌝ }
 {
     match begin(s) {
-        Begun::Refused(f) => Written::Refused(f),
+        Begun::Refused(f) => Written::Refused(refusal(s, f)),
         Begun::Ready(b) => {
             let y = b.syntax;
             let at = b.at;
             let t = table(y);
-            write_from(s, at, &t, y, out)
+            write_from(s, at, &t, y, Form::Old, out)
         }
     }
 }
 
 fn differs() -> Checked
-    ensures { λ r. ⌜ r ≡ checkRefused 13 0 ⌝ }
+    ensures { λ r. ⌜ r ≡ Checked.Refused (atZero 13) ⌝ }
 {
     Checked::Refused(Refusal {
         number: 13,
@@ -188,21 +257,27 @@ fn differs() -> Checked
 }
 
 // Compared with what is written for the interchange. A register too long to be written is none.
-fn check_from(s: &[u8], from: usize, t: &[u8; 256], y: Syntax, register: &[u8]) -> Checked
+fn check_from(
+    s: &[u8],
+    from: usize,
+    t: &[u8; 256],
+    y: Syntax,
+    form: Form,
+    register: &[u8],
+) -> Checked
     requires { ⌜ Table y (now t) ⌝ }
-    requires { ⌜ T (fit (y .service)) ⌝ }
-    requires { ⌜ (length (now s) ≤ 65535) × (begunOf (now s) ≡ Begins (record { syntax = y; at = from })) ⌝ }
-    ensures { λ r. ⌜ r ≡ checkedAs (registerOf (now (s .entry))) (now (register .entry)) ⌝ }
+    requires { ⌜ BeginsAt y (now s) from ⌝ }
+    ensures { λ r. ⌜ r ≡ checkedAs (registerOf form (now (s .entry))) (now (register .entry)) ⌝ }
 {
-    let mut none = [0u8; 1];
-    match lay(s, from, t, y, &mut none) {
-        Written::Refused(f) => Checked::Refused(f),
-        Written::Length(m) => {
+    match measure(s, from, t, y, form) {
+        Entries::Refused(f) => Checked::Refused(f),
+        Entries::Of(x) => {
+            let m = x.end;
             if 65535 < m {
                 return differs();
             }
             let mut own = [0u8; 65535];
-            fill(s, from, t, y, m, &mut own);
+            fill(s, from, t, y, form, x, &mut own);
             if content_is(part(&own, 0, m), 32, register) {
                 return Checked::Same;
             }
@@ -213,16 +288,16 @@ fn check_from(s: &[u8], from: usize, t: &[u8; 256], y: Syntax, register: &[u8]) 
 
 // Whether `register` is the register of the interchange: equal octets, or 13.
 pub fn register_check(s: &[u8], register: &[u8]) -> Checked
-    ensures { λ r. ⌜ r ≡ checkedAs (registerOf (now (s .entry))) (now (register .entry)) ⌝ }
-    ensures { λ r. ⌜ told r ≡ checkNumbers (registerOf (now (s .entry))) (now (register .entry)) ⌝ }
+    ensures { λ r. ⌜ r ≡ checkedAs (registerOf Old (now (s .entry))) (now (register .entry)) ⌝ }
+    ensures { λ r. ⌜ told r ≡ checkNumbers (registerOf Old (now (s .entry))) (now (register .entry)) ⌝ }
 {
     match begin(s) {
-        Begun::Refused(f) => Checked::Refused(f),
+        Begun::Refused(f) => Checked::Refused(refusal(s, f)),
         Begun::Ready(b) => {
             let y = b.syntax;
             let at = b.at;
             let t = table(y);
-            check_from(s, at, &t, y, register)
+            check_from(s, at, &t, y, Form::Old, register)
         }
     }
 }

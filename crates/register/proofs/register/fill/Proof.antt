@@ -1,37 +1,54 @@
-use Prim.Native.Nat.{_-_}
 use native.Mathlib.Omega.{arith}
-use mathlib.Core.Path.{refl, sym, ap, _∙_}
+use Rattle.register.specs.RegisterLaws.{count-short, laid-all, laid-refused, filled, unrefused}
 use borrow.Author.Needs.{needs}
-use lib.ListN.{length}
-use mathlib.Core.Bool.{true, false}
-use mathlib.Core.List.{[], _∷_}
-use Rattle.register.specs.RegisterLaws.{filled}
 use Rattle.register.proofs.register.fill.Statement.{statement}
 use Rattle.register.proofs.register.fill.Tie as tie
 use Rattle.register.proofs.register.fill.Reads as reads
 use Rattle.register.proofs.register.fill.Lts as lts
-use Rattle.register.proofs.entries.put_four.Reads as put-four-reads
+use Rattle.register.proofs.entries.put_count.Reads as put-count-reads
 use Rattle.register.proofs.register.lay.Reads as lay-reads
 
--- src/register.rt:140:18
-sub-count : tie.Need-sub-count
-sub-count c = search needs
+-- src/register.rt:202:9
+put-count-requires : tie.Need-put-count-requires
+put-count-requires c κs = search needs
 
--- src/register.rt:141:5
-put-four-requires : tie.Need-put-four-requires
-put-four-requires c κs = search needs
-
--- src/register.rt:142:5
+-- src/register.rt:203:11
 lay-requires : tie.Need-lay-requires
-lay-requires c κs = search needs
+lay-requires c κs = (c .before .before .before .before .before .before .before .pre .0, (c .before .before .before .before .before .before .before .pre .1 .0, omega (arith, c .before .before .before .put-count .ensures .place, count-short (c .before .before .before .before .before .before .before .args .form) (c .before .before .before .before .before .before .before .args .x .count))))
 
--- src/register.rt:134:1
+-- src/register.rt:204:26
+enum-known-f : tie.Need-enum-known-f
+enum-known-f c = search needs
+
+-- src/register.rt:205:21
+enum-known-z : tie.Need-enum-known-z
+enum-known-z c = search needs
+
+-- src/register.rt:188:1
 same-length : tie.Need-same-length
 same-length c = search needs
 
--- src/register.rt:134:1
+-- src/register.rt:188:1
 returns : tie.Need-returns
-returns c = λ w. filled w refl (c .before .before .before .before .before .before .put-four .ensures) _ _ (c .before .before .lay .ensures)
+returns c = unrefused (c .before .before .before .before .before .before .before .before .before .before .before .before .before .pre .1 .1) _ (laid-refused _ _ _ _ _ (c .before .f .given .1) (c .before .before .before .before .before .lay .ensures))
+
+-- src/register.rt:188:1
+same-length-2 : tie.Need-same-length-2
+same-length-2 c = search needs
+
+-- src/register.rt:188:1
+returns-2 : tie.Need-returns-2
+returns-2 c = filled (c .before .before .before .before .before .before .before .before .before .before .before .before .before .pre .1 .1) (c .before .before .before .before .before .before .before .before .before .put-count .ensures) (laid-all _ _ _ _ _ (c .before .z .given .1) (c .before .before .before .before .before .lay .ensures))
 
 pub fill-spec : {M : Type 1} → statement M
-fill-spec = tie.close (tie.spec sub-count put-four-requires lay-requires same-length returns)
+fill-spec =
+    tie.close
+    (tie.spec
+    put-count-requires
+    lay-requires
+    enum-known-f
+    enum-known-z
+    same-length
+    returns
+    same-length-2
+    returns-2)
