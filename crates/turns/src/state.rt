@@ -311,6 +311,7 @@ fn on_unh(
     s: &[u8],
     at: usize,
     next: usize,
+    t: &[u8; 256],
     y: Syntax,
     st: State,
     f: Shape,
@@ -319,6 +320,7 @@ fn on_unh(
     names: &mut [u64],
     slots: &[u16],
 ) -> Step
+    requires { ⌜ Table y (now t) ⌝ }
     requires { ⌜ Ready y (now s) st (now heads) (now names) (now slots) at next Unh f (now marks) ⌝ }
     requires { ⌜ st .phase ≡ Idle ⌝ }
     ensures { λ r. ⌜ StepIs (decidedFrom (y .version) (stateIn (y .service .release) (now (s .entry)) st (now (heads .entry)) (now (names .entry))) (askedAt (y .service) (now (s .entry)) at) at) r (y .service .release) (now (s .entry)) (now (heads .entry)) (now (names .exit)) (now (slots .entry)) next ⌝ }
@@ -468,14 +470,14 @@ fn step_in(
     f: Shape,
     marks: &[usize],
     heads: &mut [usize; 36],
-    found: usize,
+    i: usize,
 ) -> Moved
     requires { ⌜ k ≡ kindOf (slice at (at + 3) (now s)) ⌝ }
     requires { ⌜ (looked k ≡ true → Fields (y .service) (now s) at (f .size) (f .repeats) (now marks)) ⌝ }
     requires { ⌜ Roomy m (now heads) ⌝ }
     requires { ⌜ (m .segments < 65535) × (length (now heads) ≡ 36) ⌝ }
     requires { ⌜ (mayCome k m ≡ true) × (formed (y .version) (askedAt (y .service) (now s) at) ≡ true) ⌝ }
-    requires { ⌜ (k ≡ Ust → Sought (y .service) (now s) at m (now heads) found) ⌝ }
+    requires { ⌜ (k ≡ Ust → Sought (y .service) (now s) at m (now heads) i) ⌝ }
     ensures { λ r. ⌜ ((u w : ℕ) → MovedIs (stepM k (summaryIn (y .service .release) (now (s .entry)) m u w (now (heads .entry))) (askedAt (y .service) (now (s .entry)) at)) r (y .service .release) (now (s .entry)) u w (now (heads .exit))) ⌝ }
     ensures { λ r. ⌜ length (now (heads .exit)) ≡ 36 ⌝ }
 {
@@ -485,7 +487,7 @@ fn step_in(
         Kind::Usa => in_header(m, usa_group(g), heads),
         Kind::Usc => in_header(m, usc_group(g), heads),
         Kind::Usr => on_usr(m, heads),
-        Kind::Ust => on_ust(s, at, y, m, marks, heads, found),
+        Kind::Ust => on_ust(s, at, y, m, marks, heads, i),
         Kind::Usb => on_usb(m),
         Kind::Usx => Moved::To(grown_to(m, Group::Ack(true, false))),
         Kind::Usy => on_usy(s, at, y, m, marks, heads),
@@ -505,6 +507,7 @@ fn on_busy(
     s: &[u8],
     at: usize,
     next: usize,
+    t: &[u8; 256],
     y: Syntax,
     st: State,
     k: Kind,
@@ -513,11 +516,12 @@ fn on_busy(
     heads: &mut [usize; 36],
     names: &[u64],
     slots: &[u16],
-    found: usize,
+    i: usize,
 ) -> Step
+    requires { ⌜ Table y (now t) ⌝ }
     requires { ⌜ Ready y (now s) st (now heads) (now names) (now slots) at next k f (now marks) ⌝ }
     requires { ⌜ (st .phase ≡ Busy) × (atBusy false false false true false k ≡ false) ⌝ }
-    requires { ⌜ (k ≡ Ust → Sought (y .service) (now s) at (st .message) (now heads) found) ⌝ }
+    requires { ⌜ (k ≡ Ust → Sought (y .service) (now s) at (st .message) (now heads) i) ⌝ }
     ensures { λ r. ⌜ StepIs (decidedFrom (y .version) (stateIn (y .service .release) (now (s .entry)) st (now (heads .entry)) (now (names .entry))) (askedAt (y .service) (now (s .entry)) at) at) r (y .service .release) (now (s .entry)) (now (heads .exit)) (now (names .entry)) (now (slots .entry)) next ⌝ }
 {
     let m = st.message;
@@ -527,7 +531,7 @@ fn on_busy(
     if !is_formed(s, at, y, marks, f, k) {
         return stopped(8, at);
     }
-    match step_in(s, at, y, m, k, f, marks, heads, found) {
+    match step_in(s, at, y, m, k, f, marks, heads, i) {
         Moved::Bad(n) => stopped(n, at),
         Moved::To(x) => Step::On(after_other(st, Phase::Busy, st.count, x)),
     }
@@ -538,6 +542,7 @@ fn on_idle(
     s: &[u8],
     at: usize,
     next: usize,
+    t: &[u8; 256],
     y: Syntax,
     st: State,
     k: Kind,
@@ -547,12 +552,13 @@ fn on_idle(
     names: &mut [u64],
     slots: &[u16],
 ) -> Step
+    requires { ⌜ Table y (now t) ⌝ }
     requires { ⌜ Ready y (now s) st (now heads) (now names) (now slots) at next k f (now marks) ⌝ }
     requires { ⌜ st .phase ≡ Idle ⌝ }
     ensures { λ r. ⌜ StepIs (decidedFrom (y .version) (stateIn (y .service .release) (now (s .entry)) st (now (heads .entry)) (now (names .entry))) (askedAt (y .service) (now (s .entry)) at) at) r (y .service .release) (now (s .entry)) (now (heads .entry)) (now (names .exit)) (now (slots .entry)) next ⌝ }
 {
     match k {
-        Kind::Unh => on_unh(s, at, next, y, st, f, marks, heads, names, slots),
+        Kind::Unh => on_unh(s, at, next, t, y, st, f, marks, heads, names, slots),
         Kind::Unz => on_unz(s, at, next, y, st, f, marks, heads, names, slots),
         _ => stopped(7, at),
     }
@@ -563,6 +569,7 @@ pub fn turn(
     s: &[u8],
     at: usize,
     next: usize,
+    t: &[u8; 256],
     y: Syntax,
     st: State,
     k: Kind,
@@ -571,11 +578,12 @@ pub fn turn(
     heads: &mut [usize; 36],
     names: &mut [u64],
     slots: &mut [u16],
-    found: usize,
+    i: usize,
 ) -> Step
+    requires { ⌜ Table y (now t) ⌝ }
     requires { ⌜ Ready y (now s) st (now heads) (now names) (now slots) at next k f (now marks) ⌝ }
     requires { ⌜ (st .phase ≡ Start → st .count ≡ 0) ⌝ }
-    requires { ⌜ (st .phase ≡ Busy → k ≡ Ust → Sought (y .service) (now s) at (st .message) (now heads) found) ⌝ }
+    requires { ⌜ (st .phase ≡ Busy → k ≡ Ust → Sought (y .service) (now s) at (st .message) (now heads) i) ⌝ }
     ensures { λ r. ⌜ StepIs (decidedFrom (y .version) (stateIn (y .service .release) (now (s .entry)) st (now (heads .entry)) (now (names .entry))) (askedAt (y .service) (now (s .entry)) at) at) r (y .service .release) (now (s .entry)) (now (heads .exit)) (now (names .exit)) (now (slots .exit)) next ⌝ }
 {
     let p = st.phase;
@@ -584,10 +592,10 @@ pub fn turn(
             Kind::Unb => on_unb(s, at, next, y, st, f, marks, heads, names, slots),
             _ => stopped(7, at),
         },
-        Phase::Idle => on_idle(s, at, next, y, st, k, f, marks, heads, names, slots),
+        Phase::Idle => on_idle(s, at, next, t, y, st, k, f, marks, heads, names, slots),
         Phase::Busy => match k {
             Kind::Unt => on_unt(s, at, next, y, st, f, marks, heads, names, slots),
-            _ => on_busy(s, at, next, y, st, k, f, marks, heads, names, slots, found),
+            _ => on_busy(s, at, next, t, y, st, k, f, marks, heads, names, slots, i),
         },
         Phase::Done => stopped(7, at),
     }

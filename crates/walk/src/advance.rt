@@ -29,11 +29,11 @@ pub fn advance(
     heads: &mut [usize; 36],
     names: &mut [u64],
     slots: &mut [u16],
-    found: usize,
+    i: usize,
 ) -> Advanced
     requires { ⌜ Table y (now t) ⌝ }
     requires { ⌜ Going y (now s) st (now heads) (now names) (now slots) at (now marks) ⌝ }
-    requires { ⌜ (st .phase ≡ Busy → kindOf (slice at (at + 3) (now s)) ≡ Ust → Sought (y .service) (now s) at (st .message) (now heads) found) ⌝ }
+    requires { ⌜ (st .phase ≡ Busy → kindOf (slice at (at + 3) (now s)) ≡ Ust → Sought (y .service) (now s) at (st .message) (now heads) i) ⌝ }
     ensures { λ r. ⌜ ((from : ℕ) (w : Walking y (now (s .entry)) from st (now (heads .entry)) (now (names .entry)) (now (slots .entry)) at) → AdvancedIs w r (now (heads .exit)) (now (names .exit)) (now (slots .exit))) ⌝ }
     ensures { λ r. ⌜ length (now (marks .exit)) ≡ 40 ⌝ }
 {
@@ -44,7 +44,7 @@ pub fn advance(
         Looked::Bad(z) => Advanced::Stop(z),
         Looked::Seen(e, k) => {
             let next = e + 1;
-            match turn(s, at, next, y, st, k, f, marks, heads, names, slots, found) {
+            match turn(s, at, next, t, y, st, k, f, marks, heads, names, slots, i) {
                 Step::Stop(z) => Advanced::Stop(z),
                 Step::On(z) => Advanced::On(Ahead {
                     state: z,

@@ -9,7 +9,7 @@ use Rattle.turns.proofs.state.on_unh.Statement.{statement}
 use Rattle.turns.proofs.state.on_unh.Tie as tie
 
 unh-formed-requires : tie.Need-unh-formed-requires
-unh-formed-requires c κs = c .before .before .before .before .before .pre .0 .noted refl .marks
+unh-formed-requires c κs = c .before .before .before .before .before .pre .1 .0 .noted refl .marks
 
 stopped-requires : tie.Need-stopped-requires
 stopped-requires c κs = search needs
@@ -17,18 +17,18 @@ stopped-requires c κs = search needs
 returns : tie.Need-returns
 returns c =
     let g = c .before .before .before .before .before .before .before .before in
-    unh-bad (g .args .y) (g .args .s .now) (g .args .st) (g .args .heads .now) (g .args .names .now) (g .args .slots .now) (g .args .at) (g .args .next) (g .args .f) (g .args .marks .now) (g .pre .0) (g .pre .1) (formed-at _ (askedAt (g .args .y .service) (g .args .s .now) (g .args .at)) (g .pre .0 .kind) Unh refl (c .before .before .unh-formed .ensures)) (c .before .if1 .taken) (c .stopped .ensures)
+    unh-bad (g .args .y) (g .args .s .now) (g .args .st) (g .args .heads .now) (g .args .names .now) (g .args .slots .now) (g .args .at) (g .args .next) (g .args .f) (g .args .marks .now) (g .pre .1 .0) (g .pre .1 .1) (formed-at _ (askedAt (g .args .y .service) (g .args .s .now) (g .args .at)) (g .pre .1 .0 .kind) Unh refl (c .before .before .unh-formed .ensures)) (c .before .if1 .taken) (c .stopped .ensures)
 
 cast-offer : tie.Need-cast-offer
 cast-offer c = search needs
 
 field-requires : tie.Need-field-requires
-field-requires c κs = (c .before .before .before .before .before .before .before .before .before .pre .0 .noted refl .marks, (omega arith, omega arith, omega arith))
+field-requires c κs = (c .before .before .before .before .before .before .before .before .before .pre .1 .0 .noted refl .marks, (omega arith, omega arith, omega arith))
 
 offer-requires : tie.Need-offer-requires
 offer-requires c κs =
     let g = c .before .before .before .before .before .before .before .before .before .before in
-    (g .pre .0 .held .indexed, unh-name (g .args .y) (g .args .s .now) (g .args .st) (g .args .heads .now) (g .args .names .now) (g .args .slots .now) (g .args .at) (g .args .next) (g .args .f) (g .args .marks .now) (g .pre .0) (g .pre .1) (formed-at _ (askedAt (g .args .y .service) (g .args .s .now) (g .args .at)) (g .pre .0 .kind) Unh refl (c .before .before .before .before .unh-formed .ensures)) (c .before .before .before .if1 .left) (c .field .ensures))
+    (g .pre .1 .0 .held .indexed, unh-name (g .args .y) (g .args .s .now) (g .args .st) (g .args .heads .now) (g .args .names .now) (g .args .slots .now) (g .args .at) (g .args .next) (g .args .f) (g .args .marks .now) (g .pre .1 .0) (g .pre .1 .1) (formed-at _ (askedAt (g .args .y .service) (g .args .s .now) (g .args .at)) (g .pre .1 .0 .kind) Unh refl (c .before .before .before .before .unh-formed .ensures)) (c .before .before .before .if1 .left) (c .field .ensures))
 
 enum-told : tie.Need-enum-told
 enum-told c = search needs
@@ -40,7 +40,7 @@ enum-known-i : tie.Need-enum-known-i
 enum-known-i c = search needs
 
 field-requires-2 : tie.Need-field-requires-2
-field-requires-2 c κs = (c .before .before .before .before .before .before .before .before .before .before .before .before .before .before .before .before .pre .0 .noted refl .marks, (omega arith, omega arith, omega arith))
+field-requires-2 c κs = (c .before .before .before .before .before .before .before .before .before .before .before .before .before .before .before .before .pre .1 .0 .noted refl .marks, (omega arith, omega arith, omega arith))
 
 slice-aggregate-content-is : tie.Need-slice-aggregate-content-is
 slice-aggregate-content-is c = search needs
@@ -52,7 +52,7 @@ fresh-message-requires : tie.Need-fresh-message-requires
 fresh-message-requires c κs = search needs
 
 stretch-in-requires : tie.Need-stretch-in-requires
-stretch-in-requires c κs = (c .before .before .before .before .before .before .before .before .before .before .before .before .before .before .before .before .before .before .before .before .pre .0 .marks, omega arith, omega arith)
+stretch-in-requires c κs = (c .before .before .before .before .before .before .before .before .before .before .before .before .before .before .before .before .before .before .before .before .pre .1 .0 .marks, omega arith, omega arith)
 
 after-unh-requires : tie.Need-after-unh-requires
 after-unh-requires c κs = search needs
@@ -63,7 +63,7 @@ same-length c = search needs
 returns-2 : tie.Need-returns-2
 returns-2 c =
     let g = c .before .before .before .before .before .before .before .before .before .before .before .before .before .before .before .before in
-    unh-again (g .args .y) (g .args .s .now) (g .args .st) (g .args .heads .now) (g .args .names .now) (g .args .slots .now) (g .args .at) (g .args .next) (g .args .f) (g .args .marks .now) (g .pre .0) (g .pre .1) (formed-at _ (askedAt (g .args .y .service) (g .args .s .now) (g .args .at)) (g .pre .0 .kind) Unh refl (c .before .before .before .before .before .before .before .before .before .before .unh-formed .ensures)) (c .before .before .before .before .before .before .before .before .before .if1 .left) (c .before .before .before .before .before .before .field .ensures) _ (c .before .before .before .before .before .offer .result) (c .before .before .before .before .before .offer .ensures) (c .before .enum-told .given .1) (c .stopped2 .ensures)
+    unh-again (g .args .y) (g .args .s .now) (g .args .st) (g .args .heads .now) (g .args .names .now) (g .args .slots .now) (g .args .at) (g .args .next) (g .args .f) (g .args .marks .now) (g .pre .1 .0) (g .pre .1 .1) (formed-at _ (askedAt (g .args .y .service) (g .args .s .now) (g .args .at)) (g .pre .1 .0 .kind) Unh refl (c .before .before .before .before .before .before .before .before .before .before .unh-formed .ensures)) (c .before .before .before .before .before .before .before .before .before .if1 .left) (c .before .before .before .before .before .before .field .ensures) _ (c .before .before .before .before .before .offer .result) (c .before .before .before .before .before .offer .ensures) (c .before .enum-told .given .1) (c .stopped2 .ensures)
 
 same-length-2 : tie.Need-same-length-2
 same-length-2 c = let o = c .before .before .before .before .before .before .before .before .before .before .before .offer in search needs
@@ -71,7 +71,7 @@ same-length-2 c = let o = c .before .before .before .before .before .before .bef
 returns-3 : tie.Need-returns-3
 returns-3 c =
     let g = c .before .before .before .before .before .before .before .before .before .before .before .before .before .before .before .before .before .before .before .before .before .before in
-    unh-read (g .args .y) (g .args .s .now) (g .args .st) (g .args .heads .now) (g .args .names .now) (g .args .slots .now) (g .args .at) (g .args .next) (g .args .f) (g .args .marks .now) (g .pre .0) (g .pre .1) (formed-at _ (askedAt (g .args .y .service) (g .args .s .now) (g .args .at)) (g .pre .0 .kind) Unh refl (c .before .before .before .before .before .before .before .before .before .before .before .before .before .before .before .before .unh-formed .ensures)) (c .before .before .before .before .before .before .before .before .before .before .before .before .before .before .before .if1 .left) (c .before .before .before .before .before .before .before .before .before .before .before .before .field .ensures) (offer-at (c .before .before .before .before .before .before .before .before .before .before .before .offer .result) (c .before .before .before .before .before .before .before .before .before .before .before .offer .ensures) (c .before .before .before .before .before .before .before .i .given .1)) (c .before .before .before .before .before .field2 .ensures) (c .before .before .before .content-is .ensures) (c .before .before .fresh-message .ensures) (c .before .stretch-in .ensures) (c .after-unh .ensures)
+    unh-read (g .args .y) (g .args .s .now) (g .args .st) (g .args .heads .now) (g .args .names .now) (g .args .slots .now) (g .args .at) (g .args .next) (g .args .f) (g .args .marks .now) (g .pre .1 .0) (g .pre .1 .1) (formed-at _ (askedAt (g .args .y .service) (g .args .s .now) (g .args .at)) (g .pre .1 .0 .kind) Unh refl (c .before .before .before .before .before .before .before .before .before .before .before .before .before .before .before .before .unh-formed .ensures)) (c .before .before .before .before .before .before .before .before .before .before .before .before .before .before .before .if1 .left) (c .before .before .before .before .before .before .before .before .before .before .before .before .field .ensures) (offer-at (c .before .before .before .before .before .before .before .before .before .before .before .offer .result) (c .before .before .before .before .before .before .before .before .before .before .before .offer .ensures) (c .before .before .before .before .before .before .before .i .given .1)) (c .before .before .before .before .before .field2 .ensures) (c .before .before .before .content-is .ensures) (c .before .before .fresh-message .ensures) (c .before .stretch-in .ensures) (c .after-unh .ensures)
 
 pub on-unh-spec : {M : Type 1} → statement M
 on-unh-spec =

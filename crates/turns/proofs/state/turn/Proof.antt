@@ -15,7 +15,7 @@ enum-told-2 c = search needs
 on-unb-requires : tie.Need-on-unb-requires
 on-unb-requires c κs =
     let g = c .before .before .before .before .before .before .before .before .before .before .before in
-    (ready-at (g .pre .0) (c .before .before .before .enum-told2 .given .1), (c .before .before .before .before .before .enum-told .given .1, g .pre .1 .0 (c .before .before .before .before .before .enum-told .given .1)))
+    (ready-at (g .pre .1 .0) (c .before .before .before .enum-told2 .given .1), (c .before .before .before .before .before .enum-told .given .1, g .pre .1 .1 .0 (c .before .before .before .before .before .enum-told .given .1)))
 
 stopped-requires : tie.Need-stopped-requires
 stopped-requires c κs = search needs
@@ -33,12 +33,12 @@ enum-told-5 : tie.Need-enum-told-5
 enum-told-5 c = search needs
 
 on-unt-requires : tie.Need-on-unt-requires
-on-unt-requires c κs = (ready-at (c .before .before .before .before .before .before .before .before .before .before .before .pre .0) (c .before .before .before .enum-told5 .given .1), c .before .before .before .before .before .enum-told4 .given .1)
+on-unt-requires c κs = (ready-at (c .before .before .before .before .before .before .before .before .before .before .before .pre .1 .0) (c .before .before .before .enum-told5 .given .1), c .before .before .before .before .before .enum-told4 .given .1)
 
 on-busy-requires : tie.Need-on-busy-requires
 on-busy-requires c κs =
     let g = c .before .before .before .before .before .before .before .before .before .before in
-    (g .pre .0, ((c .before .before .before .before .enum-told4 .given .1, (⊎-elim (λ e. rw (lives-at enum (g .args .k) 0 e .1)) (⊎-elim (λ e. rw (lives-at enum (g .args .k) 1 e .1)) (⊎-elim (λ e. rw (lives-at enum (g .args .k) 3 e .1)) (⊎-elim (λ e. rw (lives-at enum (g .args .k) 4 e .1)) (⊎-elim (λ e. rw (lives-at enum (g .args .k) 5 e .1)) (⊎-elim (λ e. rw (lives-at enum (g .args .k) 6 e .1)) (⊎-elim (λ e. rw (lives-at enum (g .args .k) 7 e .1)) (⊎-elim (λ e. rw (lives-at enum (g .args .k) 8 e .1)) (⊎-elim (λ e. rw (lives-at enum (g .args .k) 9 e .1)) (⊎-elim (λ e. rw (lives-at enum (g .args .k) 10 e .1)) (⊎-elim (λ e. rw (lives-at enum (g .args .k) 11 e .1)) (⊎-elim (λ e. rw (lives-at enum (g .args .k) 12 e .1)) (⊎-elim (λ e. rw (lives-at enum (g .args .k) 13 e .1)) (⊎-elim (λ e. rw (lives-at enum (g .args .k) 14 e .1)) (λ e. rw (lives-at enum (g .args .k) 15 e .1)))))))))))))))) (c .before .before .before .match3 .keys2)), g .pre .1 .1 (c .before .before .before .before .enum-told4 .given .1)))
+    (g .pre .0, (g .pre .1 .0, ((c .before .before .before .before .enum-told4 .given .1, (⊎-elim (λ e. rw (lives-at enum (g .args .k) 0 e .1)) (⊎-elim (λ e. rw (lives-at enum (g .args .k) 1 e .1)) (⊎-elim (λ e. rw (lives-at enum (g .args .k) 3 e .1)) (⊎-elim (λ e. rw (lives-at enum (g .args .k) 4 e .1)) (⊎-elim (λ e. rw (lives-at enum (g .args .k) 5 e .1)) (⊎-elim (λ e. rw (lives-at enum (g .args .k) 6 e .1)) (⊎-elim (λ e. rw (lives-at enum (g .args .k) 7 e .1)) (⊎-elim (λ e. rw (lives-at enum (g .args .k) 8 e .1)) (⊎-elim (λ e. rw (lives-at enum (g .args .k) 9 e .1)) (⊎-elim (λ e. rw (lives-at enum (g .args .k) 10 e .1)) (⊎-elim (λ e. rw (lives-at enum (g .args .k) 11 e .1)) (⊎-elim (λ e. rw (lives-at enum (g .args .k) 12 e .1)) (⊎-elim (λ e. rw (lives-at enum (g .args .k) 13 e .1)) (⊎-elim (λ e. rw (lives-at enum (g .args .k) 14 e .1)) (λ e. rw (lives-at enum (g .args .k) 15 e .1)))))))))))))))) (c .before .before .before .match3 .keys2)), g .pre .1 .1 .1 (c .before .before .before .before .enum-told4 .given .1))))
 
 enum-told-6 : tie.Need-enum-told-6
 enum-told-6 c = search needs
@@ -58,7 +58,7 @@ returns c = search needs
 returns-2 : tie.Need-returns-2
 returns-2 c =
     let g = c .before .before .before .before .before .before .before .before in
-    start-7 (g .pre .0) (c .before .before .enum-told .given .1) ((⊎-elim (λ e. rw (lives-at enum (g .args .k) 1 e .1)) (⊎-elim (λ e. rw (lives-at enum (g .args .k) 2 e .1)) (⊎-elim (λ e. rw (lives-at enum (g .args .k) 3 e .1)) (⊎-elim (λ e. rw (lives-at enum (g .args .k) 4 e .1)) (⊎-elim (λ e. rw (lives-at enum (g .args .k) 5 e .1)) (⊎-elim (λ e. rw (lives-at enum (g .args .k) 6 e .1)) (⊎-elim (λ e. rw (lives-at enum (g .args .k) 7 e .1)) (⊎-elim (λ e. rw (lives-at enum (g .args .k) 8 e .1)) (⊎-elim (λ e. rw (lives-at enum (g .args .k) 9 e .1)) (⊎-elim (λ e. rw (lives-at enum (g .args .k) 10 e .1)) (⊎-elim (λ e. rw (lives-at enum (g .args .k) 11 e .1)) (⊎-elim (λ e. rw (lives-at enum (g .args .k) 12 e .1)) (⊎-elim (λ e. rw (lives-at enum (g .args .k) 13 e .1)) (⊎-elim (λ e. rw (lives-at enum (g .args .k) 14 e .1)) (λ e. rw (lives-at enum (g .args .k) 15 e .1)))))))))))))))) (c .before .match2 .keys2)) (c .stopped .ensures)
+    start-7 (g .pre .1 .0) (c .before .before .enum-told .given .1) ((⊎-elim (λ e. rw (lives-at enum (g .args .k) 1 e .1)) (⊎-elim (λ e. rw (lives-at enum (g .args .k) 2 e .1)) (⊎-elim (λ e. rw (lives-at enum (g .args .k) 3 e .1)) (⊎-elim (λ e. rw (lives-at enum (g .args .k) 4 e .1)) (⊎-elim (λ e. rw (lives-at enum (g .args .k) 5 e .1)) (⊎-elim (λ e. rw (lives-at enum (g .args .k) 6 e .1)) (⊎-elim (λ e. rw (lives-at enum (g .args .k) 7 e .1)) (⊎-elim (λ e. rw (lives-at enum (g .args .k) 8 e .1)) (⊎-elim (λ e. rw (lives-at enum (g .args .k) 9 e .1)) (⊎-elim (λ e. rw (lives-at enum (g .args .k) 10 e .1)) (⊎-elim (λ e. rw (lives-at enum (g .args .k) 11 e .1)) (⊎-elim (λ e. rw (lives-at enum (g .args .k) 12 e .1)) (⊎-elim (λ e. rw (lives-at enum (g .args .k) 13 e .1)) (⊎-elim (λ e. rw (lives-at enum (g .args .k) 14 e .1)) (λ e. rw (lives-at enum (g .args .k) 15 e .1)))))))))))))))) (c .before .match2 .keys2)) (c .stopped .ensures)
 
 same-length-3 : tie.Need-same-length-3
 same-length-3 c = search needs
@@ -88,7 +88,7 @@ returns-5 : tie.Need-returns-5
 returns-5 c = search needs
 
 returns-6 : tie.Need-returns-6
-returns-6 c = done-7 (c .before .before .before .before .before .before .before .pre .0) (c .before .enum-told6 .given .1) (c .stopped2 .ensures)
+returns-6 c = done-7 (c .before .before .before .before .before .before .before .pre .1 .0) (c .before .enum-told6 .given .1) (c .stopped2 .ensures)
 
 pub turn-spec : {M : Type 1} → statement M
 turn-spec =

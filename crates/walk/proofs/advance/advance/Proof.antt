@@ -27,7 +27,7 @@ add-next c = let w = ending (c .before .before .before .before .before .before .
 
 -- src/advance.rt:47:19
 turn-requires : tie.Need-turn-requires
-turn-requires c κs = let w = whole (c .before .before .before .before .before .before .before .before .before .before .before .before .before .before .before .before .args .y) (c .before .before .before .before .before .before .before .before .before .before .before .before .before .before .before .before .pre .1 .0 .fits) (sym (c .before .before .before .before .before .before .before .before .before .before .look .ensures .look) ∙ c .before .before .before .before .before .x2 .given .1) in (record { before = _; held = c .before .before .before .before .before .before .before .before .before .before .before .before .before .before .before .before .pre .1 .0 .walks .held; ends = w .ends; short = (let a = c .before .before .before .before .before .before .before .before .before .before .before .before .before .before .before .before .pre .1 .0 .walks .short in let b = w .inside in omega (arith, a, b)); room = room-here (c .before .before .before .before .before .before .before .before .before .before .before .before .before .before .before .before .pre .1 .0 .walks) (w .ends) (w .inside); kind = w .kind; noted = c .before .before .before .before .before .before .before .before .before .before .look .ensures .noted _ _ (c .before .before .before .before .before .x2 .given .1); marks = c .before .before .before .before .before .before .before .before .before .before .look .ensures .marks }, (c .before .before .before .before .before .before .before .before .before .before .before .before .before .before .before .before .pre .1 .0 .walks .first, λ a e. c .before .before .before .before .before .before .before .before .before .before .before .before .before .before .before .before .pre .1 .1 a (sym (w .kind) ∙ e)))
+turn-requires c κs = let w = whole (c .before .before .before .before .before .before .before .before .before .before .before .before .before .before .before .before .args .y) (c .before .before .before .before .before .before .before .before .before .before .before .before .before .before .before .before .pre .1 .0 .fits) (sym (c .before .before .before .before .before .before .before .before .before .before .look .ensures .look) ∙ c .before .before .before .before .before .x2 .given .1) in (c .before .before .before .before .before .before .before .before .before .before .before .before .before .before .before .before .pre .0, (record { before = _; held = c .before .before .before .before .before .before .before .before .before .before .before .before .before .before .before .before .pre .1 .0 .walks .held; ends = w .ends; short = (let a = c .before .before .before .before .before .before .before .before .before .before .before .before .before .before .before .before .pre .1 .0 .walks .short in let b = w .inside in omega (arith, a, b)); room = room-here (c .before .before .before .before .before .before .before .before .before .before .before .before .before .before .before .before .pre .1 .0 .walks) (w .ends) (w .inside); kind = w .kind; noted = c .before .before .before .before .before .before .before .before .before .before .look .ensures .noted _ _ (c .before .before .before .before .before .x2 .given .1); marks = c .before .before .before .before .before .before .before .before .before .before .look .ensures .marks }, (c .before .before .before .before .before .before .before .before .before .before .before .before .before .before .before .before .pre .1 .0 .walks .first, λ a e. c .before .before .before .before .before .before .before .before .before .before .before .before .before .before .before .before .pre .1 .1 a (sym (w .kind) ∙ e))))
 
 -- src/advance.rt:48:28
 enum-known-z : tie.Need-enum-known-z
@@ -75,7 +75,7 @@ same-length-7 c = search needs
 
 -- src/advance.rt:22:1
 returns-3 : tie.Need-returns-3
-returns-3 c = (λ a w. walking-on w (c .before .before .before .before .before .before .before .before .before .before .before .before .before .before .before .before .before .before .before .before .before .before .before .before .pre .1 .0 .fits) (c .before .before .before .before .before .before .before .before .before .before .before .before .before .before .before .before .before .before .before .before .before .before .before .before .pre .1 .0 .before) (sym (c .before .before .before .before .before .before .before .before .before .before .before .before .before .before .before .before .before .before .look .ensures .look) ∙ c .before .before .before .before .before .before .before .before .before .before .before .before .before .x2 .given .1) _ (c .before .before .before .before .before .before .before .turn .kept .1 .1 .1 .1 .1 .1 .1 .1 .1 .0) (c .before .z2 .given .1) (c .before .before .before .before .before .before .before .turn .ensures), c .before .before .before .before .before .before .before .before .before .before .before .before .before .before .before .before .before .before .look .ensures .marks)
+returns-3 c = (λ a w. walking-on w (c .before .before .before .before .before .before .before .before .before .before .before .before .before .before .before .before .before .before .before .before .before .before .before .before .pre .1 .0 .fits) (c .before .before .before .before .before .before .before .before .before .before .before .before .before .before .before .before .before .before .before .before .before .before .before .before .pre .1 .0 .before) (sym (c .before .before .before .before .before .before .before .before .before .before .before .before .before .before .before .before .before .before .look .ensures .look) ∙ c .before .before .before .before .before .before .before .before .before .before .before .before .before .x2 .given .1) _ (c .before .before .before .before .before .before .before .turn .kept .1 .1 .1 .1 .1 .1 .1 .1 .1 .1 .0) (c .before .z2 .given .1) (c .before .before .before .before .before .before .before .turn .ensures), c .before .before .before .before .before .before .before .before .before .before .before .before .before .before .before .before .before .before .look .ensures .marks)
 
 pub advance-spec : {M : Type 1} → statement M
 advance-spec =
