@@ -9,9 +9,9 @@ ghost use Rattle.syntax.specs.Service.{servant, differ, repetitionDiffers, fit,
 ghost use Rattle.syntax.specs.Content.{content};
 ghost use Rattle.syntax.specs.Cutting.{endAt};
 ghost use Rattle.syntax.specs.Opening.{startsUna, unaService, readUna, openingOf, levelNamed, versionNamed, refusedUnb, settled, declaredAt, isUnb, isTag, isThere, begunAt, begunOf};
+use syntax::Breach;
 use syntax::Found;
 use syntax::Level;
-use syntax::Breach;
 use syntax::Service;
 use syntax::Syntax;
 use syntax::Version;

@@ -10,12 +10,13 @@ use Rattle.syntax.specs.Octets.{same}
 use Rattle.syntax.specs.ContentLaws.{same-self}
 use Rattle.syntax.specs.TreeLaws.{off, and-left, and-right}
 use Rattle.syntax.specs.declared.Service.{Service}
+use Rattle.syntax.specs.declared.Version.{Version}
 use Rattle.grammar.specs.Lists.{Snoc, nil, _▷_, _+++_, each, joined, size, among, Rule, test, _and_, holds, every, few, distinct}
 use Rattle.grammar.specs.ListsLaws.{size-join}
 use Rattle.grammar.specs.TestLaws.{passes}
-use Rattle.grammar.specs.Segments.{Unh, seg, number, unh0062, unt0062, ust0534}
+use Rattle.grammar.specs.Segments.{Unh, seg, number, unh0062, unt0062, ust0534, ust0588}
 use Rattle.grammar.specs.Interchange.{Leaf, Header, Trailer, trailer, Body, plain, ack, msg, Message, message, showHeader, showTrailer, showBody, showOpen, showMessage}
-use Rattle.grammar.specs.Rules.{autack, okHeader, okBody, whole, okMessage, refH, refT, linked, one, refsMessage, sizeAt, counted, countsMessage, scopeRight, scopesMessage}
+use Rattle.grammar.specs.Rules.{autack, okHeader, okBody, whole, okMessage, refH, refT, linked, one, refsMessage, sizeAt, claimed, counted, countsMessage, scopeRight, scopesMessage}
 use Rattle.weaving.specs.Seals.{newHeader, newTrailer, grown, sealedMessage, refRight, filterRight, takesMore, isNew, maySeal}
 use Rattle.demands.specs.SealedListLaws.{front, same-swap, each-front, joined-front, every-front, distinct-front, away, aways, wider, longer, first-among}
 use Rattle.demands.specs.SealedNumberLaws.{ref-header, ref-trailer, grown-number, grown-0062}
@@ -61,7 +62,7 @@ recount : (r : List ℕ) (x : Header) (hs : Snoc Header) (ts : Snoc Trailer) →
 recount r x hs nil e k n h = tt
 recount r x hs (ts ▷ trailer c o) e k n h = (
   recount r x hs ts e k (n .0) (h .0),
-  subst (λ (m : ℕ). T (eqb (number c 2) (m + size (showTrailer (trailer c o)))))
+  subst (λ (m : ℕ). T (eqb (claimed (ust0588 c)) (m + size (showTrailer (trailer c o)))))
       (sym (size-other (ust0534 c) x hs (ap (λ (z : List ℕ). same z (ust0534 c)) e ∙ same-swap (ust0534 c) r (away (each refH hs) r (ust0534 c) k (n .1))))) (h .1),
 )
 
@@ -137,8 +138,8 @@ module _ (r : List ℕ) (f : ℕ) (σ : Service) (t : List ℕ) (u : Leaf) (hs :
       last-among s = subst (λ (c : Bool). T (c || among s r)) (sym (same-self r)) tt
 
   -- 10
-  pub counts-sealed : number n 1 + 4 < 1000000 → holds (refsMessage was) → holds (countsMessage was) → holds (countsMessage is)
-  counts-sealed l k c =
+  pub counts-sealed : (v : Version) → number n 1 + 4 < 1000000 → holds (refsMessage was) → holds (countsMessage v was) → holds (countsMessage v is)
+  counts-sealed v l k c =
       let e : number n 1 ≡ size (showMessage was) = eqb→eq (number n 1) (size (showMessage was)) (c .0) in
       let z : number (grown n) 1 ≡ size (showMessage is) = omega (arith, grown-number n l, e, size-open r f σ t u hs b ts) in (
         passes (eqb (number (grown n) 1) (size (showMessage is))) (eq-eqb (number (grown n) 1) (size (showMessage is)) z),

@@ -73,7 +73,7 @@ module _ (k : Option Una) (u : Leaf) (ms : Snoc Message) (z : Leaf) (v : Valid (
     -- UNT's count has room to grow
     pub small : number n 1 + 4 < 1000000
     small =
-        let c = placed-every σ p u m countsMessage ms e (v .counted .0) in
+        let c = placed-every σ p u m (countsMessage (v .y .version)) ms e (v .counted .0) in
         omega (
           arith,
           eqb→eq (number n 1) (size (showMessage (message (msg w hs b ts) n))) (c .0),
@@ -121,7 +121,7 @@ module _ (k : Option Una) (u : Leaf) (ms : Snoc Message) (z : Leaf) (v : Valid (
             (every-sealed H new m σ p u refsMessage ms e (λ h. refs-sealed r f σ′ t w hs b ts n y o h) (v .references .1 .0), v .references .1 .1),
           );
           counted = (
-            every-sealed H new m σ p u countsMessage ms e (λ h. counts-sealed r f σ′ t w hs b ts n y d g h) (v .counted .0),
+            every-sealed H new m σ p u (countsMessage (v .y .version)) ms e (λ h. counts-sealed r f σ′ t w hs b ts n y (v .y .version) d g h) (v .counted .0),
             subst (λ (x : ℕ). T (eqb (number z 1) x)) (sym (size-same H new m ms)) (v .counted .1),
           );
           scoped = every-sealed H new m σ p u scopesMessage ms e (λ h. scopes-sealed r f σ′ t w hs b ts n y h) (v .scoped);

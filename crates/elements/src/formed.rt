@@ -115,7 +115,7 @@ fn text(
 }
 
 // A component is digits, and so many.
-fn digits(
+pub fn digits(
     s: &[u8],
     at: usize,
     y: Syntax,

@@ -89,7 +89,7 @@ tree-valid =
       inOrder = check-holds (rules.order (reading tree-P)) refl;
       elements = check-holds (rules.wellFormed syntax-P (reading tree-P)) refl;
       references = check-holds (rules.refs (reading tree-P)) refl;
-      counted = check-holds (rules.counts (reading tree-P)) refl;
+      counted = check-holds (rules.counts Four (reading tree-P)) refl;
       scoped = check-holds (rules.scopes (reading tree-P)) refl;
       weighed = check-holds (rules.amounts (reading tree-P)) refl;
     }

@@ -10,6 +10,7 @@ use Rattle.syntax.specs.Octets as octets
 use Rattle.syntax.specs.Octets.{same}
 use Rattle.syntax.specs.Tree.{Segment, segment}
 use Rattle.syntax.specs.TreeLaws.{and-left, and-right}
+use Rattle.syntax.specs.declared.Version.{Version}
 use Rattle.grammar.specs.Lists.{Snoc, nil, _▷_, map, _+++_, joined, size, Rule, holds, every}
 use Rattle.grammar.specs.Segments.{Name, Unb, Unh, Unt, Unz, Ush, Usa, Usc, Usr, Ust, Usb, Usx, Usy, Kind, Named, Reserved, Free, Entry, entry, tags, kindIn, elementsOf, kindOf, textOf, withTag, seg}
 use Rattle.grammar.specs.Interchange.{Leaf, Certificate, certificate, Header, header, Trailer, trailer, Link, link, Body, plain, ack, Open, msg, Message, message, Reading, start, idle, busy, done, showCertificate, showHeader, showTrailer, showLink, showBody, showOpen, showMessage, shown}
@@ -315,23 +316,23 @@ shut-refs (busy u ms (msg h hs b (ts ▷ trailer t none))) f r = (r .0, (r .1 .0
 shut-refs (busy u ms (msg h hs b (ts ▷ trailer t (some a)))) f r = r
 
 -- 10 is kept when the last segment is taken off
-pub shut-counts : (z : Reading) (f : LastFree z) → holds (counts z) → Before counts (back z f)
-shut-counts start f c = tt
-shut-counts (idle u nil) f c = tt
-shut-counts (idle u (ms ▷ message (msg h hs b ts) t)) f c = c .0
-shut-counts (done u ms z) f c = c .0
-shut-counts (busy u ms (msg h nil (plain nil) nil)) f c = c
-shut-counts (busy u ms (msg h (hs ▷ header d nil nil) (plain nil) nil)) f c = c
-shut-counts (busy u ms (msg h (hs ▷ header d (us ▷ a) nil) (plain nil) nil)) f c = c
-shut-counts (busy u ms (msg h (hs ▷ header d us (cs ▷ certificate e nil none)) (plain nil) nil)) f c = c
-shut-counts (busy u ms (msg h (hs ▷ header d us (cs ▷ certificate e (vs ▷ a) none)) (plain nil) nil)) f c = c
-shut-counts (busy u ms (msg h (hs ▷ header d us (cs ▷ certificate e vs (some a))) (plain nil) nil)) f c = c
-shut-counts (busy u ms (msg h hs (plain (b ▷ i)) nil)) f c = c
-shut-counts (busy u ms (msg h hs (ack d nil) nil)) f c = c
-shut-counts (busy u ms (msg h hs (ack d (ls ▷ link x nil)) nil)) f c = c
-shut-counts (busy u ms (msg h hs (ack d (ls ▷ link x (ys ▷ y))) nil)) f c = c
-shut-counts (busy u ms (msg h hs b (ts ▷ trailer t none))) f c = c
-shut-counts (busy u ms (msg h hs b (ts ▷ trailer t (some a)))) f c = c
+pub shut-counts : (v : Version) (z : Reading) (f : LastFree z) → holds (counts v z) → Before (counts v) (back z f)
+shut-counts v start f c = tt
+shut-counts v (idle u nil) f c = tt
+shut-counts v (idle u (ms ▷ message (msg h hs b ts) t)) f c = c .0
+shut-counts v (done u ms z) f c = c .0
+shut-counts v (busy u ms (msg h nil (plain nil) nil)) f c = c
+shut-counts v (busy u ms (msg h (hs ▷ header d nil nil) (plain nil) nil)) f c = c
+shut-counts v (busy u ms (msg h (hs ▷ header d (us ▷ a) nil) (plain nil) nil)) f c = c
+shut-counts v (busy u ms (msg h (hs ▷ header d us (cs ▷ certificate e nil none)) (plain nil) nil)) f c = c
+shut-counts v (busy u ms (msg h (hs ▷ header d us (cs ▷ certificate e (vs ▷ a) none)) (plain nil) nil)) f c = c
+shut-counts v (busy u ms (msg h (hs ▷ header d us (cs ▷ certificate e vs (some a))) (plain nil) nil)) f c = c
+shut-counts v (busy u ms (msg h hs (plain (b ▷ i)) nil)) f c = c
+shut-counts v (busy u ms (msg h hs (ack d nil) nil)) f c = c
+shut-counts v (busy u ms (msg h hs (ack d (ls ▷ link x nil)) nil)) f c = c
+shut-counts v (busy u ms (msg h hs (ack d (ls ▷ link x (ys ▷ y))) nil)) f c = c
+shut-counts v (busy u ms (msg h hs b (ts ▷ trailer t none))) f c = c
+shut-counts v (busy u ms (msg h hs b (ts ▷ trailer t (some a)))) f c = c
 
 -- 11 is kept when the last segment is taken off
 pub shut-scopes : (z : Reading) (f : LastFree z) → holds (scopes z) → Before scopes (back z f)

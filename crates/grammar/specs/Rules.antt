@@ -6,15 +6,17 @@ use mathlib.Core.List.{List, [], _∷_}
 use mathlib.Core.Option.{Option, none, some}
 use lib.Dec.{eqb}
 use Rattle.syntax.specs.Octets.{octets, same}
+use Rattle.syntax.specs.Content.{valueFrom}
 use Rattle.syntax.specs.Cutting.{firstOutside}
 use Rattle.syntax.specs.Opening.{isThere}
 use Rattle.syntax.specs.Tree.{Segment, printS}
 use Rattle.syntax.specs.declared.Syntax.{Syntax}
+use Rattle.syntax.specs.declared.Version.{Version}
 use Rattle.grammar.specs.Lists.{Snoc, nil, _▷_, each, joined, size, any, among, Rule, always, test, _and_, every, few, distinct}
 use Rattle.grammar.specs.Grams.{Grams, sameGrams, sum}
 use Rattle.grammar.specs.Segments.{Kind, Named, Reserved, Free, kindOf, asked, unb0020, unh0062, unh0065, unt0074, unt0062, unz0036, unz0020, ush0534, ush0541, ust0534, ust0588, usy0534}
 use Rattle.grammar.specs.Interchange.{Leaf, Certificate, certificate, Header, header, Trailer, trailer, Link, link, Body, plain, ack, Open, msg, Message, message, Reading, start, idle, busy, done, showHeader, showTrailer, showMessage, shown}
-use Rattle.grammar.specs.Elements.{formed}
+use Rattle.grammar.specs.Elements.{inRange, digits, formed}
 use Rattle.grammar.specs.Loads.{loads, controls, loadRight}
 
 -- ---- 3: "octet outside the repertoire"
@@ -147,21 +149,25 @@ abbrev pub sizeAt : List ℕ → Snoc Header → ℕ
 sizeAt r nil = 0
 sizeAt r (hs ▷ h) = cond (same (refH h) r) (size (showHeader h)) (sizeAt r hs)
 
+-- what 0588 says, which has 1 to 6 digits; 0 where it has not
+abbrev pub claimed : List ℕ → ℕ
+claimed s = cond (inRange (digits 1 6) s) (valueFrom 0 s) 0
+
 -- "0588 counts the segments of its header and trailer pair together."
 abbrev pub counted : Snoc Header → Trailer → Rule
-counted hs (trailer c r) = test (eqb (ust0588 c) (sizeAt (ust0534 c) hs + size (showTrailer (trailer c r))))
+counted hs (trailer c r) = test (eqb (claimed (ust0588 c)) (sizeAt (ust0534 c) hs + size (showTrailer (trailer c r))))
 
--- "0074 counts UNH to UNT, both included."
-abbrev pub countsMessage : Message → Rule
-countsMessage (message (msg h hs b ts) t) =
+-- "0074 counts UNH to UNT, both included."; in every version alike
+abbrev pub countsMessage : Version → Message → Rule
+countsMessage v (message (msg h hs b ts) t) =
     test (eqb (unt0074 t) (size (showMessage (message (msg h hs b ts) t)))) and every (counted hs) ts and total b
 
 -- "0036 counts the messages."
-abbrev pub counts : Reading → Rule
-counts start = always
-counts (idle u ms) = every countsMessage ms
-counts (busy u ms o) = every countsMessage ms
-counts (done u ms z) = every countsMessage ms and test (eqb (unz0036 z) (size ms))
+abbrev pub counts : Version → Reading → Rule
+counts v start = always
+counts v (idle u ms) = every (countsMessage v) ms
+counts v (busy u ms o) = every (countsMessage v) ms
+counts v (done u ms z) = every (countsMessage v) ms and test (eqb (unz0036 z) (size ms))
 
 -- ---- 11: "0541 is 1 or 2; in AUTACK it is F01 and nothing else."
 

@@ -16,7 +16,7 @@ pub record Passed (y : Syntax) (x : Reading) (g : Segment) (z : Reading) : Type 
   pub seven : holds (order z)
   pub eight : holds (formedS y g)
   pub nine : holds (refs z)
-  pub ten : holds (counts z)
+  pub ten : holds (counts (y .version) z)
   pub eleven : holds (scopes z)
   pub twelve : holds (amountS g)
 
@@ -30,6 +30,6 @@ pub record Good (y : Syntax) (x : Reading) : Type 0 where
   pub seven : holds (order x)
   pub eight : holds (wellFormed y x)
   pub nine : holds (refs x)
-  pub ten : holds (counts x)
+  pub ten : holds (counts (y .version) x)
   pub eleven : holds (scopes x)
   pub twelve : holds (amounts x)

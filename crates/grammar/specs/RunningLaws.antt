@@ -60,7 +60,7 @@ abbrev GoodBefore : {z : Reading} → Syntax → Back z → Type 0
 GoodBefore y first = Unit {0}
 GoodBefore y (from x g q) = Good y x
 
-good-all : (y : Syntax) {z : Reading} (b : Back z) → Before (inside y) b → Before order b → Before (wellFormed y) b → Before refs b → Before counts b → Before scopes b
+good-all : (y : Syntax) {z : Reading} (b : Back z) → Before (inside y) b → Before order b → Before (wellFormed y) b → Before refs b → Before (counts (y .version)) b → Before scopes b
     → Before amounts b → GoodBefore y b
 good-all y first a b c d e f g = tt
 good-all y (from x k q) a b c d e f g = record { three = a; seven = b; eight = c; nine = d; ten = e; eleven = f; twelve = g }
@@ -68,7 +68,7 @@ good-all y (from x k q) a b c d e f g = record { three = a; seven = b; eight = c
 good-back : (y : Syntax) (z : Reading) (f : LastFree z) → Good y z → GoodBefore y (back z f)
 good-back y z f h =
     good-all y (back z f) (shut-each (insideS y) z f (h .three)) (shut-order z f (h .seven)) (shut-each (formedS y) z f (h .eight)) (shut-refs z f (h .nine))
-    (shut-counts z f (h .ten)) (shut-scopes z f (h .eleven)) (shut-each amountS z f (h .twelve))
+    (shut-counts (y .version) z f (h .ten)) (shut-scopes z f (h .eleven)) (shut-each amountS z f (h .twelve))
 
 every-last : (p : Segment → Rule) (x : Reading) (g : Segment) {z : Reading} → place x g ≡ some z → holds (every p (shown z)) → holds (p g)
 every-last p x g e h = (subst (λ (s : Snoc Segment). holds (every p s)) (shows x g e) h) .1

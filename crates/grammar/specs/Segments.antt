@@ -136,8 +136,8 @@ ush0505 es = text es 5 0
 abbrev pub ust0534 : List Element → List ℕ
 ust0534 es = compared (text es 1 0)
 
-abbrev pub ust0588 : List Element → ℕ
-ust0588 es = number es 2
+abbrev pub ust0588 : List Element → List ℕ
+ust0588 es = text es 2 0
 
 -- USR, USX, USY
 abbrev pub usr0560 : List Element → List ℕ

@@ -91,6 +91,6 @@ pub record Valid (t : Interchange) : Type 0 where
   pub inOrder : holds (order (reading t))
   pub elements : holds (wellFormed y (reading t))
   pub references : holds (refs (reading t))
-  pub counted : holds (counts (reading t))
+  pub counted : holds (counts (y .version) (reading t))
   pub scoped : holds (scopes (reading t))
   pub weighed : holds (amounts (reading t))

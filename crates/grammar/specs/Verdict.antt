@@ -50,7 +50,7 @@ tests y g p x =
     ∷ tested 7 p (on order x)
     ∷ tested 8 p (check (formedS y g))
     ∷ tested 9 p (on refs x)
-    ∷ tested 10 p (on counts x)
+    ∷ tested 10 p (on (counts (y .version)) x)
     ∷ tested 11 p (on scopes x)
     ∷ tested 12 p (check (amountS g))
     ∷ []

@@ -61,7 +61,7 @@ step-passed y x g p {z} e =
       seven = check-holds (order z) (on-some order (k .1) (a .1 .0));
       eight = check-holds (formedS y g) (a .1 .1 .0);
       nine = check-holds (refs z) (on-some refs (k .1) (a .1 .1 .1 .0));
-      ten = check-holds (counts z) (on-some counts (k .1) (a .1 .1 .1 .1 .0));
+      ten = check-holds (counts (y .version) z) (on-some (counts (y .version)) (k .1) (a .1 .1 .1 .1 .0));
       eleven = check-holds (scopes z) (on-some scopes (k .1) (a .1 .1 .1 .1 .1 .0));
       twelve = check-holds (amountS g) (a .1 .1 .1 .1 .1 .1 .0);
     }
@@ -79,7 +79,7 @@ passed-step y x g {z} k p =
           (
             some-on refs h (holds-check (refs z) (k .nine)),
             (
-              some-on counts h (holds-check (counts z) (k .ten)),
+              some-on (counts (y .version)) h (holds-check (counts (y .version) z) (k .ten)),
               (some-on scopes h (holds-check (scopes z) (k .eleven)), (holds-check (amountS g) (k .twelve), tt)),
             ),
           ),

@@ -39,7 +39,13 @@ pub fn missing() -> Refusal
 
 // The message whose 0062 has the content of `message` under the release `other`, for any octets. The class table is put into `t`, and where the
 // message's groups start into `rows`.
-pub fn message_like(s: &[u8], message: &[u8], other: u8, t: &mut [u8; 256], rows: &mut [usize; 18]) -> Named
+pub fn message_like(
+    s: &[u8],
+    message: &[u8],
+    other: u8,
+    t: &mut [u8; 256],
+    rows: &mut [usize; 18],
+) -> Named
     requires { ⌜ length (now rows) ≡ 18 ⌝ }
     ensures { λ r. ⌜ NamedIs (now (s .entry)) (content other (now (message .entry))) r (now (t .exit)) (now (rows .exit)) ⌝ }
 {

@@ -20,7 +20,7 @@ use Rattle.syntax.specs.declared.content.Number.{Number}
 use Rattle.syntax.specs.declared.content.Number.the-variants.{Is, Not}
 use Rattle.grammar.specs.Lists.{Snoc, _▷_, among}
 use Rattle.grammar.specs.TestLaws.{passes}
-use Rattle.grammar.specs.Rules.{scopeCode}
+use Rattle.grammar.specs.Rules.{claimed, scopeCode}
 use Rattle.grammar.specs.Segments.{Unt, Unz, Ust, Asked}
 use Rattle.grammar.specs.Elements.{Range, text, digits, closed, anyLength, row, inRange, formedAs, formedRow}
 use Rattle.elements.specs.AmountsLaws.{digits-below, tens-below}
@@ -121,6 +121,14 @@ module _ (σ : Service) (s : List ℕ) (a p : ℕ) {x : List ℕ} {r : Number} (
   pub number-never : r ≡ Not → ⊥
   number-never q = not-is (sym q ∙ number-is)
 
+-- 0588, by whether it has 1 to 6 digits
+module _ (s : List ℕ) {b : Bool} (d : b ≡ inRange (digits 1 6) s) where
+  pub claimed-digits : {n : ℕ} → b ≡ true → (n ≡ valueFrom 0 s) × (n < 1000000) → (n ≡ claimed s) × (n < 1000000)
+  claimed-digits t h = (h .0 ∙ sym (ap (λ (c : Bool). cond c (valueFrom 0 s) 0) (sym d ∙ t)), h .1)
+
+  pub claimed-none : b ≡ false → (0 ≡ claimed s) × (0 < 1000000)
+  claimed-none f = (sym (ap (λ (c : Bool). cond c (valueFrom 0 s) 0) (sym d ∙ f)), omega arith)
+
 -- ---- what a kind that may come and is well formed gives
 
 pub ush-room : (m : Message) → mayCome Ush m ≡ true → m .headers < 9
@@ -133,9 +141,6 @@ closed-range r a p e = at (a .repeated p) (inRange r (a .text p 0)) (leb (a .par
     at b true d h = refl
     at true false d h = h
     at false false d h = h
-
-pub ust-digits : (v : Version) (a : Asked) → formedRow (row v Ust) a 1 ≡ true → inRange (digits 1 6) (a .text 2 0) ≡ true
-ust-digits v a e = closed-range (digits 1 6) a 2 (and-l (formedAs (closed (digits 1 6 ∷ [])) a 2) true (and-r (formedAs (closed (text 1 14 ∷ [])) a 1) (formedAs (closed (digits 1 6 ∷ [])) a 2 && true) e))
 
 pub unt-digits : (v : Version) (a : Asked) → formedRow (row v Unt) a 1 ≡ true → inRange (digits 1 6) (a .text 1 0) ≡ true
 unt-digits v a e = closed-range (digits 1 6) a 1 (and-l (formedAs (closed (digits 1 6 ∷ [])) a 1) (formedRow (closed (text 1 anyLength ∷ []) ∷ []) a 2) e)
@@ -272,16 +277,16 @@ module _ (σ : Service) (s : List ℕ) (a : ℕ) (m : Message) (h : List ℕ) wh
       ust-found : free (textAt σ s a 1 0) ≡ some i
       ust-found = found-some (m .headers) (free (textAt σ s a 1 0)) (subst (λ (z : ℕ). z < m .headers) ust-place l) ∙ ap some (sym ust-place)
 
-      pub ust-moved : {n : Message} {k : ℕ} → k ≡ valueFrom 0 (textAt σ s a 2 0) → n ≡ trailed m k (getD h (4 * i + 2) 0) → (u w : ℕ)
+      pub ust-moved : {n : Message} {k : ℕ} → k ≡ claimed (textAt σ s a 2 0) → n ≡ trailed m k (getD h (4 * i + 2) 0) → (u w : ℕ)
           → MovedIs (ustM (summaryIn (σ .release) s m u w h) (askedAt σ s a) (freeAt (textAt σ s a 1 0) (headRefs (σ .release) s h (m .headers)) (headFlags h (m .headers)))) (To n) (σ .release) s u w h′
       ust-moved {n} {k} c o u w =
           subst (λ (z : Option ℕ). MovedIs (ustM (summaryIn (σ .release) s m u w h) (askedAt σ s a) z) (To n) (σ .release) s u w h′) (sym ust-found)
           (moved-to (σ .release) s u w h′ _ (o ∙ same) (same-summary refl (p .refs (σ .release) s) (p .sizes) (p .flags)) roomy)
         where
-          same : trailed m k (getD h (4 * i + 2) 0) ≡ trailed m (valueFrom 0 (textAt σ s a 2 0)) (sizeIn (headSizes h (m .headers)) i)
-          same = ap (λ (z : ℕ). trailed m z (getD h (4 * i + 2) 0)) c ∙ ap (trailed m (valueFrom 0 (textAt σ s a 2 0))) (sym (size-at h (m .headers) i l))
+          same : trailed m k (getD h (4 * i + 2) 0) ≡ trailed m (claimed (textAt σ s a 2 0)) (sizeIn (headSizes h (m .headers)) i)
+          same = ap (λ (z : ℕ). trailed m z (getD h (4 * i + 2) 0)) c ∙ ap (trailed m (claimed (textAt σ s a 2 0))) (sym (size-at h (m .headers) i l))
 
-          roomy : Roomy (trailed m (valueFrom 0 (textAt σ s a 2 0)) (sizeIn (headSizes h (m .headers)) i)) h′
+          roomy : Roomy (trailed m (claimed (textAt σ s a 2 0)) (sizeIn (headSizes h (m .headers)) i)) h′
           roomy = record {
             headers = g .headers;
             loads = omega (arith, g .loads);

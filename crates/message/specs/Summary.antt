@@ -7,13 +7,14 @@ use lib.Dec.{eqb, ltb}
 use Rattle.syntax.specs.Octets.{octets, same}
 use Rattle.syntax.specs.Content.{valueFrom, compared}
 use Rattle.syntax.specs.declared.Syntax.{Syntax}
+use Rattle.syntax.specs.declared.Version.{Version}
 use Rattle.grammar.specs.Lists.{Snoc, nil, _▷_, each, size, any, among, test, check, every}
 use Rattle.grammar.specs.Grams.{Grams, noGrams, sameGrams, sum}
 use Rattle.grammar.specs.Segments.{Asked, unb0020, unh0062, ust0534, ust0588}
 use Rattle.grammar.specs.Interchange.{Leaf, certificate, Header, header, Trailer, trailer, Link, link, Body, plain, ack, Open, msg, Reading, start, idle, busy, done, showHeader, showTrailer, showOpen}
 use Rattle.grammar.specs.Loads.{loads, controls, loadIn, controlIn, loadRight}
 use Rattle.grammar.specs.Elements.{formed}
-use Rattle.grammar.specs.Rules.{autack, refH, refT, refM, sizeAt, counted, scopeCode}
+use Rattle.grammar.specs.Rules.{autack, refH, refT, refM, sizeAt, claimed, counted, scopeCode}
 use Rattle.grammar.specs.Verdict.{Test, tested, Answer, read, refused}
 use Rattle.elements.specs.Kinds.{kindOf}
 use Rattle.elements.specs.declared.Kind.{Kind}
@@ -73,7 +74,7 @@ noPair = record { right = true; claim = 0; base = 0; own = 0 }
 
 abbrev pub pairOf : Snoc Header → Snoc Trailer → Pair
 pairOf hs nil = noPair
-pairOf hs (ts ▷ trailer c r) = record { right = check (every (counted hs) ts); claim = ust0588 c; base = sizeAt (ust0534 c) hs; own = size (showTrailer (trailer c r)) }
+pairOf hs (ts ▷ trailer c r) = record { right = check (every (counted hs) ts); claim = claimed (ust0588 c); base = sizeAt (ust0534 c) hs; own = size (showTrailer (trailer c r)) }
 
 -- ---- all of it: the code's struct; the message's 0062; of its headers 0534, the segments, and whether a trailer has named them
 
@@ -314,11 +315,11 @@ totalRight s = s .agree && (not (s .controlled) || eqb (s .control) (s .grams))
 abbrev pub numberIn : Asked → ℕ → ℕ
 numberIn a p = valueFrom 0 (a .text p 0)
 
-abbrev pub countsK : StateS → Kind → Asked → Bool
-countsK startS k a = true
-countsK (idleS u rs) k a = atIdle true (eqb (numberIn a 1) (size rs)) true k
-countsK (busyS u rs S) k a = atBusy true true true (eqb (numberIn a 1) (suc (S .m .segments)) && (pairsRight (S .m .pair) && totalRight (S .m .sums))) true k
-countsK doneS k a = true
+abbrev pub countsK : Version → StateS → Kind → Asked → Bool
+countsK v startS k a = true
+countsK v (idleS u rs) k a = atIdle true (eqb (numberIn a 1) (size rs)) true k
+countsK v (busyS u rs S) k a = atBusy true true true (eqb (numberIn a 1) (suc (S .m .segments)) && (pairsRight (S .m .pair) && totalRight (S .m .sums))) true k
+countsK v doneS k a = true
 
 -- ---- 11
 
@@ -404,7 +405,7 @@ ustNext S a (some i) = record {
     segments = suc (S .m .segments);
     headers = S .m .headers;
     sums = S .m .sums;
-    pair = record { right = pairsRight (S .m .pair); claim = numberIn a 2; base = sizeIn (S .sizes) i; own = 1 };
+    pair = record { right = pairsRight (S .m .pair); claim = claimed (a .text 2 0); base = sizeIn (S .sizes) i; own = 1 };
   };
   ref = S .ref;
   refs = S .refs;
@@ -486,8 +487,8 @@ orderS x a = orderK x (kindOf (a .tag))
 abbrev pub refsS : StateS → Asked → Bool
 refsS x a = refsK x (kindOf (a .tag)) a
 
-abbrev pub countsS : StateS → Asked → Bool
-countsS x a = countsK x (kindOf (a .tag)) a
+abbrev pub countsS : Version → StateS → Asked → Bool
+countsS v x a = countsK v x (kindOf (a .tag)) a
 
 abbrev pub scopeS : StateS → Asked → Bool
 scopeS x a = scopeK x (kindOf (a .tag)) a
@@ -508,7 +509,7 @@ testsS y a i q p x =
     ∷ tested 7 p (orderS x a)
     ∷ tested 8 p (formed (y .version) a)
     ∷ tested 9 p (refsS x a)
-    ∷ tested 10 p (countsS x a)
+    ∷ tested 10 p (countsS (y .version) x a)
     ∷ tested 11 p (scopeS x a)
     ∷ tested 12 p (loadRight a)
     ∷ []

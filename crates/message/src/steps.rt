@@ -6,7 +6,7 @@ ghost use Prim.Native.Nat.{ℕ, _≤_, _<_};
 ghost use lib.ListN.{length};
 ghost use Rattle.syntax.specs.Content.{valueFrom};
 ghost use Rattle.grammar.specs.Elements.{inRange, digits};
-ghost use Rattle.grammar.specs.Rules.{scopeCode};
+ghost use Rattle.grammar.specs.Rules.{claimed, scopeCode};
 ghost use Rattle.elements.specs.Octets.{textAt, askedAt};
 ghost use Rattle.elements.specs.Fields.{Marked};
 ghost use Rattle.message.specs.Heads.{headRefs, headSizes, headFlags};
@@ -24,6 +24,7 @@ use crate::kept::pairs_right;
 use elements::fields::field;
 use elements::fields::field_end;
 use elements::fields::field_start;
+use elements::formed::digits;
 use syntax::Syntax;
 use syntax::content::Number;
 use syntax::content::content_is;
@@ -163,6 +164,17 @@ pub fn number_in(s: &[u8], at: usize, y: Syntax, marks: &[usize], p: usize) -> u
     }
 }
 
+// What 0588 says, which has 1 to 6 digits; 0 where it has not.
+fn claimed_in(s: &[u8], at: usize, y: Syntax, marks: &[usize]) -> u64
+    requires { ⌜ Marked (y .service) (now s) at (now marks) ⌝ }
+    ensures { λ r. ⌜ (r ≡ claimed (textAt (y .service) (now (s .entry)) at 2 0)) × (r < 1000000) ⌝ }
+{
+    if digits(s, at, y, marks, 2, 0, 1, 6) {
+        return number_in(s, at, y, marks, 2);
+    }
+    0
+}
+
 // The message with a trailer more, which claims this and names a header of `base` segments.
 fn with_trailer(m: Message, claim: u32, base: u32) -> Message
     requires { ⌜ (m .segments < 65535) × (m .pair .base < 65536) × (m .pair .own < 65536) ⌝ }
@@ -199,7 +211,6 @@ pub fn on_ust(
     requires { ⌜ Marked (y .service) (now s) at (now marks) ⌝ }
     requires { ⌜ Roomy m (now heads) ⌝ }
     requires { ⌜ (m .segments < 65535) × (length (now heads) ≡ 36) ⌝ }
-    requires { ⌜ inRange (digits 1 6) (textAt (y .service) (now s) at 2 0) ≡ true ⌝ }
     requires { ⌜ Sought (y .service) (now s) at m (now heads) i ⌝ }
     ensures { λ r. ⌜ ((u w : ℕ) → MovedIs (ustM (summaryIn (y .service .release) (now (s .entry)) m u w (now (heads .entry))) (askedAt (y .service) (now (s .entry)) at) (freeAt (textAt (y .service) (now (s .entry)) at 1 0) (headRefs (y .service .release) (now (s .entry)) (now (heads .entry)) (m .headers)) (headFlags (now (heads .entry)) (m .headers)))) r (y .service .release) (now (s .entry)) u w (now (heads .exit))) ⌝ }
     ensures { λ r. ⌜ length (now (heads .exit)) ≡ 36 ⌝ }
@@ -210,7 +221,7 @@ pub fn on_ust(
     }
     let base = heads[4 * i + 2];
     name_header(heads, n, i);
-    let claim = number_in(s, at, y, marks, 2);
+    let claim = claimed_in(s, at, y, marks);
     Moved::To(with_trailer(m, claim as u32, base as u32))
 }
 

@@ -1,6 +1,6 @@
 // What the start of an interchange says: UNA or none, then UNB's first element. Crate `beginning` reads it.
-use crate::Level;
 use crate::Breach;
+use crate::Level;
 use crate::Service;
 use crate::Syntax;
 use crate::Version;

@@ -26,7 +26,7 @@ use Rattle.message.specs.HeadsLaws.{small-more}
 use Rattle.references.specs.Refs.{refsIn}
 use Rattle.message.specs.Summary.{Summary, StateS, busyS, orderS, refsK, countsK, scopeK, isFound, freeAt, moreInLast, atStart, atIdle, atBusy, mayCome, usrMay, usaGroup, uscGroup, grown, grownBy, ushNext, usrNext, ustNext, itemNext, loaded, busyNext, AnswerS, readS, refusedS}
 use Rattle.message.specs.Steps.{AnswerM, toM, badM, ustM, stepM, summaryIn, Roomy, MovedIs}
-use Rattle.message.specs.StepsLaws.{ust-digits, moved-to, roomy-small, roomy-grown}
+use Rattle.message.specs.StepsLaws.{moved-to, roomy-small, roomy-grown}
 use Rattle.message.specs.ItemsLaws.{cnt-tag, not-true, not-false}
 use Rattle.turns.specs.WalkingLaws.{free-load, at-7, at-8, stop}
 use Rattle.turns.specs.Held.{phased, stateIn, afterOther, openSize, Held, Ready, decidedFrom, StepIs}
@@ -51,9 +51,6 @@ may-to m j f h = ap (λ (x : Kind). mayCome x m) (sym f) ∙ h
 
 formed-to : (v : Version) (a : Asked) {k : Kind} → k ≡ kindOf (a .tag) → (j : Kind) → k ≡ j → formed v a ≡ true → formedBy v j a ≡ true
 formed-to v a e j f h = ap (λ (x : Kind). formedBy v x a) (sym f ∙ e) ∙ sym (formed-by v a) ∙ h
-
-pub ust-count : (v : Version) (a : Asked) {k : Kind} → k ≡ kindOf (a .tag) → k ≡ Ust → formed v a ≡ true → inRange (digits 1 6) (a .text 2 0) ≡ true
-ust-count v a e f h = ust-digits v a (formed-to v a e Ust f h)
 
 pub cnt-right : (v : Version) (a : Asked) {k : Kind} → k ≡ kindOf (a .tag) → k ≡ Cnt → formed v a ≡ true → controlRight a ≡ true
 cnt-right v a e f h = let w = and-r (not (a .anyRepeated)) (controlOf a) (formed-to v a e Cnt f h) in rw (cnt-tag (a .tag) (sym e ∙ f)) w
@@ -113,10 +110,10 @@ fromM u rs p (toM S) = readS (busyS u rs S)
 fromM u rs p (badM n) = refusedS n p
 
 -- 9 to 12
-abbrev busyRest : List ℕ → Snoc (List ℕ) → Summary → Asked → ℕ → Kind → AnswerS
-busyRest u rs S a p k =
+abbrev busyRest : Version → List ℕ → Snoc (List ℕ) → Summary → Asked → ℕ → Kind → AnswerS
+busyRest v u rs S a p k =
     cond (refsK (busyS u rs S) k a)
-    (cond (countsK (busyS u rs S) k a)
+    (cond (countsK v (busyS u rs S) k a)
     (cond (scopeK (busyS u rs S) k a) (cond (loadRight a) (readS (busyNext k u rs S a)) (refusedS 12 p)) (refusedS 11 p)) (refusedS 10 p)) (refusedS 9 p)
 
 abbrev GrowsM : ℕ → AnswerM → Type 0
@@ -148,31 +145,31 @@ module _ (u : List ℕ) (rs : Snoc (List ℕ)) (S : Summary) (a : Asked) (p : �
   usy-rest true T l = load-go l _
   usy-rest false T l = refl
 
-  rest-is : (k : Kind) → atBusy false false false true false k ≡ false → mayCome k (S .m) ≡ true → (isQty k ≡ false → loadRight a ≡ true) →
-      busyRest u rs S a p k ≡ fromM u rs p (stepM k S a)
-  rest-is Unb n m l = absurd (false≢true m)
-  rest-is Unh n m l = absurd (false≢true m)
-  rest-is Unt n m l = absurd (false≢true (sym n))
-  rest-is Unz n m l = absurd (false≢true m)
-  rest-is Ush n m l = ush-rest (not (among (S .refs) (a .text 2 0))) (scopeCode (S .m .autack) (a .text 3 0)) (l refl)
-  rest-is Usa n m l = load-go (l refl) _
-  rest-is Usc n m l = load-go (l refl) _
-  rest-is Usr n m l = load-go (l refl) _
-  rest-is Ust n m l = ust-rest (freeAt (a .text 1 0) (S .refs) (S .flags)) (l refl)
-  rest-is Usb n m l = load-go (l refl) _
-  rest-is Usx n m l = load-go (l refl) _
-  rest-is Usy n m l = usy-rest (among (S .refs) (a .text 1 0)) (grownBy S (Ack true true) (S .sizes)) (l refl)
-  rest-is Reserved n m l = absurd (false≢true m)
-  rest-is Qty n m l = one-rest (loadRight a) 12 (itemNext S (loaded (S .m .sums) (loadIn a)))
-  rest-is Cnt n m l = load-go (l refl) _
-  rest-is Other n m l = load-go (l refl) _
+  rest-is : (v : Version) (k : Kind) → atBusy false false false true false k ≡ false → mayCome k (S .m) ≡ true → (isQty k ≡ false → loadRight a ≡ true) →
+      busyRest v u rs S a p k ≡ fromM u rs p (stepM k S a)
+  rest-is v Unb n m l = absurd (false≢true m)
+  rest-is v Unh n m l = absurd (false≢true m)
+  rest-is v Unt n m l = absurd (false≢true (sym n))
+  rest-is v Unz n m l = absurd (false≢true m)
+  rest-is v Ush n m l = ush-rest (not (among (S .refs) (a .text 2 0))) (scopeCode (S .m .autack) (a .text 3 0)) (l refl)
+  rest-is v Usa n m l = load-go (l refl) _
+  rest-is v Usc n m l = load-go (l refl) _
+  rest-is v Usr n m l = load-go (l refl) _
+  rest-is v Ust n m l = ust-rest (freeAt (a .text 1 0) (S .refs) (S .flags)) (l refl)
+  rest-is v Usb n m l = load-go (l refl) _
+  rest-is v Usx n m l = load-go (l refl) _
+  rest-is v Usy n m l = usy-rest (among (S .refs) (a .text 1 0)) (grownBy S (Ack true true) (S .sizes)) (l refl)
+  rest-is v Reserved n m l = absurd (false≢true m)
+  rest-is v Qty n m l = one-rest (loadRight a) 12 (itemNext S (loaded (S .m .sums) (loadIn a)))
+  rest-is v Cnt n m l = load-go (l refl) _
+  rest-is v Other n m l = load-go (l refl) _
 
   pub busy-by : (v : Version) {k : Kind} → k ≡ kindOf (a .tag) → atBusy false false false true false k ≡ false → mayCome k (S .m) ≡ true → formed v a ≡ true →
       decidedFrom v (busyS u rs S) a p ≡ fromM u rs p (stepM k S a)
   busy-by v {k} e n m f =
-      ap (λ (z : Kind). cond (mayCome z (S .m)) (cond (formed v a) (busyRest u rs S a p z) (refusedS 8 p)) (refusedS 7 p)) (sym e)
-      ∙ ap (λ (c : Bool). cond c (cond (formed v a) (busyRest u rs S a p k) (refusedS 8 p)) (refusedS 7 p)) m
-      ∙ ap (λ (c : Bool). cond c (busyRest u rs S a p k) (refusedS 8 p)) f ∙ rest-is k n m (load-right a k e)
+      ap (λ (z : Kind). cond (mayCome z (S .m)) (cond (formed v a) (busyRest v u rs S a p z) (refusedS 8 p)) (refusedS 7 p)) (sym e)
+      ∙ ap (λ (c : Bool). cond c (cond (formed v a) (busyRest v u rs S a p k) (refusedS 8 p)) (refusedS 7 p)) m
+      ∙ ap (λ (c : Bool). cond c (busyRest v u rs S a p k) (refusedS 8 p)) f ∙ rest-is v k n m (load-right a k e)
 
 -- it is one segment more
 module _ (S : Summary) (a : Asked) where

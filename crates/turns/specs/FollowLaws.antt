@@ -9,6 +9,7 @@ use Rattle.syntax.specs.Octets.{octets, same}
 use Rattle.syntax.specs.Cutting.{firstOutside}
 use Rattle.syntax.specs.Tree.{Segment, printS}
 use Rattle.syntax.specs.declared.Syntax.{Syntax}
+use Rattle.syntax.specs.declared.Version.{Version}
 use Rattle.grammar.specs.Lists.{Snoc, nil, _▷_, each, size, any, among, test, _and_, holds, check, every}
 use Rattle.grammar.specs.ListsLaws.{each-size}
 use Rattle.grammar.specs.Segments as segments
@@ -31,11 +32,11 @@ use Rattle.message.specs.FlagLaws.{alike, any-each, any-size, load-sums, contro
 -- ---- what is to be shown of a segment of the kind k whose view is a: where it has no place, 7 is broken; where it has one, each test answers as its
 -- rule does, given the rules before it, and the step gives what is kept of the result
 
-pub data Follow (x : Reading) (k : Kind) (a : Asked) : Option Reading → Type 0 where
-  nowhere : orderK (stateOf x) k ≡ false → Follow x k a none
+pub data Follow (v : Version) (x : Reading) (k : Kind) (a : Asked) : Option Reading → Type 0 where
+  nowhere : orderK (stateOf x) k ≡ false → Follow v x k a none
   here : (z : Reading) → check (order z) ≡ orderK (stateOf x) k → (holds (order z) → check (refs z) ≡ refsK (stateOf x) k a)
-      → (holds (order z) → holds (refs z) → check (counts z) ≡ countsK (stateOf x) k a) → (holds (order z) → check (scopes z) ≡ scopeK (stateOf x) k a)
-      → (holds (order z) → holds (refs z) → stateOf z ≡ nextK (stateOf x) k a) → Follow x k a (some z)
+      → (holds (order z) → holds (refs z) → check (counts v z) ≡ countsK v (stateOf x) k a) → (holds (order z) → check (scopes z) ≡ scopeK (stateOf x) k a)
+      → (holds (order z) → holds (refs z) → stateOf z ≡ nextK (stateOf x) k a) → Follow v x k a (some z)
 
 -- ---- small facts
 
@@ -50,7 +51,7 @@ items h (hs ▷ header c us nil) = refl
 items h (hs ▷ header c us (cs ▷ certificate d vs r)) = refl
 
 module _ (y : Syntax) (u : Leaf) (ms : Snoc Message) (g : Segment) where
-  ush : (o : Open) → Good y (busy u ms o) → Follow (busy u ms o) Ush (asked g) (growNamed segments.Ush (elementsOf g) (busy u ms o))
+  ush : (o : Open) → Good y (busy u ms o) → Follow (y .version) (busy u ms o) Ush (asked g) (growNamed segments.Ush (elementsOf g) (busy u ms o))
   ush (msg h hs (plain nil) nil) q =
       let z : Reading = busy u ms (msg h (hs ▷ header (elementsOf g) nil nil) (plain nil) nil) in
       here z
@@ -59,14 +60,14 @@ module _ (y : Syntax) (u : Leaf) (ms : Snoc Message) (g : Segment) where
       (λ p. p .1 .0) (λ p. (q .seven .0, (p, ((q .seven .1 .1 .0, (tt, (tt, tt))), q .seven .1 .1 .1))))))
       (λ i. alike (refs z) (test (not (among (each refH hs) (ush0534 (elementsOf g)))))
       (λ p. p .1 .1 .0 .1) (λ p. (q .nine .0, (q .nine .1 .0, ((q .nine .1 .1 .0, p), q .nine .1 .1 .1)))))
-      (λ i j. holds-check (counts z) (q .ten))
+      (λ i j. holds-check (counts (y .version) z) (q .ten))
       (λ i. alike (scopes z) (scopeRight (autack h) (header (elementsOf g) nil nil)) (λ p. p .1 .1) (λ p. (q .eleven .0, (q .eleven .1, p))))
       (λ i j. refl)
   ush (msg h hs (plain (b ▷ i)) nil) q = nowhere refl
   ush (msg h hs (ack d ls) nil) q = nowhere refl
   ush (msg h hs b (ts ▷ trailer t r)) q = nowhere refl
 
-  usa : (o : Open) → Good y (busy u ms o) → Follow (busy u ms o) Usa (asked g) (growNamed segments.Usa (elementsOf g) (busy u ms o))
+  usa : (o : Open) → Good y (busy u ms o) → Follow (y .version) (busy u ms o) Usa (asked g) (growNamed segments.Usa (elementsOf g) (busy u ms o))
   usa (msg h nil (plain nil) nil) q = nowhere refl
   usa (msg h (hs ▷ header d us nil) (plain nil) nil) q =
       let z : Reading = busy u ms (msg h (hs ▷ header d (us ▷ elementsOf g) nil) (plain nil) nil) in
@@ -74,7 +75,7 @@ module _ (y : Syntax) (u : Leaf) (ms : Snoc Message) (g : Segment) where
       (alike (order z) (test (ltb (size us) 3))
       (λ p. p .1 .1 .0 .1 .0) (λ p. (q .seven .0, (q .seven .1 .0, ((q .seven .1 .1 .0 .0, (p, q .seven .1 .1 .0 .1 .1)), q .seven .1 .1 .1)))))
       (λ i. holds-check (refs z) (q .nine))
-      (λ i j. holds-check (counts z) (q .ten))
+      (λ i j. holds-check (counts (y .version) z) (q .ten))
       (λ i. holds-check (scopes z) (q .eleven))
       (λ i j. refl)
   usa (msg h (hs ▷ header d us (cs ▷ certificate e vs none)) (plain nil) nil) q =
@@ -83,7 +84,7 @@ module _ (y : Syntax) (u : Leaf) (ms : Snoc Message) (g : Segment) where
       (alike (order z) (test (ltb (size vs) 3)) (λ p. p .1 .1 .0 .1 .1 .1 .1)
       (λ p. (q .seven .0, (q .seven .1 .0, ((q .seven .1 .1 .0 .0, (q .seven .1 .1 .0 .1 .0, (q .seven .1 .1 .0 .1 .1 .0, (q .seven .1 .1 .0 .1 .1 .1 .0, p)))), q .seven .1 .1 .1)))))
       (λ i. holds-check (refs z) (q .nine))
-      (λ i j. holds-check (counts z) (q .ten))
+      (λ i j. holds-check (counts (y .version) z) (q .ten))
       (λ i. holds-check (scopes z) (q .eleven))
       (λ i j. refl)
   usa (msg h (hs ▷ header d us (cs ▷ certificate e vs (some r))) (plain nil) nil) q = nowhere refl
@@ -91,14 +92,14 @@ module _ (y : Syntax) (u : Leaf) (ms : Snoc Message) (g : Segment) where
   usa (msg h hs (ack d ls) nil) q = nowhere refl
   usa (msg h hs b (ts ▷ trailer t r)) q = nowhere refl
 
-  usc : (o : Open) → Good y (busy u ms o) → Follow (busy u ms o) Usc (asked g) (growNamed segments.Usc (elementsOf g) (busy u ms o))
+  usc : (o : Open) → Good y (busy u ms o) → Follow (y .version) (busy u ms o) Usc (asked g) (growNamed segments.Usc (elementsOf g) (busy u ms o))
   usc (msg h nil (plain nil) nil) q = nowhere refl
   usc (msg h (hs ▷ header d us nil) (plain nil) nil) q =
       let z : Reading = busy u ms (msg h (hs ▷ header d us (nil ▷ certificate (elementsOf g) nil none)) (plain nil) nil) in
       here z
       (holds-check (order z) (q .seven .0, (q .seven .1 .0, ((q .seven .1 .1 .0 .0, (q .seven .1 .1 .0 .1 .0, (tt, (tt, tt)))), q .seven .1 .1 .1))))
       (λ i. holds-check (refs z) (q .nine))
-      (λ i j. holds-check (counts z) (q .ten))
+      (λ i j. holds-check (counts (y .version) z) (q .ten))
       (λ i. holds-check (scopes z) (q .eleven))
       (λ i j. refl)
   usc (msg h (hs ▷ header d us (cs ▷ certificate e vs r)) (plain nil) nil) q =
@@ -107,14 +108,14 @@ module _ (y : Syntax) (u : Leaf) (ms : Snoc Message) (g : Segment) where
       (alike (order z) (test (ltb (suc (size cs)) 2)) (λ p. p .1 .1 .0 .1 .1 .0)
       (λ p. (q .seven .0, (q .seven .1 .0, ((q .seven .1 .1 .0 .0, (q .seven .1 .1 .0 .1 .0, (p, (q .seven .1 .1 .0 .1 .1 .1, tt)))), q .seven .1 .1 .1)))))
       (λ i. holds-check (refs z) (q .nine))
-      (λ i j. holds-check (counts z) (q .ten))
+      (λ i j. holds-check (counts (y .version) z) (q .ten))
       (λ i. holds-check (scopes z) (q .eleven))
       (λ i j. refl)
   usc (msg h hs (plain (b ▷ i)) nil) q = nowhere refl
   usc (msg h hs (ack d ls) nil) q = nowhere refl
   usc (msg h hs b (ts ▷ trailer t r)) q = nowhere refl
 
-  usr : (o : Open) → Good y (busy u ms o) → Follow (busy u ms o) Usr (asked g) (growNamed segments.Usr (elementsOf g) (busy u ms o))
+  usr : (o : Open) → Good y (busy u ms o) → Follow (y .version) (busy u ms o) Usr (asked g) (growNamed segments.Usr (elementsOf g) (busy u ms o))
   usr (msg h nil (plain nil) nil) q = nowhere refl
   usr (msg h (hs ▷ header d us nil) (plain nil) nil) q = nowhere refl
   usr (msg h (hs ▷ header d us (cs ▷ certificate e vs none)) (plain nil) nil) q =
@@ -122,7 +123,7 @@ module _ (y : Syntax) (u : Leaf) (ms : Snoc Message) (g : Segment) where
       here z
       (holds-check (order z) (q .seven))
       (λ i. holds-check (refs z) (q .nine))
-      (λ i j. holds-check (counts z) (q .ten))
+      (λ i j. holds-check (counts (y .version) z) (q .ten))
       (λ i. holds-check (scopes z) (q .eleven))
       (λ i j. refl)
   usr (msg h (hs ▷ header d us (cs ▷ certificate e vs (some r))) (plain nil) nil) q = nowhere refl
@@ -133,7 +134,7 @@ module _ (y : Syntax) (u : Leaf) (ms : Snoc Message) (g : Segment) where
       here z
       (holds-check (order z) (q .seven))
       (λ i. holds-check (refs z) (q .nine))
-      (λ i j. holds-check (counts z) (q .ten))
+      (λ i j. holds-check (counts (y .version) z) (q .ten))
       (λ i. holds-check (scopes z) (q .eleven))
       (λ i j. refl)
   usr (msg h hs b (ts ▷ trailer t (some r))) q = nowhere refl
@@ -169,7 +170,7 @@ module _ (y : Syntax) (u : Leaf) (ms : Snoc Message) (g : Segment) where
       (λ p. (q .nine .0, (q .nine .1 .0, (q .nine .1 .1 .0, (q .nine .1 .1 .1 .0, ((q .nine .1 .1 .1 .1 .0, p .0), (q .nine .1 .1 .1 .1 .1, p .1)))))))
       ∙ ust-found hs (each refT ts) _ (spot (ust0534 (elementsOf g)) hs (each refT ts) (q .nine .1 .1 .0))
 
-  ust : (o : Open) → Good y (busy u ms o) → Follow (busy u ms o) Ust (asked g) (growNamed segments.Ust (elementsOf g) (busy u ms o))
+  ust : (o : Open) → Good y (busy u ms o) → Follow (y .version) (busy u ms o) Ust (asked g) (growNamed segments.Ust (elementsOf g) (busy u ms o))
   ust (msg h hs b ts) q =
       let z : Reading = busy u ms (msg h hs b (ts ▷ trailer (elementsOf g) none)) in
       here z
@@ -177,11 +178,11 @@ module _ (y : Syntax) (u : Leaf) (ms : Snoc Message) (g : Segment) where
       (λ p. p .1 .1 .1 .1) (λ p. (q .seven .0, (q .seven .1 .0, (q .seven .1 .1 .0, (q .seven .1 .1 .1 .0, p)))))
       ∙ ends h hs b ts q)
       (λ i. ust-refs h hs b ts q)
-      (λ i j. holds-check (counts z) (q .ten))
+      (λ i j. holds-check (counts (y .version) z) (q .ten))
       (λ i. holds-check (scopes z) (q .eleven))
       (λ i j. ust-next h hs b ts _ (spot (ust0534 (elementsOf g)) hs (each refT ts) (q .nine .1 .1 .0)) (sym (ust-refs h hs b ts q) ∙ holds-check (refs z) j))
 
-  usb : (o : Open) → Good y (busy u ms o) → Follow (busy u ms o) Usb (asked g) (growNamed segments.Usb (elementsOf g) (busy u ms o))
+  usb : (o : Open) → Good y (busy u ms o) → Follow (y .version) (busy u ms o) Usb (asked g) (growNamed segments.Usb (elementsOf g) (busy u ms o))
   usb (msg h hs (plain nil) nil) q =
       let z : Reading = busy u ms (msg h hs (ack (elementsOf g) nil) nil) in
       here z
@@ -190,14 +191,14 @@ module _ (y : Syntax) (u : Leaf) (ms : Snoc Message) (g : Segment) where
       (λ p. (p .1 .1 .1 .0 .0, p .1 .1 .1 .0 .1 .0)) (λ p. (q .seven .0, (q .seven .1 .0, (q .seven .1 .1 .0, ((p .0, (p .1, tt)), tt)))))
       ∙ ap (λ (b : Bool). autack h && b) (any-size refH hs)))
       (λ i. holds-check (refs z) (q .nine))
-      (λ i j. holds-check (counts z) (q .ten))
+      (λ i j. holds-check (counts (y .version) z) (q .ten))
       (λ i. holds-check (scopes z) (q .eleven))
       (λ i j. refl)
   usb (msg h hs (plain (b ▷ i)) nil) q = nowhere refl
   usb (msg h hs (ack d ls) nil) q = nowhere refl
   usb (msg h hs b (ts ▷ trailer t r)) q = nowhere refl
 
-  usx : (o : Open) → Good y (busy u ms o) → Follow (busy u ms o) Usx (asked g) (growNamed segments.Usx (elementsOf g) (busy u ms o))
+  usx : (o : Open) → Good y (busy u ms o) → Follow (y .version) (busy u ms o) Usx (asked g) (growNamed segments.Usx (elementsOf g) (busy u ms o))
   usx (msg h nil (plain nil) nil) q = nowhere refl
   usx (msg h (hs ▷ header d us nil) (plain nil) nil) q = nowhere refl
   usx (msg h (hs ▷ header d us (cs ▷ certificate e vs r)) (plain nil) nil) q = nowhere refl
@@ -207,7 +208,7 @@ module _ (y : Syntax) (u : Leaf) (ms : Snoc Message) (g : Segment) where
       here z
       (holds-check (order z) (q .seven))
       (λ i. holds-check (refs z) (q .nine))
-      (λ i j. holds-check (counts z) (q .ten))
+      (λ i j. holds-check (counts (y .version) z) (q .ten))
       (λ i. holds-check (scopes z) (q .eleven))
       (λ i j. refl)
   usx (msg h hs (ack d (ls ▷ link e ys)) nil) q =
@@ -216,12 +217,12 @@ module _ (y : Syntax) (u : Leaf) (ms : Snoc Message) (g : Segment) where
       (alike (order z) (test (any ys)) (λ p. p .1 .1 .1 .0 .1 .1 .1)
       (λ p. (q .seven .0, (q .seven .1 .0, (q .seven .1 .1 .0, ((q .seven .1 .1 .1 .0 .0, (q .seven .1 .1 .1 .0 .1 .0, (q .seven .1 .1 .1 .0 .1 .1, p))), tt))))))
       (λ i. holds-check (refs z) (q .nine))
-      (λ i j. holds-check (counts z) (q .ten))
+      (λ i j. holds-check (counts (y .version) z) (q .ten))
       (λ i. holds-check (scopes z) (q .eleven))
       (λ i j. refl)
   usx (msg h hs b (ts ▷ trailer t r)) q = nowhere refl
 
-  usy : (o : Open) → Good y (busy u ms o) → Follow (busy u ms o) Usy (asked g) (growNamed segments.Usy (elementsOf g) (busy u ms o))
+  usy : (o : Open) → Good y (busy u ms o) → Follow (y .version) (busy u ms o) Usy (asked g) (growNamed segments.Usy (elementsOf g) (busy u ms o))
   usy (msg h nil (plain nil) nil) q = nowhere refl
   usy (msg h (hs ▷ header d us nil) (plain nil) nil) q = nowhere refl
   usy (msg h (hs ▷ header d us (cs ▷ certificate e vs r)) (plain nil) nil) q = nowhere refl
@@ -233,12 +234,12 @@ module _ (y : Syntax) (u : Leaf) (ms : Snoc Message) (g : Segment) where
       (holds-check (order z) (q .seven))
       (λ i. alike (refs z) (test (among (each refH hs) (usy0534 (elementsOf g))))
       (λ p. p .1 .1 .1 .0 .1) (λ p. (q .nine .0, (q .nine .1 .0, (q .nine .1 .1 .0, ((q .nine .1 .1 .1 .0, p), q .nine .1 .1 .1 .1))))))
-      (λ i j. holds-check (counts z) (q .ten))
+      (λ i j. holds-check (counts (y .version) z) (q .ten))
       (λ i. holds-check (scopes z) (q .eleven))
       (λ i j. refl)
   usy (msg h hs b (ts ▷ trailer t r)) q = nowhere refl
 
-  unt : (o : Open) → Good y (busy u ms o) → Follow (busy u ms o) Unt (asked g) (growNamed segments.Unt (elementsOf g) (busy u ms o))
+  unt : (o : Open) → Good y (busy u ms o) → Follow (y .version) (busy u ms o) Unt (asked g) (growNamed segments.Unt (elementsOf g) (busy u ms o))
   unt (msg h hs b ts) q =
       let z : Reading = idle u (ms ▷ message (msg h hs b ts) (elementsOf g)) in
       here z
@@ -247,31 +248,31 @@ module _ (y : Syntax) (u : Leaf) (ms : Snoc Message) (g : Segment) where
       (λ p. p .1 .1 .1) (λ p. (q .nine .0, (q .nine .1 .0, (q .nine .1 .1, p))))
       ∙ ap (λ (n : Bool). same (unt0062 (elementsOf g)) (unh0062 h) && n) (all-named (each refT ts) (each refH hs)))
       (λ i j. rw (← pairs-right hs ts, ← totals b)
-      (alike (counts z) (test (eqb (unt0074 (elementsOf g)) (suc (size (showOpen (msg h hs b ts))))) and every (counted hs) ts and total b)
+      (alike (counts (y .version) z) (test (eqb (unt0074 (elementsOf g)) (suc (size (showOpen (msg h hs b ts))))) and every (counted hs) ts and total b)
       (λ p. p .1) (λ p. (q .ten, p))))
       (λ i. holds-check (scopes z) (q .eleven))
       (λ i j. refl)
 
   -- ---- between messages
 
-  unh : Good y (idle u ms) → Follow (idle u ms) Unh (asked g) (growNamed segments.Unh (elementsOf g) (idle u ms))
+  unh : Good y (idle u ms) → Follow (y .version) (idle u ms) Unh (asked g) (growNamed segments.Unh (elementsOf g) (idle u ms))
   unh q =
       let z : Reading = busy u ms (msg (elementsOf g) nil (plain nil) nil) in
       here z
       (holds-check (order z) (q .seven, (tt, (tt, (tt, tt)))))
       (λ i. alike (refs z) (test (not (among (each refM ms) (unh0062 (elementsOf g)))))
       (λ p. p .0 .1) (λ p. ((q .nine .0, p), (q .nine .1, (tt, (tt, (tt, tt)))))))
-      (λ i j. holds-check (counts z) (q .ten))
+      (λ i j. holds-check (counts (y .version) z) (q .ten))
       (λ i. holds-check (scopes z) (q .eleven, tt))
       (λ i j. refl)
 
-  unz : Good y (idle u ms) → Follow (idle u ms) Unz (asked g) (growNamed segments.Unz (elementsOf g) (idle u ms))
+  unz : Good y (idle u ms) → Follow (y .version) (idle u ms) Unz (asked g) (growNamed segments.Unz (elementsOf g) (idle u ms))
   unz q =
       let z : Reading = done u ms (elementsOf g) in
       here z
       (rw (any-each refM ms) (alike (order z) (test (any ms)) (λ p. p .1) (λ p. (q .seven, p))))
       (λ i. alike (refs z) (test (same (unz0020 (elementsOf g)) (unb0020 u))) (λ p. p .1 .1) (λ p. (q .nine .0, (q .nine .1, p))))
-      (λ i j. rw (each-size refM ms) (alike (counts z) (test (eqb (unz0036 (elementsOf g)) (size ms))) (λ p. p .1) (λ p. (q .ten, p))))
+      (λ i j. rw (each-size refM ms) (alike (counts (y .version) z) (test (eqb (unz0036 (elementsOf g)) (size ms))) (λ p. p .1) (λ p. (q .ten, p))))
       (λ i. holds-check (scopes z) (q .eleven))
       (λ i j. refl)
 
@@ -291,13 +292,13 @@ module _ (y : Syntax) (u : Leaf) (ms : Snoc Message) (g : Segment) where
   qty-sums : controlIn (asked g) ≡ none → (b : Snoc Segment) → sumsOf (plain (b ▷ g)) ≡ loaded (sumsOf (plain b)) (loadIn (asked g))
   qty-sums l b = rw l (load-sums (loads b) (controls b) (loadIn (asked g)))
 
-  qty : controlIn (asked g) ≡ none → T (isFree (segments.kindOf g)) → (o : Open) → Good y (busy u ms o) → Follow (busy u ms o) Qty (asked g) (inOpen (inBody (itemB g)) (busy u ms o))
+  qty : controlIn (asked g) ≡ none → T (isFree (segments.kindOf g)) → (o : Open) → Good y (busy u ms o) → Follow (y .version) (busy u ms o) Qty (asked g) (inOpen (inBody (itemB g)) (busy u ms o))
   qty l f (msg h hs (plain nil) nil) q =
       let z : Reading = busy u ms (msg h hs (plain (nil ▷ g)) nil) in
       here z
       (rw (items h hs) (item-placed h hs nil q tt f))
       (λ i. holds-check (refs z) (q .nine))
-      (λ i j. holds-check (counts z) (q .ten))
+      (λ i j. holds-check (counts (y .version) z) (q .ten))
       (λ i. holds-check (scopes z) (q .eleven))
       (λ i j. item-next h hs nil _ (qty-sums l nil))
   qty l f (msg h hs (plain (b ▷ w)) nil) q =
@@ -305,7 +306,7 @@ module _ (y : Syntax) (u : Leaf) (ms : Snoc Message) (g : Segment) where
       here z
       ((item-placed h hs (b ▷ w) q (q .seven .1 .1 .1 .0 .1) f))
       (λ i. holds-check (refs z) (q .nine))
-      (λ i j. holds-check (counts z) (q .ten))
+      (λ i j. holds-check (counts (y .version) z) (q .ten))
       (λ i. holds-check (scopes z) (q .eleven))
       (λ i j. item-next h hs (b ▷ w) _ (qty-sums l (b ▷ w)))
   qty l f (msg h hs (ack d ls) nil) q = nowhere refl
@@ -314,13 +315,13 @@ module _ (y : Syntax) (u : Leaf) (ms : Snoc Message) (g : Segment) where
   cnt-sums : loadIn (asked g) ≡ none → (b : Snoc Segment) → sumsOf (plain (b ▷ g)) ≡ controlled (sumsOf (plain b)) (controlIn (asked g))
   cnt-sums l b = rw l (control-sums (loads b) (controls b) (controlIn (asked g)))
 
-  cnt : loadIn (asked g) ≡ none → T (isFree (segments.kindOf g)) → (o : Open) → Good y (busy u ms o) → Follow (busy u ms o) Cnt (asked g) (inOpen (inBody (itemB g)) (busy u ms o))
+  cnt : loadIn (asked g) ≡ none → T (isFree (segments.kindOf g)) → (o : Open) → Good y (busy u ms o) → Follow (y .version) (busy u ms o) Cnt (asked g) (inOpen (inBody (itemB g)) (busy u ms o))
   cnt l f (msg h hs (plain nil) nil) q =
       let z : Reading = busy u ms (msg h hs (plain (nil ▷ g)) nil) in
       here z
       (rw (items h hs) (item-placed h hs nil q tt f))
       (λ i. holds-check (refs z) (q .nine))
-      (λ i j. holds-check (counts z) (q .ten))
+      (λ i j. holds-check (counts (y .version) z) (q .ten))
       (λ i. holds-check (scopes z) (q .eleven))
       (λ i j. item-next h hs nil _ (cnt-sums l nil))
   cnt l f (msg h hs (plain (b ▷ w)) nil) q =
@@ -328,7 +329,7 @@ module _ (y : Syntax) (u : Leaf) (ms : Snoc Message) (g : Segment) where
       here z
       ((item-placed h hs (b ▷ w) q (q .seven .1 .1 .1 .0 .1) f))
       (λ i. holds-check (refs z) (q .nine))
-      (λ i j. holds-check (counts z) (q .ten))
+      (λ i j. holds-check (counts (y .version) z) (q .ten))
       (λ i. holds-check (scopes z) (q .eleven))
       (λ i j. item-next h hs (b ▷ w) _ (cnt-sums l (b ▷ w)))
   cnt l f (msg h hs (ack d ls) nil) q = nowhere refl
@@ -337,13 +338,13 @@ module _ (y : Syntax) (u : Leaf) (ms : Snoc Message) (g : Segment) where
   other-sums : loadIn (asked g) ≡ none → controlIn (asked g) ≡ none → (b : Snoc Segment) → sumsOf (plain (b ▷ g)) ≡ sumsOf (plain b)
   other-sums l m b = rw (l, m)
 
-  other : loadIn (asked g) ≡ none → controlIn (asked g) ≡ none → T (isFree (segments.kindOf g)) → (o : Open) → Good y (busy u ms o) → Follow (busy u ms o) Other (asked g) (inOpen (inBody (itemB g)) (busy u ms o))
+  other : loadIn (asked g) ≡ none → controlIn (asked g) ≡ none → T (isFree (segments.kindOf g)) → (o : Open) → Good y (busy u ms o) → Follow (y .version) (busy u ms o) Other (asked g) (inOpen (inBody (itemB g)) (busy u ms o))
   other l m f (msg h hs (plain nil) nil) q =
       let z : Reading = busy u ms (msg h hs (plain (nil ▷ g)) nil) in
       here z
       (rw (items h hs) (item-placed h hs nil q tt f))
       (λ i. holds-check (refs z) (q .nine))
-      (λ i j. holds-check (counts z) (q .ten))
+      (λ i j. holds-check (counts (y .version) z) (q .ten))
       (λ i. holds-check (scopes z) (q .eleven))
       (λ i j. item-next h hs nil _ (other-sums l m nil))
   other l m f (msg h hs (plain (b ▷ w)) nil) q =
@@ -351,7 +352,7 @@ module _ (y : Syntax) (u : Leaf) (ms : Snoc Message) (g : Segment) where
       here z
       ((item-placed h hs (b ▷ w) q (q .seven .1 .1 .1 .0 .1) f))
       (λ i. holds-check (refs z) (q .nine))
-      (λ i j. holds-check (counts z) (q .ten))
+      (λ i j. holds-check (counts (y .version) z) (q .ten))
       (λ i. holds-check (scopes z) (q .eleven))
       (λ i j. item-next h hs (b ▷ w) _ (other-sums l m (b ▷ w)))
   other l m f (msg h hs (ack d ls) nil) q = nowhere refl
@@ -359,7 +360,7 @@ module _ (y : Syntax) (u : Leaf) (ms : Snoc Message) (g : Segment) where
 
 -- ---- all kinds
 
-pub named-follows : (y : Syntax) (x : Reading) (g : Segment) (n : Name) → Good y x → Follow x (ofName n) (asked g) (growNamed n (elementsOf g) x)
+pub named-follows : (y : Syntax) (x : Reading) (g : Segment) (n : Name) → Good y x → Follow (y .version) x (ofName n) (asked g) (growNamed n (elementsOf g) x)
 named-follows y start g segments.Unb q = here (idle (elementsOf g) nil) refl (λ i. refl) (λ i j. refl) (λ i. refl) (λ i j. refl)
 named-follows y start g segments.Unh q = nowhere refl
 named-follows y start g segments.Unt q = nowhere refl
@@ -423,7 +424,7 @@ not-control : (g : Segment) → same (tagText g) (octets "CNT") ≡ false → co
 not-control g e = rw e
 
 free-follows : (y : Syntax) (x : Reading) (g : Segment) (a b : Bool) → same (tagText g) (octets "QTY") ≡ a → same (tagText g) (octets "CNT") ≡ b
-    → T (isFree (segments.kindOf g)) → Good y x → Follow x (cond a Qty (cond b Cnt Other)) (asked g) (inOpen (inBody (itemB g)) x)
+    → T (isFree (segments.kindOf g)) → Good y x → Follow (y .version) x (cond a Qty (cond b Cnt Other)) (asked g) (inOpen (inBody (itemB g)) x)
 free-follows y start g true b e k f q = nowhere refl
 free-follows y start g false true e k f q = nowhere refl
 free-follows y start g false false e k f q = nowhere refl
@@ -444,35 +445,35 @@ reserved (busy u ms o) = refl
 reserved (done u ms z) = refl
 
 kind-follows : (y : Syntax) (x : Reading) (g : Segment) (k : segments.Kind) → segments.kindOf g ≡ k → Good y x
-    → Follow x (ofKind k (tagText g)) (asked g) (grow k g x)
+    → Follow (y .version) x (ofKind k (tagText g)) (asked g) (grow k g x)
 kind-follows y x g (Named n) e q = named-follows y x g n q
 kind-follows y x g segments.Reserved e q = nowhere (reserved x)
 kind-follows y x g Free e q = free-follows y x g (same (tagText g) (octets "QTY")) (same (tagText g) (octets "CNT")) refl refl (subst (λ (k : segments.Kind). T (isFree k)) (sym e) tt) q
 
 -- of every segment
-pub follows : (y : Syntax) (x : Reading) (g : Segment) → Good y x → Follow x (kindOf (tagText g)) (asked g) (place x g)
+pub follows : (y : Syntax) (x : Reading) (g : Segment) → Good y x → Follow (y .version) x (kindOf (tagText g)) (asked g) (place x g)
 follows y x g q = kind-follows y x g (segments.kindOf g) refl q
 
 -- ---- each test, and the step
 
-module _ {x : Reading} {k : Kind} {a : Asked} where
-  order-of : (o : Option Reading) → Follow x k a o → on order o ≡ orderK (stateOf x) k
+module _ {v : Version} {x : Reading} {k : Kind} {a : Asked} where
+  order-of : (o : Option Reading) → Follow v x k a o → on order o ≡ orderK (stateOf x) k
   order-of o (nowhere e) = sym e
   order-of o (here z e r c s n) = e
 
-  refs-of : (o : Option Reading) → Follow x k a o → (z : Reading) → o ≡ some z → holds (order z) → check (refs z) ≡ refsK (stateOf x) k a
+  refs-of : (o : Option Reading) → Follow v x k a o → (z : Reading) → o ≡ some z → holds (order z) → check (refs z) ≡ refsK (stateOf x) k a
   refs-of o (nowhere e) z p = absurd (Option·none-ne-some _ p)
   refs-of o (here w e r c s n) z p = let h : w ≡ z = cc in subst (λ (v : Reading). holds (order v) → check (refs v) ≡ refsK (stateOf x) k a) h r
 
-  counts-of : (o : Option Reading) → Follow x k a o → (z : Reading) → o ≡ some z → holds (order z) → holds (refs z) → check (counts z) ≡ countsK (stateOf x) k a
+  counts-of : (o : Option Reading) → Follow v x k a o → (z : Reading) → o ≡ some z → holds (order z) → holds (refs z) → check (counts v z) ≡ countsK v (stateOf x) k a
   counts-of o (nowhere e) z p = absurd (Option·none-ne-some _ p)
-  counts-of o (here w e r c s n) z p = let h : w ≡ z = cc in subst (λ (v : Reading). holds (order v) → holds (refs v) → check (counts v) ≡ countsK (stateOf x) k a) h c
+  counts-of o (here w e r c s n) z p = let h : w ≡ z = cc in subst (λ (b : Reading). holds (order b) → holds (refs b) → check (counts v b) ≡ countsK v (stateOf x) k a) h c
 
-  scopes-of : (o : Option Reading) → Follow x k a o → (z : Reading) → o ≡ some z → holds (order z) → check (scopes z) ≡ scopeK (stateOf x) k a
+  scopes-of : (o : Option Reading) → Follow v x k a o → (z : Reading) → o ≡ some z → holds (order z) → check (scopes z) ≡ scopeK (stateOf x) k a
   scopes-of o (nowhere e) z p = absurd (Option·none-ne-some _ p)
   scopes-of o (here w e r c s n) z p = let h : w ≡ z = cc in subst (λ (v : Reading). holds (order v) → check (scopes v) ≡ scopeK (stateOf x) k a) h s
 
-  next-of : (o : Option Reading) → Follow x k a o → (z : Reading) → o ≡ some z → holds (order z) → holds (refs z) → stateOf z ≡ nextK (stateOf x) k a
+  next-of : (o : Option Reading) → Follow v x k a o → (z : Reading) → o ≡ some z → holds (order z) → holds (refs z) → stateOf z ≡ nextK (stateOf x) k a
   next-of o (nowhere e) z p = absurd (Option·none-ne-some _ p)
   next-of o (here w e r c s n) z p = let h : w ≡ z = cc in subst (λ (v : Reading). holds (order v) → holds (refs v) → stateOf v ≡ nextK (stateOf x) k a) h n
 
@@ -486,7 +487,7 @@ module _ (y : Syntax) (x : Reading) (g : Segment) (q : Good y x) where
   follow-refs z e = refs-of (place x g) (follows y x g q) z e
 
   -- 10
-  pub follow-counts : (z : Reading) → place x g ≡ some z → holds (order z) → holds (refs z) → check (counts z) ≡ countsS (stateOf x) (asked g)
+  pub follow-counts : (z : Reading) → place x g ≡ some z → holds (order z) → holds (refs z) → check (counts (y .version) z) ≡ countsS (y .version) (stateOf x) (asked g)
   follow-counts z e = counts-of (place x g) (follows y x g q) z e
 
   -- 11
@@ -525,13 +526,13 @@ pub follow : (y : Syntax) (x : Reading) (g : Segment) (p : ℕ) → Good y x
     ≡ decidedS (testsS y (asked g) (check (insideS y g)) (foundAt p (firstOutside y (printS (y .service) g) p)) p (stateOf x)) (nextS (stateOf x) (asked g))
 follow y x g p q = by (place x g) (follows y x g q)
   where
-    by : (o : Option Reading) → Follow x (kindOf (tagText g)) (asked g) o
+    by : (o : Option Reading) → Follow (y .version) x (kindOf (tagText g)) (asked g) o
         → told (decided (tests y g p o) o)
         ≡ decidedS (testsS y (asked g) (check (insideS y g)) (foundAt p (firstOutside y (printS (y .service) g) p)) p (stateOf x)) (nextS (stateOf x) (asked g))
     by o (nowhere e) = lost (foundAt p (firstOutside y (printS (y .service) g) p)) p (check (insideS y g)) (orderS (stateOf x) (asked g)) _ e
     by o (here z e r c s n) =
-        passes (foundAt p (firstOutside y (printS (y .service) g) p)) p z (check (insideS y g)) (check (order z)) (check (formedS y g)) (check (refs z)) (check (counts z)) (check (scopes z)) (check (amountS g))
-        (orderS (stateOf x) (asked g)) (refsS (stateOf x) (asked g)) (countsS (stateOf x) (asked g)) (scopeS (stateOf x) (asked g)) (nextS (stateOf x) (asked g))
+        passes (foundAt p (firstOutside y (printS (y .service) g) p)) p z (check (insideS y g)) (check (order z)) (check (formedS y g)) (check (refs z)) (check (counts (y .version) z)) (check (scopes z)) (check (amountS g))
+        (orderS (stateOf x) (asked g)) (refsS (stateOf x) (asked g)) (countsS (y .version) (stateOf x) (asked g)) (scopeS (stateOf x) (asked g)) (nextS (stateOf x) (asked g))
         e
         (λ a. r (check-holds (order z) a))
         (λ a b. c (check-holds (order z) a) (check-holds (refs z) b))

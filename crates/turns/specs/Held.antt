@@ -129,7 +129,7 @@ pub record Held (ρ : ℕ) (s : List ℕ) (x : State) (h l b : List ℕ) (i : �
 abbrev pub decidedFrom : Version → StateS → Asked → ℕ → AnswerS
 decidedFrom v S a p =
     decidedS
-    (tested 7 p (orderS S a) ∷ tested 8 p (formed v a) ∷ tested 9 p (refsS S a) ∷ tested 10 p (countsS S a) ∷ tested 11 p (scopeS S a)
+    (tested 7 p (orderS S a) ∷ tested 8 p (formed v a) ∷ tested 9 p (refsS S a) ∷ tested 10 p (countsS v S a) ∷ tested 11 p (scopeS S a)
     ∷ tested 12 p (loadRight a) ∷ [])
     (nextS S a)
 

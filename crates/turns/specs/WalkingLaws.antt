@@ -96,20 +96,20 @@ module _ (p : ℕ) (o f r c g l : Bool) (x : StateS) where
 
 module _ (v : Version) (S : StateS) (a : Asked) (p : ℕ) where
   pub at-7 : orderS S a ≡ false → decidedFrom v S a p ≡ refusedS 7 p
-  at-7 = six-7 p (orderS S a) (formed v a) (refsS S a) (countsS S a) (scopeS S a) (loadRight a) (nextS S a)
+  at-7 = six-7 p (orderS S a) (formed v a) (refsS S a) (countsS v S a) (scopeS S a) (loadRight a) (nextS S a)
 
   pub at-8 : orderS S a ≡ true → formed v a ≡ false → decidedFrom v S a p ≡ refusedS 8 p
-  at-8 = six-8 p (orderS S a) (formed v a) (refsS S a) (countsS S a) (scopeS S a) (loadRight a) (nextS S a)
+  at-8 = six-8 p (orderS S a) (formed v a) (refsS S a) (countsS v S a) (scopeS S a) (loadRight a) (nextS S a)
 
   at-9 : orderS S a ≡ true → formed v a ≡ true → refsS S a ≡ false → decidedFrom v S a p ≡ refusedS 9 p
-  at-9 = six-9 p (orderS S a) (formed v a) (refsS S a) (countsS S a) (scopeS S a) (loadRight a) (nextS S a)
+  at-9 = six-9 p (orderS S a) (formed v a) (refsS S a) (countsS v S a) (scopeS S a) (loadRight a) (nextS S a)
 
-  at-10 : orderS S a ≡ true → formed v a ≡ true → refsS S a ≡ true → countsS S a ≡ false → decidedFrom v S a p ≡ refusedS 10 p
-  at-10 = six-10 p (orderS S a) (formed v a) (refsS S a) (countsS S a) (scopeS S a) (loadRight a) (nextS S a)
+  at-10 : orderS S a ≡ true → formed v a ≡ true → refsS S a ≡ true → countsS v S a ≡ false → decidedFrom v S a p ≡ refusedS 10 p
+  at-10 = six-10 p (orderS S a) (formed v a) (refsS S a) (countsS v S a) (scopeS S a) (loadRight a) (nextS S a)
 
-  at-end : orderS S a ≡ true → formed v a ≡ true → refsS S a ≡ true → countsS S a ≡ true → scopeS S a ≡ true → loadRight a ≡ true →
+  at-end : orderS S a ≡ true → formed v a ≡ true → refsS S a ≡ true → countsS v S a ≡ true → scopeS S a ≡ true → loadRight a ≡ true →
       decidedFrom v S a p ≡ readS (nextS S a)
-  at-end = six-on p (orderS S a) (formed v a) (refsS S a) (countsS S a) (scopeS S a) (loadRight a) (nextS S a)
+  at-end = six-on p (orderS S a) (formed v a) (refsS S a) (countsS v S a) (scopeS S a) (loadRight a) (nextS S a)
 
 module _ {A : AnswerS} (ρ : ℕ) (s h l b : List ℕ) (i : ℕ) where
   pub stop : {r : Step} {n p : ℕ} → A ≡ refusedS n p → r ≡ Stop (record { number = n; place = p }) → StepIs A r ρ s h l b i
@@ -239,7 +239,7 @@ module _ (y : Syntax) (s : List ℕ) (st : State) (h l b : List ℕ) (at next : 
       unb-read n d =
           go (y .service .release) s h l b next
           (at-end (y .version) here ask at unb-order (sym e ∙ not-false q n) (by (λ (x : StateS) (k : Kind). refsK x k ask) unb-here (g .kind))
-          (by (λ (x : StateS) (k : Kind). countsK x k ask) unb-here (g .kind)) (by (λ (x : StateS) (k : Kind). scopeK x k ask) unb-here (g .kind)) (unb-load ask (g .kind)))
+          (by (λ (x : StateS) (k : Kind). countsK (y .version) x k ask) unb-here (g .kind)) (by (λ (x : StateS) (k : Kind). scopeK x k ask) unb-here (g .kind)) (unb-load ask (g .kind)))
           d unb-is unb-held
 
   idle-here : st .phase ≡ Idle → here ≡ idleS unbs refs
@@ -308,7 +308,7 @@ module _ (y : Syntax) (s : List ℕ) (st : State) (h l b : List ℕ) (at next : 
         unh-read d =
             go (y .service .release) s h l′ b next
             (at-end (y .version) here ask at unh-order (sym e ∙ not-false q n) (unh-refs (o .new))
-            (by (λ (x : StateS) (k : Kind). countsK x k ask) (idle-here ph) (g .kind)) (by (λ (x : StateS) (k : Kind). scopeK x k ask) (idle-here ph) (g .kind)) (unh-load ask (g .kind)))
+            (by (λ (x : StateS) (k : Kind). countsK (y .version) x k ask) (idle-here ph) (g .kind)) (by (λ (x : StateS) (k : Kind). scopeK x k ask) (idle-here ph) (g .kind)) (unh-load ask (g .kind)))
             d unh-is unh-held
 
   module _ (g : Ready y s st h l b at next Unz f marks) (ph : st .phase ≡ Idle) where
@@ -337,8 +337,8 @@ module _ (y : Syntax) (s : List ℕ) (st : State) (h l b : List ℕ) (at next : 
           unz-other v d = stop (y .service .release) s h l b next (at-9 (y .version) here ask at unz-may (sym e ∙ not-false q n) (unz-refs ∙ not-true a v)) d
 
           module _ (v : not a ≡ false) {k w : ℕ} (number : k ≡ valueFrom 0 (textAt (y .service) s at 1 0)) (count : w ≡ st .count) where
-            unz-counts : countsS here ask ≡ eqb (numberIn ask 1) (size refs)
-            unz-counts = by (λ (z : StateS) (k : Kind). countsK z k ask) (idle-here ph) (g .kind)
+            unz-counts : countsS (y .version) here ask ≡ eqb (numberIn ask 1) (size refs)
+            unz-counts = by (λ (z : StateS) (k : Kind). countsK (y .version) z k ask) (idle-here ph) (g .kind)
 
             pub unz-wrong : (k ≡ w → ⊥) → {r : Step} → r ≡ Stop (record { number = 10; place = at }) → Told r
             unz-wrong c d =
@@ -420,10 +420,10 @@ module _ (y : Syntax) (s : List ℕ) (st : State) (h l b : List ℕ) (at next : 
 
             module _ (v : not a ≡ false) {c : Bool}
                 (counts : c ≡ (eqb (numberIn ask 1) (st .message .segments + 1) && (pairsRight (st .message .pair) && totalRight (st .message .sums)))) where
-              unt-counts : countsS here ask ≡ c
+              unt-counts : countsS (y .version) here ask ≡ c
               unt-counts =
                   let i : suc (st .message .segments) ≡ st .message .segments + 1 = omega arith in
-                  by (λ (z : StateS) (k : Kind). countsK z k ask) (busy-here ph) (g .kind)
+                  by (λ (z : StateS) (k : Kind). countsK (y .version) z k ask) (busy-here ph) (g .kind)
                   ∙ ap (λ (k : ℕ). eqb (numberIn ask 1) k && (pairsRight (st .message .pair) && totalRight (st .message .sums))) i ∙ sym counts
 
               pub unt-wrong : not c ≡ true → {r : Step} → r ≡ Stop (record { number = 10; place = at }) → Told r

@@ -7,7 +7,7 @@ use Rattle.message.proofs.steps.on_ust.Tie as tie
 use Rattle.message.proofs.steps.on_ust.Reads as reads
 use Rattle.message.proofs.steps.on_ust.Lts as lts
 use Rattle.message.proofs.heads.name_header.Reads as name-header-reads
-use Rattle.message.proofs.steps.number_in.Reads as number-in-reads
+use Rattle.message.proofs.steps.claimed_in.Reads as claimed-in-reads
 use Rattle.message.proofs.steps.with_trailer.Reads as with-trailer-reads
 
 -- src/steps.rt:206:13
@@ -16,7 +16,7 @@ cast-n c = search needs
 
 -- src/steps.rt:208:9
 returns : tie.Need-returns
-returns c = (ust-bad (c .before .before .before .before .args .y .service) (c .before .before .before .before .args .s .now) (c .before .before .before .before .args .at) (c .before .before .before .before .args .m) (c .before .before .before .before .args .heads .now) (c .before .before .before .before .pre .1 .1 .1 .1 .found) _ (c .if1 .taken), c .before .before .before .before .pre .1 .1 .0 .1)
+returns c = (ust-bad (c .before .before .before .before .args .y .service) (c .before .before .before .before .args .s .now) (c .before .before .before .before .args .at) (c .before .before .before .before .args .m) (c .before .before .before .before .args .heads .now) (c .before .before .before .before .pre .1 .1 .1 .found) _ (c .if1 .taken), c .before .before .before .before .pre .1 .1 .0 .1)
 
 -- src/steps.rt:210:22
 mul-base : tie.Need-mul-base
@@ -39,8 +39,8 @@ name-header-requires : tie.Need-name-header-requires
 name-header-requires c κs = search needs
 
 -- src/steps.rt:212:9
-number-in-requires : tie.Need-number-in-requires
-number-in-requires c κs = search needs
+claimed-in-requires : tie.Need-claimed-in-requires
+claimed-in-requires c κs = search needs
 
 -- src/steps.rt:213:31
 cast-with-trailer : tie.Need-cast-with-trailer
@@ -56,7 +56,7 @@ with-trailer-requires c κs = search needs
 
 -- src/steps.rt:189:1
 returns-2 : tie.Need-returns-2
-returns-2 c = (ust-moved (c .before .before .before .before .before .before .before .before .before .args .y .service) (c .before .before .before .before .before .before .before .before .before .args .s .now) (c .before .before .before .before .before .before .before .before .before .args .at) (c .before .before .before .before .before .before .before .before .before .args .m) (c .before .before .before .before .before .before .before .before .before .args .heads .now) (c .before .before .before .before .before .before .before .before .before .pre .1 .1 .1 .1 .found) (c .before .before .before .before .before .if1 .left) (c .before .before .before .before .before .before .before .before .before .pre .1 .0) (c .before .before .name-header .ensures) (c .before .number-in .ensures .0) (c .with-trailer .ensures), c .before .before .name-header .ensures .long ∙ c .before .before .before .before .before .before .before .before .before .pre .1 .1 .0 .1)
+returns-2 c = (ust-moved (c .before .before .before .before .before .before .before .before .before .args .y .service) (c .before .before .before .before .before .before .before .before .before .args .s .now) (c .before .before .before .before .before .before .before .before .before .args .at) (c .before .before .before .before .before .before .before .before .before .args .m) (c .before .before .before .before .before .before .before .before .before .args .heads .now) (c .before .before .before .before .before .before .before .before .before .pre .1 .1 .1 .found) (c .before .before .before .before .before .if1 .left) (c .before .before .before .before .before .before .before .before .before .pre .1 .0) (c .before .before .name-header .ensures) (c .before .claimed-in .ensures .0) (c .with-trailer .ensures), c .before .before .name-header .ensures .long ∙ c .before .before .before .before .before .before .before .before .before .pre .1 .1 .0 .1)
 
 pub on-ust-spec : {M : Type 1} → statement M
 on-ust-spec =
@@ -69,7 +69,7 @@ on-ust-spec =
     mul-base-2
     element-copy-out-base
     name-header-requires
-    number-in-requires
+    claimed-in-requires
     cast-with-trailer
     cast-with-trailer-2
     with-trailer-requires

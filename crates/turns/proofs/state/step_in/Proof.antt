@@ -1,7 +1,7 @@
 use mathlib.Core.Path.{refl, sym, _∙_}
 use Rattle.elements.specs.Octets.{askedAt}
 use Rattle.message.specs.StepsLaws.{ush-room}
-use Rattle.turns.specs.BusyLaws.{may-to, ust-count, cnt-right, step-arm, usa-arm, usc-arm, usx-arm}
+use Rattle.turns.specs.BusyLaws.{may-to, cnt-right, step-arm, usa-arm, usc-arm, usx-arm}
 use Rattle.elements.specs.declared.Kind.the-variants.{Unb, Unh, Unt, Unz, Ush, Usa, Usc, Usr, Ust, Usb, Usx, Usy, Reserved, Qty, Cnt, Other}
 use Rattle.message.specs.declared.steps.Moved.the-variants.{Bad}
 use borrow.Author.Needs.{needs}
@@ -50,7 +50,7 @@ enum-told-5 c = search needs
 on-ust-requires : tie.Need-on-ust-requires
 on-ust-requires c κs =
     let g = c .before .before .before .before .before in
-    (g .pre .1 .0 (rw (c .before .enum-told5 .given .1)) .marks, (g .pre .1 .1 .0, (g .pre .1 .1 .1 .0, (ust-count (g .args .y .version) (askedAt (g .args .y .service) (g .args .s .now) (g .args .at)) (g .pre .0) (c .before .enum-told5 .given .1) (g .pre .1 .1 .1 .1 .0 .1), g .pre .1 .1 .1 .1 .1 (c .before .enum-told5 .given .1)))))
+    (g .pre .1 .0 (rw (c .before .enum-told5 .given .1)) .marks, (g .pre .1 .1 .0, (g .pre .1 .1 .1 .0, g .pre .1 .1 .1 .1 .1 (c .before .enum-told5 .given .1))))
 
 enum-told-6 : tie.Need-enum-told-6
 enum-told-6 c = search needs
