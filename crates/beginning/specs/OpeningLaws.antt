@@ -9,7 +9,8 @@ use lib.Dec.{eqb, leb}
 use native.Mathlib.Nat.{le-of-suc-le-suc, not-suc-le-zero}
 use lib.ListN.{length, getD, drop}
 use Rattle.syntax.specs.Service.{servant, withoutRepetition}
-use Rattle.syntax.specs.Cutting.{tagOf, endAt, firstOutside, stretch, cutBy, cutAt}
+use Rattle.syntax.specs.Cutting.{tagOf, endAt, firstOutside}
+use Rattle.syntax.specs.Scanning.{stretch, cutBy, cutAt}
 use Rattle.syntax.specs.TagLaws.{no-repetition}
 use Rattle.syntax.specs.Segment.{componentAt, partOf}
 use Rattle.syntax.specs.Content.{content}

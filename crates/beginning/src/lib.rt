@@ -4,7 +4,7 @@ ghost use mathlib.Core.Bool.{Bool, true, false, cond};
 ghost use lib.Dec.{eqb};
 ghost use lib.ListN.{length, drop};
 ghost use Prim.Native.Nat.{_≤_};
-ghost use Rattle.syntax.specs.Repertoire.{Table};
+ghost use Rattle.syntax.specs.Classes.{Table};
 ghost use Rattle.syntax.specs.Service.{servant, differ, repetitionDiffers, fit, withoutRepetition};
 ghost use Rattle.syntax.specs.Content.{content};
 ghost use Rattle.syntax.specs.Cutting.{endAt};

@@ -11,7 +11,8 @@ use borrow.Author.Tests.{le-leb, lt-leb, leb-true}
 use lib.Dec.{T, leb, leb→le}
 use lib.ListN.{length, drop}
 use Rattle.syntax.specs.Octets.{octets, same, within, digit}
-use Rattle.syntax.specs.Content.{content, nextOf, allDigits, valueFrom}
+use Rattle.syntax.specs.Content.{content, allDigits, valueFrom}
+use Rattle.syntax.specs.Scanning.{nextOf}
 use Rattle.syntax.specs.TreeLaws.{and-left, and-right}
 use Rattle.syntax.specs.ContentLaws.{Stepped, next-steps, next-over}
 use Rattle.syntax.specs.declared.content.Next.{Next}

@@ -7,7 +7,7 @@ use mathlib.Core.Bool.{Bool, true, false, cond, _||_}
 use lib.Dec.{eqb, leb, ltb}
 use lib.ListN.{length, getD, set}
 use Rattle.syntax.specs.Segment.{Piece, piecesAt, atElement, atComponent, components, repeats, elements, anyRepeats}
-use Rattle.syntax.specs.Cutting.{cutAt}
+use Rattle.syntax.specs.Scanning.{cutAt}
 use Rattle.syntax.specs.Clean.{sound}
 use Rattle.syntax.specs.declared.Service.{Service}
 use Rattle.syntax.specs.declared.Syntax.{Syntax}

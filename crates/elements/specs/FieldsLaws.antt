@@ -18,10 +18,10 @@ use Rattle.syntax.specs.declared.reading.Edge.{Edge}
 use Rattle.syntax.specs.declared.reading.Edge.the-variants.{On, Off}
 use Rattle.syntax.specs.declared.reading.Span.{Span}
 use Rattle.syntax.specs.declared.reading.Span.the-variants.{Part, Absent}
-use Rattle.syntax.specs.Cutting.{cutAt}
+use Rattle.syntax.specs.Scanning.{cutAt}
 use Rattle.syntax.specs.Clean.{sound, Clean, CleanEdge, TagAt}
 use Rattle.syntax.specs.CleanLaws.{tidy-start, tidy-separator}
-use Rattle.syntax.specs.Repertoire.{classOf}
+use Rattle.syntax.specs.Classes.{classOf}
 use Rattle.syntax.specs.declared.cutting.Cut.the-variants.{Ends}
 use Rattle.elements.specs.declared.fields.Shape.{Shape}
 use Rattle.elements.specs.declared.fields.Past.{Past}

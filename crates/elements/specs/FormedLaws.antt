@@ -9,7 +9,8 @@ use borrow.Author.Tests.{le-leb, lt-leb, eq-eqb, ne-eqb}
 use lib.Dec.{eqb, leb}
 use lib.ListN.{length, getD, drop}
 use Rattle.syntax.specs.Octets.{octets, same, within}
-use Rattle.syntax.specs.Content.{releases, contentFrom, content, nextOf, allDigits}
+use Rattle.syntax.specs.Content.{releases, contentFrom, content, allDigits}
+use Rattle.syntax.specs.Scanning.{nextOf}
 use Rattle.syntax.specs.ContentLaws.{Digital, digital-end, digital-below, digital-above, digital-on, Lengthening, lengthening-end, lengthening-less, lengthening-fits, lengthening-on}
 use Rattle.syntax.specs.Segment.{piecesAt, atElement, componentAt, partOf, components, repeats, anyRepeats}
 use Rattle.syntax.specs.declared.content.Next.{Next}

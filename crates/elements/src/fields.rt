@@ -3,7 +3,7 @@ ghost use mathlib.Core.Path.{_≡_};
 ghost use mathlib.Core.Bool.{_||_};
 ghost use Prim.Native.Nat.{_+_, _≤_, _<_};
 ghost use lib.ListN.{length};
-ghost use Rattle.syntax.specs.Repertoire.{Table};
+ghost use Rattle.syntax.specs.Classes.{Table};
 ghost use Rattle.syntax.specs.Segment.{piecesAt, atElement, components, repeats, componentAt, partOf};
 ghost use Rattle.syntax.specs.Clean.{TagAt};
 ghost use Rattle.elements.specs.Fields.{PassedAs, repeatingAs, closedMarks, ClosedAs, placed, TakenAs, TakenOneAs, Cleared, Marked, FieldsAs, startIn, endIn};

@@ -29,7 +29,8 @@ use Rattle.grammar.specs.Valid.{Interchange, interchange, openingIn}
 use Rattle.grammar.specs.Verdict.{Verdict, accepted, verdictOf, verdictBy, unaAt, read}
 use Rattle.grammar.specs.Named.{Placed}
 use Rattle.walk.specs.Layout.{headsAt}
-use Rattle.walk.specs.RunLaws.{answerFrom, verdict-by}
+use Rattle.walk.specs.RunLaws.{verdict-by}
+use Rattle.walk.specs.Runs.{answerFrom}
 use Rattle.walk.specs.declared.sections.Layout.{Layout}
 use Rattle.spans.specs.Span.{Span, span, spanAt}
 use Rattle.spans.specs.Spanning.{WholeBy, SpanIs}

@@ -8,7 +8,7 @@ ghost use lib.ListN.{length};
 ghost use lib.Seq.{slice};
 ghost use denote.Ref.{ptr};
 ghost use Rattle.syntax.specs.Service.{fit};
-ghost use Rattle.syntax.specs.Repertoire.{Table};
+ghost use Rattle.syntax.specs.Classes.{Table};
 ghost use Rattle.grammar.specs.Verdict.{verdictOf};
 ghost use Rattle.groups.specs.Groups.{nameAt};
 ghost use Rattle.groups.specs.Calls.{Holds, answeredBy, then};

@@ -6,7 +6,8 @@ use mathlib.Core.Path.{_≡_, refl, _∙_}
 use mathlib.Core.Option.{none, some}
 use borrow.Author.Tests.{lt-ltb, le-ltb}
 use lib.ListN.{length, set, drop}
-use Rattle.syntax.specs.Content.{content, nextOf}
+use Rattle.syntax.specs.Content.{content}
+use Rattle.syntax.specs.Scanning.{nextOf}
 use Rattle.syntax.specs.ContentLaws.{next-steps, next-over}
 use Rattle.syntax.specs.declared.content.Next.{Next}
 use Rattle.syntax.specs.declared.content.Next.the-variants.{Octet, Over as NoOctet}

@@ -7,7 +7,8 @@ use mathlib.Core.Bool.{true, false}
 use lib.Dec.{eqb}
 use borrow.Author.Tests.{ne-eqb}
 use lib.ListN.{length, drop}
-use Rattle.syntax.specs.Content.{content, nextOf}
+use Rattle.syntax.specs.Content.{content}
+use Rattle.syntax.specs.Scanning.{nextOf}
 use Rattle.syntax.specs.ContentLaws.{next-steps, next-over}
 use Rattle.syntax.specs.declared.content.Next.{Next}
 use Rattle.syntax.specs.declared.content.Next.the-variants.{Octet, Over as NoOctet}

@@ -13,7 +13,7 @@ use Rattle.grammar.specs.Lists.{Snoc}
 use Rattle.grammar.specs.Interchange.{Leaf, Open, Message, message, Reading, done}
 use Rattle.grammar.specs.Named.{placed, placedAt}
 use Rattle.grammar.specs.Verdict.{read, refused}
-use Rattle.walk.specs.RunLaws.{answerFrom}
+use Rattle.walk.specs.Runs.{answerFrom}
 use Rattle.walk.specs.Sections.{Laid}
 use Rattle.walk.specs.declared.sections.Layout.{Layout}
 use Rattle.finding.specs.declared.Found.{Found}

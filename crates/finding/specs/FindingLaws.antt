@@ -17,7 +17,8 @@ use Rattle.grammar.specs.Rules.{refO}
 use Rattle.grammar.specs.Places.{wide}
 use Rattle.grammar.specs.Named.{placed, placedIn, placedAt}
 use Rattle.grammar.specs.Verdict.{read}
-use Rattle.walk.specs.RunLaws.{Walking, ReadAll, unreadAs}
+use Rattle.walk.specs.RunLaws.{ReadAll}
+use Rattle.walk.specs.Runs.{Walking, unreadAs}
 use Rattle.walk.specs.Sections.{Stays, begins, ends, breaks, SectionBy, Passing}
 use Rattle.walk.specs.SectionLaws.{Looping, unread-start}
 use Rattle.finding.specs.Finding.{namedBy, SeeksBy, FoundIs}

@@ -16,6 +16,7 @@ pub mod Example
 pub mod ExampleTree
 -- a run over segments, as the proofs see it
 pub mod Running
+pub mod Going
 -- what is proved
 pub mod TestLaws
 pub mod SnocLaws

@@ -10,7 +10,7 @@ use Rattle.syntax.specs.Content.{compared}
 use Rattle.syntax.specs.Refusals.{atZero}
 use Rattle.syntax.specs.Octets.{same}
 use Rattle.syntax.specs.Service.{fit}
-use Rattle.syntax.specs.Repertoire.{Table}
+use Rattle.syntax.specs.Classes.{Table}
 use Rattle.syntax.specs.declared.Refusal.{Refusal}
 use Rattle.syntax.specs.declared.Service.{Service}
 use Rattle.syntax.specs.declared.Syntax.{Syntax}

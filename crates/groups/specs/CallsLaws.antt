@@ -11,7 +11,7 @@ use Rattle.syntax.specs.Content.{content}
 use Rattle.syntax.specs.Octets.{same}
 use Rattle.syntax.specs.Service.{fit}
 use Rattle.syntax.specs.Opening.{begunOf}
-use Rattle.syntax.specs.Repertoire.{Table}
+use Rattle.syntax.specs.Classes.{Table}
 use Rattle.syntax.specs.Tree.{print, well}
 use Rattle.syntax.specs.declared.Service.{Service}
 use Rattle.syntax.specs.declared.Syntax.{Syntax}
@@ -34,7 +34,8 @@ use Rattle.grammar.specs.PairLaws.{few-headers, few-tails}
 use Rattle.grammar.specs.Places.{wide, headersIn, trailersIn}
 use Rattle.grammar.specs.Named.{placed, placedIn}
 use Rattle.walk.specs.SectionLaws.{plain-content}
-use Rattle.walk.specs.RunLaws.{answerFrom, verdict-by}
+use Rattle.walk.specs.RunLaws.{verdict-by}
+use Rattle.walk.specs.Runs.{answerFrom}
 use Rattle.walk.specs.declared.sections.Layout.{Layout}
 use Rattle.finding.specs.Finding.{FoundIs, WholeBy, SeeksBy}
 use Rattle.finding.specs.declared.Found.{Found}

@@ -8,7 +8,7 @@ ghost use lib.ListN.{length};
 ghost use Rattle.syntax.specs.Content.{compared};
 ghost use Rattle.syntax.specs.Octets.{octets, same};
 ghost use Rattle.syntax.specs.Service.{fit};
-ghost use Rattle.syntax.specs.Repertoire.{Table};
+ghost use Rattle.syntax.specs.Classes.{Table};
 ghost use Rattle.syntax.specs.Tree.{Segment};
 ghost use Rattle.groups.specs.Stand.{Row};
 ghost use Rattle.groups.specs.Groups.{refNameAt};

@@ -14,7 +14,8 @@ use Rattle.grammar.specs.Lists.{Snoc}
 use Rattle.grammar.specs.Interchange.{Leaf, Message, Reading, start, idle, busy, done}
 use Rattle.grammar.specs.Valid.{Una}
 use Rattle.grammar.specs.Verdict.{Answer, read, refused, Verdict as Judged, accepted, refusedWith, concluded, verdictBy, verdictOf, unaAt, numbers}
-use Rattle.walk.specs.RunLaws.{answerFrom, verdict-by}
+use Rattle.walk.specs.RunLaws.{verdict-by}
+use Rattle.walk.specs.Runs.{answerFrom}
 use Rattle.judge.specs.Told.{verdictAs, walkedAs, told}
 use Rattle.judge.specs.declared.run.Verdict.{Verdict}
 use Rattle.judge.specs.declared.run.Verdict.the-variants.{Accepted, Refused}

@@ -4,7 +4,8 @@ use native.Mathlib.Omega.{arith}
 use mathlib.Core.List.{List, [], _++_}
 use mathlib.Core.Path.{_≡_, refl, ap, sym, _∙_}
 use lib.ListN.{length, set, take, drop, length-append, length-take, length-drop}
-use Rattle.syntax.specs.Content.{content, nextOf}
+use Rattle.syntax.specs.Content.{content}
+use Rattle.syntax.specs.Scanning.{nextOf}
 use Rattle.syntax.specs.ContentLaws.{next-steps, next-over}
 use Rattle.syntax.specs.Segment.{componentAt, partOf}
 use Rattle.syntax.specs.declared.Service.{Service}

@@ -4,7 +4,7 @@ pub mod words;
 
 ghost use Prim.Native.Nat.{_+_, _≤_, _<_};
 ghost use lib.ListN.{length};
-ghost use Rattle.syntax.specs.Repertoire.{Table};
+ghost use Rattle.syntax.specs.Classes.{Table};
 ghost use Rattle.groups.specs.Groups.{nameAt};
 ghost use Rattle.writing.specs.Laid.{Laid};
 ghost use Rattle.lines.specs.Words.{refusalLine, acceptedLine, messageWords, loadsWords, messageLine};

@@ -3,7 +3,7 @@ ghost use mathlib.Core.Path.{_≡_};
 ghost use Prim.Native.Nat.{_+_, _-_, _≤_, _<_};
 ghost use lib.ListN.{length};
 ghost use Rattle.syntax.specs.Octets.{same};
-ghost use Rattle.syntax.specs.Repertoire.{Table};
+ghost use Rattle.syntax.specs.Classes.{Table};
 ghost use Rattle.groups.specs.Groups.{nameAt};
 ghost use Rattle.writing.specs.Laid.{Laid};
 ghost use Rattle.lines.specs.Words.{sealWords, octetsWords, coveredWords};

@@ -2,7 +2,7 @@
 ghost use Prim.Native.Nat.{_+_, _≤_, _<_};
 ghost use lib.ListN.{length};
 ghost use Rattle.syntax.specs.Content.{content};
-ghost use Rattle.syntax.specs.Repertoire.{Table};
+ghost use Rattle.syntax.specs.Classes.{Table};
 ghost use Rattle.groups.specs.Groups.{nameAt};
 ghost use Rattle.writing.specs.Laid.{Laid};
 use syntax::Syntax;

@@ -9,7 +9,7 @@ use Rattle.grammar.specs.Lists.{Snoc}
 use Rattle.grammar.specs.Interchange.{Leaf, Message, Reading, start, idle, busy, done, shown}
 use Rattle.refusals.specs.Refused.{RefusedBy}
 use Rattle.grammar.specs.Verdict.{read}
-use Rattle.walk.specs.RunLaws.{answerFrom}
+use Rattle.walk.specs.Runs.{answerFrom}
 use Rattle.walk.specs.declared.sections.Layout.{Layout}
 use Rattle.groups.specs.Stand.{Stand}
 use Rattle.groups.specs.Groups.{nameAt}

@@ -27,7 +27,8 @@ use Rattle.grammar.specs.Running.{Good}
 use Rattle.grammar.specs.Valid.{Interchange, interchange, openingIn}
 use Rattle.grammar.specs.Verdict.{read, accepted, refusedWith, verdictOf, verdictBy, unaAt}
 use Rattle.turns.specs.declared.state.State.{State}
-use Rattle.walk.specs.RunLaws.{Fresh, answerFrom, Walking, ReadAll, unreadAs, verdict-by}
+use Rattle.walk.specs.RunLaws.{ReadAll, verdict-by}
+use Rattle.walk.specs.Runs.{Fresh, answerFrom, Walking, unreadAs}
 use Rattle.walk.specs.Sections.{Stays, begins, ends, breaks, SectionBy, Passing}
 use Rattle.walk.specs.SectionLaws.{Looping, looping-start, looping-on, unread-start}
 use Rattle.walk.specs.declared.sections.Section.{Section}

@@ -11,7 +11,8 @@ use lib.Dec.{leb, ltb}
 use lib.ListN.{length, getD}
 use lib.Seq.{slice}
 use Rattle.syntax.specs.Octets.{octets, same, within}
-use Rattle.syntax.specs.Content.{content, allDigits, valueFrom, numberIn}
+use Rattle.syntax.specs.Content.{content, allDigits, valueFrom}
+use Rattle.syntax.specs.Scanning.{numberIn}
 use Rattle.syntax.specs.RepertoireLaws.{and-l, and-r}
 use Rattle.syntax.specs.Segment.{componentAt, partOf}
 use Rattle.syntax.specs.declared.Service.{Service}

@@ -5,7 +5,7 @@ ghost use lib.ListN.{length};
 ghost use lib.Seq.{slice};
 ghost use denote.Ref.{ptr};
 ghost use Rattle.syntax.specs.Octets.{octets};
-ghost use Rattle.syntax.specs.Repertoire.{Table};
+ghost use Rattle.syntax.specs.Classes.{Table};
 ghost use Rattle.ranges.specs.Ranges.{scope1Of, scope2Of};
 ghost use Rattle.ranges.specs.Told.{partsAs, partNumbers, toldParts, runAs, runNumbers, toldRun, PartsInside, RunInside, headerPart, bodyPart, runPart, startOf, endOf, headerFound, trailerFound, partsBy, runBy};
 use groups::calls::Named;

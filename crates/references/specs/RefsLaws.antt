@@ -11,7 +11,8 @@ use lib.Dec.{T, eqb, leb}
 use lib.ListN.{length, getD, take, drop, set, length-set, length-drop, take-append-drop, length-append, replicate, length-replicate}
 use lib.Seq.{getD-set-same, getD-set-other, take-nil, drop-nil, drop-drop, take-add}
 use Rattle.syntax.specs.Octets.{same}
-use Rattle.syntax.specs.Content.{content, nextOf}
+use Rattle.syntax.specs.Content.{content}
+use Rattle.syntax.specs.Scanning.{nextOf}
 use Rattle.syntax.specs.ContentLaws.{next-steps, next-over, same-self}
 use Rattle.syntax.specs.declared.content.Next.{Next}
 use Rattle.syntax.specs.declared.content.Next.the-variants.{Octet, Over}

@@ -23,7 +23,8 @@ use Rattle.grammar.specs.Places.{wide}
 use Rattle.grammar.specs.Valid.{Interchange, interchange, openingIn}
 use Rattle.grammar.specs.Verdict.{read, refused, accepted, refusedWith, verdictOf, verdictBy, unaAt}
 use Rattle.turns.specs.declared.state.State.{State}
-use Rattle.walk.specs.RunLaws.{Fresh, answerFrom, Walking, ReadAll, unreadAs, verdict-by, begun-fits, fresh-tables}
+use Rattle.walk.specs.RunLaws.{ReadAll, verdict-by, begun-fits, fresh-tables}
+use Rattle.walk.specs.Runs.{Fresh, answerFrom, Walking, unreadAs}
 use Rattle.walk.specs.Sections.{Laid as LaidOut, Stays, begins, ends, breaks, SectionBy, Passing}
 use Rattle.walk.specs.SectionLaws.{plain-content, Looping, looping-start, looping-on, unread-start}
 use Rattle.walk.specs.declared.sections.Layout.{Layout}

@@ -4,9 +4,9 @@ use native.Mathlib.Omega.{arith}
 use mathlib.Core.List.{List}
 use mathlib.Core.Path.{_≡_, sym, _∙_, subst}
 use lib.ListN.{length, drop}
-use Rattle.syntax.specs.Cutting.{cutAt}
+use Rattle.syntax.specs.Scanning.{cutAt}
 use Rattle.syntax.specs.CuttingLaws.{CutIn, cut-in}
-use Rattle.syntax.specs.Content.{nextOf}
+use Rattle.syntax.specs.Scanning.{nextOf}
 use Rattle.syntax.specs.ContentLaws.{next-steps}
 use Rattle.syntax.specs.Segment.{edgeAt}
 use Rattle.syntax.specs.SegmentLaws.{edge-steps}

@@ -23,7 +23,7 @@ use syntax::reading::Edge;
 use syntax::reading::piece_end;
 use syntax::repertoire::table;
 ghost use mathlib.Core.Path.{_≡_};
-ghost use Rattle.syntax.specs.Repertoire.{Table};
+ghost use Rattle.syntax.specs.Classes.{Table};
 ghost use Rattle.segments.specs.Checked.{CheckedIn};
 
 // Where a piece stands in its segment, each counted from 1.

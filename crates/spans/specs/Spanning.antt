@@ -11,7 +11,7 @@ use Rattle.grammar.specs.Lists.{Snoc, nil, _▷_, _+++_}
 use Rattle.grammar.specs.Interchange.{Leaf, Message, Reading, start, idle, busy, done, shown}
 use Rattle.grammar.specs.Places.{wide}
 use Rattle.grammar.specs.Verdict.{read, refused}
-use Rattle.walk.specs.RunLaws.{answerFrom}
+use Rattle.walk.specs.Runs.{answerFrom}
 use Rattle.walk.specs.declared.sections.Layout.{Layout}
 use Rattle.spans.specs.Span.{Parted, parted, partedOf, runRight, Span, span, spanAt}
 use Rattle.spans.specs.declared.span.Run.{Run}

@@ -17,7 +17,8 @@ use Rattle.grammar.specs.Places.{wide}
 use Rattle.grammar.specs.PlacesLaws.{wide-join}
 use Rattle.grammar.specs.TestLaws.{is-true}
 use Rattle.grammar.specs.Verdict.{read}
-use Rattle.walk.specs.RunLaws.{Fresh, answerFrom, Walking, ReadAll, unreadAs}
+use Rattle.walk.specs.RunLaws.{ReadAll}
+use Rattle.walk.specs.Runs.{Fresh, answerFrom, Walking, unreadAs}
 use Rattle.walk.specs.Sections.{autackO, Stays, begins, ends, breaks, SectionBy, Passing}
 use Rattle.walk.specs.SectionLaws.{Looping, looping-start, looping-on, unread-start}
 use Rattle.spans.specs.Span.{autackM, Parted, parted, joinedBy, partedOf, other, runRight, Span, span, spanBy}

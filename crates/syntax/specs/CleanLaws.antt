@@ -1,37 +1,29 @@
 -- How a segment is cut while its pieces are read, and that a tag is passed at once.
 use Prim.Native.Nat.{ℕ, zero, suc, _+_, _-_, _≤_, _<_}
 use native.Mathlib.Omega.{arith}
-use mathlib.Core.List.{List, [], _∷_}
+use mathlib.Core.List.{List, _∷_}
 use mathlib.Core.Path.{_≡_, refl, ap, sym, subst, _∙_}
-use mathlib.Core.Bool.{Bool, true, false, cond, _&&_, _||_}
+use mathlib.Core.Bool.{Bool, true, false, _&&_, _||_}
 use lib.Dec.{T, eqb, leb, le→leb, leb→le}
 use lib.ListN.{length, getD, drop, length-drop}
 use Rattle.syntax.specs.Octets.{octets, within, digit, capital, small, among}
 use Rattle.syntax.specs.Service.{fit, kindOf}
-use Rattle.syntax.specs.Repertoire.{tagOctet, inside, endClass, releaseClass, outsideClass, toClass, classOf}
+use Rattle.syntax.specs.Repertoire.{tagOctet, inside}
+use Rattle.syntax.specs.Classes.{endClass, outsideClass, classOf}
 use Rattle.syntax.specs.RepertoireLaws.{Sorted, is-data, is-bad, is-release, is-separator, is-end, sorted, class-tag}
-use Rattle.syntax.specs.Cutting.{stopFrom, cutBy, cutAt, tagOf}
-use Rattle.syntax.specs.CuttingLaws.{drop-tail, drop-head, Going, class-on, class-hit, class-freed, Cutting, cutting-at, cutting-from, cutting-none, cutting-on, cutting-end, cutting-bad, cutting-short, cutting-freed, cutting-freed-bad}
+use Rattle.syntax.specs.Cutting.{stopFrom, tagOf}
+use Rattle.syntax.specs.Scanning.{cutBy, cutAt}
+use Rattle.syntax.specs.CuttingLaws.{drop-tail, drop-head, class-on, class-hit, class-freed, cutting-at, cutting-from, cutting-none, cutting-on, cutting-end, cutting-bad, cutting-short, cutting-freed, cutting-freed-bad}
 use Rattle.syntax.specs.SegmentLaws.{edge-on, edge-end}
 use Rattle.syntax.specs.TreeLaws.{and-left, and-right, and-both, is-true}
 use Rattle.syntax.specs.ReaderLaws.{tag-data, Tagged, tag-split}
-use Rattle.syntax.specs.Clean.{sound, Clean, CleanEdge, TagAt}
-use Rattle.syntax.specs.declared.Service.{Service}
+use Rattle.syntax.specs.Clean.{sound, Clean, TagAt, Stopping, Tidy}
 use Rattle.syntax.specs.declared.Syntax.{Syntax}
 use Rattle.syntax.specs.declared.Level.{Level}
 use Rattle.syntax.specs.declared.Level.the-variants.{A, B, C}
 use Rattle.syntax.specs.declared.Found.{Found}
 use Rattle.syntax.specs.declared.Found.the-variants.{At, Nothing}
-use Rattle.syntax.specs.declared.cutting.Cut.{Cut}
-use Rattle.syntax.specs.declared.cutting.Cut.the-variants.{Ends, Spoilt, Open}
 use Rattle.syntax.specs.declared.cutting.Tag.the-variants.{Is}
-use Rattle.syntax.specs.declared.reading.Edge.the-variants.{On, Off}
-
--- from a to i there is neither a separator nor an octet outside: stop and cut from a are those from i
-pub record Tidy (y : Syntax) (s : List ℕ) (a i : ℕ) : Type 0 where
-  pub low : a ≤ i
-  pub going : Going y 2 (stopFrom (y .service) 2 false (drop a s) a) s i
-  pub cutting : Cutting y (cutAt y s a) s i
 
 pub tidy-start : (y : Syntax) (s : List ℕ) (a : ℕ) → Tidy y s a a
 tidy-start y s a = record { low = omega arith; going = record { finds = refl }; cutting = cutting-at refl }
@@ -44,11 +36,6 @@ tidy-then g h =
       going = record { finds = g .going .finds ∙ h .going .finds };
       cutting = cutting-at (cutting-from (h .cutting) ∙ cutting-from (g .cutting));
     }
-
--- .. and an octet that is no data stands at i, if there is one
-pub record Stopping (y : Syntax) (s : List ℕ) (a i : ℕ) : Type 0 where
-  pub tidy : Tidy y s a i
-  pub stops : i < length s → 1 < classOf y (getD s i 0)
 
 unsound : (q : Found) (b : ℕ) → sound (cutBy q (At b)) ≡ false
 unsound Nothing b = refl

@@ -1,14 +1,9 @@
 -- Content: "A release makes the next octet data and drops out of the content."
-use Prim.Native.Nat.{ℕ, zero, suc, _+_, _*_, _-_}
+use Prim.Native.Nat.{ℕ, _+_, _*_, _-_}
 use mathlib.Core.List.{List, [], _∷_}
-use mathlib.Core.Bool.{Bool, true, false, cond, not, _&&_}
-use lib.Dec.{eqb, leb}
-use lib.ListN.{length}
-use Rattle.syntax.specs.Octets.{digit, within, every}
-use Rattle.syntax.specs.declared.content.Next.{Next}
-use Rattle.syntax.specs.declared.content.Next.the-variants.{Octet, Over}
-use Rattle.syntax.specs.declared.content.Number.{Number}
-use Rattle.syntax.specs.declared.content.Number.the-variants.{Is, Not}
+use mathlib.Core.Bool.{Bool, true, false, cond, not}
+use lib.Dec.{eqb}
+use Rattle.syntax.specs.Octets.{digit, every}
 
 -- the release in force; 32, a space, is not in force
 abbrev pub releases : ℕ → ℕ → Bool
@@ -29,15 +24,6 @@ content ρ s = contentFrom ρ false s
 abbrev pub compared : List ℕ → List ℕ
 compared r = r
 
--- its first octet, and the place after that one; `i` is the place of the list's head
-abbrev pub released : List ℕ → ℕ → Next
-released [] i = Over
-released (b ∷ s) i = Octet b (i + 1)
-
-abbrev pub nextOf : ℕ → List ℕ → ℕ → Next
-nextOf ρ [] i = Over
-nextOf ρ (b ∷ s) i = cond (releases ρ b) (released s (i + 1)) (Octet b (i + 1))
-
 -- digits, and the number they give
 abbrev pub allDigits : List ℕ → Bool
 allDigits s = every digit s
@@ -45,6 +31,3 @@ allDigits s = every digit s
 abbrev pub valueFrom : ℕ → List ℕ → ℕ
 valueFrom v [] = v
 valueFrom v (d ∷ s) = valueFrom (v * 10 + (d - 48)) s
-
-abbrev pub numberIn : List ℕ → Number
-numberIn s = cond (allDigits s && within 1 15 (length s)) (Is (valueFrom 0 s)) Not

@@ -11,7 +11,8 @@ use lib.Dec.{eqb, eqb·zero-suc, eqb·suc-suc}
 use lib.ListN.{length, getD, take, drop, length-drop, drop-of-length-le}
 use lib.Seq.{drop-cons, slice, take-all, take-length, take-nil, length-take-le}
 use Rattle.syntax.specs.Octets.{same, within}
-use Rattle.syntax.specs.Content.{releases, contentFrom, content, released, nextOf, allDigits, valueFrom, numberIn}
+use Rattle.syntax.specs.Content.{releases, contentFrom, content, allDigits, valueFrom}
+use Rattle.syntax.specs.Scanning.{released, nextOf, numberIn}
 use Rattle.syntax.specs.CuttingLaws.{drop-tail, slice-take}
 use Rattle.syntax.specs.declared.content.Next.{Next}
 use Rattle.syntax.specs.declared.content.Next.the-variants.{Octet, Over}

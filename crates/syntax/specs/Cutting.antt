@@ -1,18 +1,15 @@
 -- Cutting an input into segments.
-use Prim.Native.Nat.{ℕ, zero, suc}
+use Prim.Native.Nat.{ℕ, suc}
 use mathlib.Core.List.{List, [], _∷_}
-use mathlib.Core.Bool.{Bool, true, false, cond, _&&_, _||_}
+use mathlib.Core.Bool.{Bool, false, cond, _&&_, _||_}
 use lib.Dec.{eqb, leb}
 use lib.ListN.{drop}
-use lib.Seq.{slice}
 use Rattle.syntax.specs.Service.{kind}
 use Rattle.syntax.specs.Repertoire.{tagOctet, outside}
 use Rattle.syntax.specs.declared.Service.{Service}
 use Rattle.syntax.specs.declared.Syntax.{Syntax}
 use Rattle.syntax.specs.declared.Found.{Found}
 use Rattle.syntax.specs.declared.Found.the-variants.{At, Nothing}
-use Rattle.syntax.specs.declared.cutting.Cut.{Cut}
-use Rattle.syntax.specs.declared.cutting.Cut.the-variants.{Ends, Spoilt, Open}
 use Rattle.syntax.specs.declared.cutting.Tag.{Tag}
 use Rattle.syntax.specs.declared.cutting.Tag.the-variants.{Is, Bad}
 
@@ -35,19 +32,6 @@ ends σ f (b ∷ s) i = let r : List ℕ = ends σ (eqb (kind σ f b) 0) s (suc 
 abbrev pub firstOutside : Syntax → List ℕ → ℕ → Found
 firstOutside y [] i = Nothing
 firstOutside y (b ∷ s) i = cond (outside y b) (At i) (firstOutside y s (suc i))
-
--- a segment's end, and its first octet outside, tag to terminator
-abbrev pub cutBy : Found → Found → Cut
-cutBy Nothing x = Open
-cutBy (At e) Nothing = Ends e
-cutBy (At e) (At b) = Spoilt e b
-
-abbrev pub stretch : List ℕ → ℕ → Found → List ℕ
-stretch s a (At e) = slice a (suc e) s
-stretch s a Nothing = []
-
-abbrev pub cutAt : Syntax → List ℕ → ℕ → Cut
-cutAt y s a = cutBy (endAt (y .service) s a) (firstOutside y (stretch s a (endAt (y .service) s a)) a)
 
 -- "A tag is three octets A to Z or 0 to 9, then an element separator or the terminator."
 abbrev pub tagOf : Service → List ℕ → Tag

@@ -4,15 +4,17 @@ use native.Mathlib.Numerals.{add-one}
 use native.Mathlib.Omega.{arith}
 use mathlib.Core.List.{List, [], _∷_}
 use mathlib.Core.Path.{_≡_, refl, ap, sym, _∙_}
-use mathlib.Core.Bool.{Bool, true, false, cond, not}
+use mathlib.Core.Bool.{Bool, true, false, cond}
 use borrow.Author.Tests.{eq-eqb, ne-eqb, le-leb, lt-leb, leb-true}
 use lib.Dec.{eqb, leb}
 use lib.ListN.{length, getD, take, drop, drop-of-length-le, length-drop}
-use lib.Seq.{drop-cons, slice, take-nil, drop-nil}
-use Rattle.syntax.specs.Service.{kindOf, kind, serves}
-use Rattle.syntax.specs.Repertoire.{inside, outside, endClass, releaseClass, outsideClass, classOf}
-use Rattle.syntax.specs.RepertoireLaws.{Sorted, is-data, is-bad, is-release, is-separator, is-end, sorted, kind-le}
-use Rattle.syntax.specs.Cutting.{stopFrom, endAt, ends, firstOutside, cutBy, stretch, cutAt}
+use lib.Seq.{drop-cons, slice, take-nil}
+use Rattle.syntax.specs.Service.{kindOf, kind}
+use Rattle.syntax.specs.Repertoire.{inside, outside}
+use Rattle.syntax.specs.Classes.{endClass, releaseClass, outsideClass, classOf}
+use Rattle.syntax.specs.RepertoireLaws.{Sorted, is-data, is-bad, is-release, is-separator, is-end, sorted}
+use Rattle.syntax.specs.Cutting.{stopFrom, endAt, ends, firstOutside}
+use Rattle.syntax.specs.Scanning.{cutBy, stretch, cutAt, Four}
 use Rattle.syntax.specs.declared.Service.{Service}
 use Rattle.syntax.specs.declared.Syntax.{Syntax}
 use Rattle.syntax.specs.declared.Found.{Found}
@@ -304,10 +306,6 @@ module _ (y : Syntax) where
       by (At e) h = ap (cutBy (At e)) (bad-stretch (drop a s) false a e h ∙ ap (λ (l : List ℕ). firstOutside y l a) (sym (slice-take a (suc e) s)))
 
 -- ---- several octets at once
-
--- r is the sum of the classes of four octets: where none of them stops a scan, the cut is the one from behind them
-pub record Four (y : Syntax) (s : List ℕ) (i r : ℕ) : Type 0 where
-  pub passes : r < endClass → cutAt y s (i + 4) ≡ cutAt y s i
 
 -- a cut under way says that the cut from there is the one that is to be found
 module _ {y : Syntax} {x : Cut} {s : List ℕ} {i : ℕ} where

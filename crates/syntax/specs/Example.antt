@@ -8,7 +8,8 @@ use Rattle.syntax.specs.Octets.{octets, same}
 use Rattle.syntax.specs.Service.{standard, withoutRepetition}
 use Rattle.syntax.specs.Cutting.{ends, tagOf}
 use Rattle.syntax.specs.Segment.{piecesAt, atElement, componentAt, partOf, components, repeats, elements, anyRepeats}
-use Rattle.syntax.specs.Content.{content, numberIn}
+use Rattle.syntax.specs.Content.{content}
+use Rattle.syntax.specs.Scanning.{numberIn}
 use Rattle.syntax.specs.Opening.{begunOf}
 use Rattle.syntax.specs.declared.Breach.{Breach}
 use Rattle.syntax.specs.declared.Service.{Service}

@@ -5,13 +5,15 @@ pub mod Repertoire
 pub mod Cutting
 pub mod Content
 pub mod Segment
-pub mod Clean
 pub mod Opening
 pub mod Refusals
 pub mod Tree
-pub mod Example
--- the reader that the proofs go through
 pub mod Reader
+pub mod Example
+-- the code's side: what it reads octets by
+pub mod Classes
+pub mod Scanning
+pub mod Clean
 -- what is proved
 pub mod RepertoireLaws
 pub mod CuttingLaws

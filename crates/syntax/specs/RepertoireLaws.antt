@@ -1,15 +1,16 @@
 -- The table of classes has its rule, and what a class says of an octet.
 use Prim.Native.Nat.{ℕ, zero, suc, _+_, _-_, _≤_, _<_}
 use native.Mathlib.Omega.{arith}
-use mathlib.Core.List.{List, [], _∷_}
+use mathlib.Core.List.{List}
 use mathlib.Core.Path.{_≡_, refl, ap, sym, _∙_}
-use mathlib.Core.Bool.{Bool, true, false, cond, not, _&&_, _||_, false≢true}
+use mathlib.Core.Bool.{Bool, true, false, cond, not, _&&_, false≢true}
 use borrow.Author.Tests.{eqb-true, eqb-false, leb-true, leb-false, ltb-true, ltb-false, lt-ltb, le-ltb, le-leb}
 use lib.Dec.{eqb, leb, ltb}
-use lib.ListN.{length, getD, set, length-set, replicate, getD-replicate, List·getD-eq-default}
-use lib.Seq.{getD-set-same, getD-set-other, set-out}
+use lib.ListN.{length, getD, set, length-set}
+use lib.Seq.{getD-set-same, getD-set-other}
 use Rattle.syntax.specs.Service.{kindOf}
-use Rattle.syntax.specs.Repertoire.{tagOctet, inside, endClass, releaseClass, outsideClass, dataClass, toClass, classOf, Blank, Base, Table}
+use Rattle.syntax.specs.Repertoire.{tagOctet, inside}
+use Rattle.syntax.specs.Classes.{endClass, releaseClass, outsideClass, dataClass, toClass, classOf, Blank, Base, Table, Filled}
 use Rattle.syntax.specs.declared.Service.{Service}
 use Rattle.syntax.specs.declared.Syntax.{Syntax}
 use Rattle.syntax.specs.declared.Level.{Level}
@@ -25,10 +26,6 @@ getD-put t b c x h = by-test (eqb x b) refl
     by-test false e = getD-set-other t b x c 0 (eqb-false x b e)
 
 -- ---- a range of stores: u is t with v from a up to, not including, i
-
-pub record Filled (a i v : ℕ) (t u : List ℕ) : Type 0 where
-  pub size : length u ≡ length t
-  pub at : (x : ℕ) → x < length t → getD u x 0 ≡ cond (leb a x && ltb x i) v (getD t x 0)
 
 pub filled-none : {a v : ℕ} {t : List ℕ} → Filled a a v t t
 filled-none {a} {v} {t} = record { size = refl; at = λ x k. by x (leb a x) refl }

@@ -9,7 +9,8 @@ use borrow.Author.Tests.{leb-true, leb-false, eq-eqb, ne-eqb, lt-ltb, le-ltb}
 use lib.Dec.{eqb, leb, ltb}
 use lib.ListN.{length, getD, drop}
 use Rattle.syntax.specs.Service.{kindOf, kind}
-use Rattle.syntax.specs.Repertoire.{inside, endClass, classOf}
+use Rattle.syntax.specs.Repertoire.{inside}
+use Rattle.syntax.specs.Classes.{endClass, classOf}
 use Rattle.syntax.specs.RepertoireLaws.{Sorted, is-data, is-bad, is-release, is-separator, is-end, sorted, kind-le}
 use Rattle.syntax.specs.Cutting.{stopFrom}
 use Rattle.syntax.specs.CuttingLaws.{drop-tail, drop-head, stop-in}

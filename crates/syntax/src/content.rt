@@ -5,7 +5,8 @@ ghost use Prim.Native.Nat.{_≤_, _<_};
 ghost use lib.ListN.{length, drop};
 ghost use lib.Seq.{slice};
 ghost use Rattle.syntax.specs.Octets.{same};
-ghost use Rattle.syntax.specs.Content.{compared, content, nextOf, allDigits, numberIn};
+ghost use Rattle.syntax.specs.Content.{compared, content, allDigits};
+ghost use Rattle.syntax.specs.Scanning.{nextOf, numberIn};
 
 // The next octet of content, and the place after it.
 pub enum Next {

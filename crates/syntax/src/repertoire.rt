@@ -2,8 +2,9 @@
 ghost use mathlib.Core.Path.{_≡_};
 ghost use Prim.Native.Nat.{_+_, _≤_, _<_};
 ghost use lib.ListN.{set};
-ghost use Rattle.syntax.specs.Repertoire.{tagOctet, inside, dataClass, classOf, Blank, Base, Table};
-ghost use Rattle.syntax.specs.RepertoireLaws.{Filled};
+ghost use Rattle.syntax.specs.Repertoire.{tagOctet, inside};
+ghost use Rattle.syntax.specs.Classes.{dataClass, classOf, Blank, Base, Table};
+ghost use Rattle.syntax.specs.Classes.{Filled};
 use crate::Level;
 use crate::Syntax;
 use crate::cutting::tag_octet;

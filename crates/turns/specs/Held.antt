@@ -7,7 +7,8 @@ use lib.ListN.{length, drop}
 use lib.Seq.{slice}
 use Rattle.syntax.specs.Octets.{same}
 use Rattle.syntax.specs.Content.{content, compared}
-use Rattle.syntax.specs.Cutting.{cutAt, tagOf}
+use Rattle.syntax.specs.Cutting.{tagOf}
+use Rattle.syntax.specs.Scanning.{cutAt}
 use Rattle.syntax.specs.declared.Service.{Service}
 use Rattle.syntax.specs.declared.Syntax.{Syntax}
 use Rattle.syntax.specs.declared.cutting.Cut.{Cut}

@@ -7,7 +7,8 @@ use mathlib.Core.Bool.{Bool, true, false, false≢true}
 use lib.Dec.{T}
 use lib.ListN.{length, drop}
 use Rattle.syntax.specs.Service.{fit}
-use Rattle.syntax.specs.Cutting.{cutAt, tagOf}
+use Rattle.syntax.specs.Cutting.{tagOf}
+use Rattle.syntax.specs.Scanning.{cutAt}
 use Rattle.syntax.specs.Clean.{sound}
 use Rattle.syntax.specs.CleanLaws.{tag-here}
 use Rattle.syntax.specs.declared.Breach.{Breach}

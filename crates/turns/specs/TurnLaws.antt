@@ -11,7 +11,8 @@ use lib.ListN.{length, getD, take, drop, take-append-drop, drop-of-length-le}
 use lib.Seq.{slice, drop-cons, drop-drop, take-at, drop-at}
 use Rattle.syntax.specs.Service.{fit, kindOf, kind}
 use Rattle.syntax.specs.Repertoire.{tagOctet, outside}
-use Rattle.syntax.specs.Cutting.{stopFrom, endAt, firstOutside, cutBy, stretch, cutAt, tagOf}
+use Rattle.syntax.specs.Cutting.{stopFrom, endAt, firstOutside, tagOf}
+use Rattle.syntax.specs.Scanning.{cutBy, stretch, cutAt}
 use Rattle.syntax.specs.CuttingLaws.{slice-take, stop-in}
 use Rattle.syntax.specs.Opening.{isThere}
 use Rattle.syntax.specs.Tree.{plain, freed, ne, Component, Repeat, Element, Segment, segment, flatS, spells, printS, print, well}

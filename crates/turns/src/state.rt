@@ -7,7 +7,7 @@ ghost use lib.Dec.{T, eqb};
 ghost use lib.ListN.{length};
 ghost use lib.Seq.{slice};
 ghost use Rattle.syntax.specs.Service.{fit};
-ghost use Rattle.syntax.specs.Repertoire.{Table};
+ghost use Rattle.syntax.specs.Classes.{Table};
 ghost use Rattle.grammar.specs.Elements.{inRange, digits, formed};
 ghost use Rattle.elements.specs.Kinds.{kindOf};
 ghost use Rattle.elements.specs.Octets.{textAt, askedAt};

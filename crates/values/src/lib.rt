@@ -7,7 +7,7 @@ ghost use lib.Dec.{T};
 ghost use lib.ListN.{length};
 ghost use Rattle.syntax.specs.Content.{content};
 ghost use Rattle.syntax.specs.Service.{fit};
-ghost use Rattle.syntax.specs.Repertoire.{Table};
+ghost use Rattle.syntax.specs.Classes.{Table};
 ghost use Rattle.grammar.specs.Interchange.{Leaf, trailer, showTrailer};
 ghost use Rattle.grammar.specs.Places.{wide};
 ghost use Rattle.groups.specs.Stand.{Stand};

@@ -9,7 +9,8 @@ use lib.ListN.{length, drop, replicate, length-replicate}
 use lib.Seq.{slice}
 use Rattle.syntax.specs.Service.{fit}
 use Rattle.syntax.specs.Content.{content}
-use Rattle.syntax.specs.Cutting.{endAt, cutAt, tagOf}
+use Rattle.syntax.specs.Cutting.{endAt, tagOf}
+use Rattle.syntax.specs.Scanning.{cutAt}
 use Rattle.syntax.specs.Opening.{begunOf}
 use Rattle.syntax.specs.Tree.{Segment, segment, printS}
 use Rattle.syntax.specs.TreeLaws.{and-right}
@@ -33,20 +34,20 @@ use Rattle.grammar.specs.Placing.{place}
 use Rattle.grammar.specs.Places.{wide}
 use Rattle.grammar.specs.PlacingLaws.{shows}
 use Rattle.grammar.specs.SnocLaws.{not-nil}
-use Rattle.grammar.specs.Running.{Passed, Good}
+use Rattle.grammar.specs.Running.{Passed}
 use Rattle.grammar.specs.RunningLaws.{good-start, passed-good}
 use Rattle.grammar.specs.WalkLaws.{step-passed}
 use Rattle.grammar.specs.StartLaws.{start-read}
 use Rattle.grammar.specs.Verdict.{Answer, read, refused, tests, decided, then, atEnd, unless-done, walk, concluded, verdictOf, verdictBy, unaAt}
 use Rattle.elements.specs.Kinds.{kindOf}
 use Rattle.elements.specs.Octets.{askedAt}
-use Rattle.references.specs.Refs.{refsIn, Indexed}
+use Rattle.references.specs.Refs.{refsIn}
 use Rattle.references.specs.RefsLaws.{indexed-none}
 use Rattle.message.specs.Steps.{summaryIn}
-use Rattle.message.specs.Summary.{Summary, StateS, startS, idleS, busyS, doneS, stateOf, AnswerS, told, fresh}
+use Rattle.message.specs.Summary.{Summary, StateS, startS, idleS, busyS, doneS, stateOf, AnswerS, told}
 use Rattle.turns.specs.FollowLaws.{follow}
 use Rattle.turns.specs.TurnLaws.{Turned, walk-over, walk-none, walk-bad, walk-turn, cut-open, cut-ends, cut-spoilt, turned-inside, turned-three}
-use Rattle.turns.specs.Held.{lookedAt, seenBy, phased, stateIn, openSize, Held, decidedFrom, StepIs}
+use Rattle.turns.specs.Held.{lookedAt, seenBy, phased, stateIn, openSize, decidedFrom, StepIs}
 use Rattle.elements.specs.declared.Kind.{Kind}
 use Rattle.turns.specs.declared.state.Phase.{Phase}
 use Rattle.turns.specs.declared.state.Phase.the-variants.{Start, Idle, Busy, Done}
@@ -58,24 +59,9 @@ use Rattle.turns.specs.declared.state.Advanced.{Advanced}
 use Rattle.turns.specs.declared.state.Advanced.the-variants.{On as Further, Stop as Halt}
 use Rattle.turns.specs.declared.state.Looked.{Looked}
 use Rattle.turns.specs.declared.state.Looked.the-variants.{Seen, Bad}
+use Rattle.walk.specs.Runs.{unreadAs, isDone, isBusy, Fresh, answerFrom, Walking, Going, AdvancedIs, Onward}
 
 -- ---- before UNB, and behind UNZ
-
-abbrev pub unreadAs : State
-unreadAs = record { phase = Start; count = 0; slot = 0; unb = record { start = 0; end = 0 }; unh = record { start = 0; end = 0 }; message = fresh false }
-
-abbrev pub isDone : Phase → Bool
-isDone Start = false
-isDone Idle = false
-isDone Busy = false
-isDone Done = true
-
--- a message is open
-abbrev pub isBusy : Phase → Bool
-isBusy Start = false
-isBusy Idle = false
-isBusy Busy = true
-isBusy Done = false
 
 abbrev over : StateS → Bool
 over startS = false
@@ -100,56 +86,9 @@ start-in ρ s x h l e =
 
 -- ---- what holds at the head of the loop
 
--- what the walk starts with
-pub record Fresh (y : Syntax) (s l b : List ℕ) : Type 0 where
-  pub fits : T (fit (y .service))
-  pub short : length s ≤ 65535
-  pub room : length s ≤ 4 * length l
-  pub indexed : Indexed l b 0
-
--- what the walk makes of the octets from p on
-abbrev pub answerFrom : Syntax → List ℕ → ℕ → Answer
-answerFrom y s p = walk y start (chain (y .service) false (drop p s)) p
-
--- a good tree was read from `from` up to i, the state x is what is kept of it, and the walk from there gives the answer
-pub record Walking (y : Syntax) (s : List ℕ) (from : ℕ) (x : State) (h l b : List ℕ) (i : ℕ) : Type 0 where
-  pub tree : Reading
-  pub good : Good y tree
-  pub same : stateOf tree ≡ stateIn (y .service .release) s x h l
-  pub held : Held (y .service .release) s x h l b i
-  pub names : length s ≤ 4 * length l
-  pub short : length s ≤ 65535
-  pub first : x .phase ≡ Start → x .count ≡ 0
-  pub goes : walk y tree (chain (y .service) false (drop i s)) i ≡ answerFrom y s from
-  pub placed : i ≡ from + wide (y .service) (shown tree)
-
 -- all was read: the answer is the reading, and it ends with UNZ
 abbrev pub ReadAll : {y : Syntax} {s : List ℕ} {from : ℕ} {x : State} {h l b : List ℕ} {i : ℕ} → Walking y s from x h l b i → Type 0
 ReadAll {y = y} {s = s} {from = from} w = (answerFrom y s from ≡ read (w .tree)) × ((u : Leaf) × (ms : Snoc Message) × (z : Leaf) × (w .tree ≡ done u ms z))
-
--- what a turn of the walk asks: a place with octets left, before UNZ
-pub record Going (y : Syntax) (s : List ℕ) (x : State) (h l b : List ℕ) (i : ℕ) (m : List ℕ) : Type 0 where
-  pub fits : T (fit (y .service))
-  pub inside : i < length s
-  pub before : isDone (x .phase) ≡ false
-  pub begun : ℕ
-  pub walks : Walking y s begun x h l b i
-  pub marks : length m ≡ 40
-
--- a turn that goes on: the walk with one segment more, g, which stands from i to the next place
-pub record Onward {y : Syntax} {s : List ℕ} {from : ℕ} {x : State} {h l b : List ℕ} {i : ℕ} (w : Walking y s from x h l b i) (a : Ahead) (h′ l′ b′ : List ℕ) : Type 0 where
-  pub walks : Walking y s from (a .state) h′ l′ b′ (a .next)
-  pub g : Segment
-  pub passed : Passed y (w .tree) g (walks .tree)
-  pub view : askedAt (y .service) s i ≡ asked g
-  pub octets : printS (y .service) g ≡ slice i (a .next) s
-  pub size : i + length (printS (y .service) g) ≡ a .next
-  pub inside : a .next ≤ length s
-  pub kind : a .kind ≡ kindOf (asked g .tag)
-
-abbrev pub AdvancedIs : {y : Syntax} {s : List ℕ} {from : ℕ} {x : State} {h l b : List ℕ} {i : ℕ} → Walking y s from x h l b i → Advanced → List ℕ → List ℕ → List ℕ → Type 0
-AdvancedIs w (Further a) h′ l′ b′ = Onward w a h′ l′ b′
-AdvancedIs {y = y} {s = s} {from = from} w (Halt f) h′ l′ b′ = answerFrom y s from ≡ refused (f .number) (f .place)
 
 -- nothing read yet
 pub walking-start : {y : Syntax} {s h l b : List ℕ} {x : State} {i : ℕ} → Fresh y s l b → length h ≡ 36 → x ≡ unreadAs

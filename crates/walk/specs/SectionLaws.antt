@@ -26,7 +26,8 @@ use Rattle.grammar.specs.Interchange.{Leaf, Body, plain, ack, Open, msg, Messag
 use Rattle.grammar.specs.Rules.{refH, refO}
 use Rattle.grammar.specs.Placing.{place}
 use Rattle.grammar.specs.PlacingLaws.{tag-named}
-use Rattle.grammar.specs.Places.{wide, headersIn, trailersIn, Where}
+use Rattle.grammar.specs.Places.{wide, headersIn, trailersIn}
+use Rattle.grammar.specs.Going.{Where}
 use Rattle.grammar.specs.PlacesLaws.{wide-join, leads-placed, begin-placed, open-placed, where-placed, close-placed, end-placed}
 use Rattle.grammar.specs.PairLaws.{few-trailers}
 use Rattle.grammar.specs.Running.{Good}
@@ -44,7 +45,9 @@ use Rattle.message.specs.declared.Message.{Message as Kept}
 use Rattle.turns.specs.Held.{phased, stateIn}
 use Rattle.walk.specs.Layout.{spotsOf, spotStep, rowStep, RowRoom, Rows}
 use Rattle.walk.specs.LayoutLaws.{place-on, spots-on, spots-open, rows-on, rows-open, room-on}
-use Rattle.walk.specs.RunLaws.{unreadAs, isBusy, Fresh as Empty, answerFrom, Walking, ReadAll, Onward, long-print, walking-start, unread-idle}
+use Rattle.walk.specs.RunLaws.{ReadAll, long-print, walking-start, unread-idle}
+use Rattle.walk.specs.Runs.{Onward}
+use Rattle.walk.specs.Runs.{unreadAs, isBusy, Fresh as Empty, answerFrom, Walking}
 use Rattle.walk.specs.Sections.{nameableIn, laidOut, autackO, Stays, begins, ends, breaks, Within, UntBy, AtUnt, SectionBy, Passing, SectionIs, UntIs, Between, ReachedIs}
 use Rattle.walk.specs.declared.layout.Spots.{Spots}
 use Rattle.walk.specs.declared.sections.Layout.{Layout}

@@ -16,7 +16,9 @@ use Rattle.turns.specs.declared.state.Phase.the-variants.{Start, Idle, Busy, Do
 use Rattle.turns.specs.declared.state.State.{State}
 use Rattle.turns.specs.declared.state.Ahead.{Ahead}
 use Rattle.walk.specs.Layout.{spotStep, rowStep, RowRoom}
-use Rattle.walk.specs.RunLaws.{isDone, isBusy, Walking, Onward, Going, going, onward-far, walking-read, walking-short, walking-over}
+use Rattle.walk.specs.RunLaws.{going, onward-far, walking-read, walking-short, walking-over}
+use Rattle.walk.specs.Runs.{Onward}
+use Rattle.walk.specs.Runs.{isDone, isBusy, Walking, Going}
 use Rattle.walk.specs.Sections.{laidOut, passedAs, leftOpen, misplacedAs, endedAs, Starting, UntIs, SectionIs, Between, ReachedIs}
 use Rattle.walk.specs.SectionLaws.{Since, row-room, within-on, within-close, section-open, section-other, section-closed}
 use Rattle.walk.specs.declared.layout.Spots.{Spots}

@@ -20,7 +20,8 @@ use Rattle.grammar.specs.Rules.{autack, refO}
 use Rattle.grammar.specs.Verdict.{loadsM, refused}
 use Rattle.grammar.specs.Places.{wide, headersIn, trailersIn}
 use Rattle.walk.specs.Layout.{headsAt, bodyAt, tailAt, spotsOf, Rows}
-use Rattle.walk.specs.RunLaws.{isDone, isBusy, answerFrom, Walking, ReadAll}
+use Rattle.walk.specs.RunLaws.{ReadAll}
+use Rattle.walk.specs.Runs.{isDone, isBusy, answerFrom, Walking}
 use Rattle.walk.specs.declared.layout.Spots.{Spots}
 use Rattle.walk.specs.declared.sections.Layout.{Layout}
 use Rattle.walk.specs.declared.sections.Section.{Section}

@@ -11,7 +11,8 @@ use lib.Seq.{drop-cons}
 use borrow.Author.Tests.{ne-eqb, eq-eqb, le-leb}
 use Rattle.syntax.specs.Octets.{every}
 use Rattle.syntax.specs.Service.{kindOf, serves}
-use Rattle.syntax.specs.Repertoire.{inside, outsideClass, releaseClass, endClass, classOf}
+use Rattle.syntax.specs.Repertoire.{inside}
+use Rattle.syntax.specs.Classes.{outsideClass, releaseClass, endClass, classOf}
 use Rattle.syntax.specs.RepertoireLaws.{Sorted, is-data, is-bad, is-release, is-separator, is-end, sorted}
 use Rattle.syntax.specs.declared.Service.{Service}
 use Rattle.syntax.specs.declared.Syntax.{Syntax}

@@ -7,7 +7,8 @@ use lib.Seq.{slice}
 use Rattle.syntax.specs.Refusals.{atZero}
 use Rattle.syntax.specs.Octets.{every}
 use Rattle.syntax.specs.Service.{serves}
-use Rattle.syntax.specs.Content.{content, numberIn}
+use Rattle.syntax.specs.Content.{content}
+use Rattle.syntax.specs.Scanning.{numberIn}
 use Rattle.syntax.specs.Cutting.{stopFrom}
 use Rattle.syntax.specs.Segment.{componentAt, partOf}
 use Rattle.syntax.specs.Tree.{print}

@@ -11,7 +11,8 @@ use lib.ListN.{length, take, drop, length-append}
 use lib.Seq.{slice, take-append-seam, drop-append-seam, drop-append-add, drop-drop}
 use Rattle.syntax.specs.Octets.{same, within}
 use Rattle.syntax.specs.Service.{kindOf, fit}
-use Rattle.syntax.specs.Content.{content, allDigits, numberIn, valueFrom}
+use Rattle.syntax.specs.Content.{content, allDigits, valueFrom}
+use Rattle.syntax.specs.Scanning.{numberIn}
 use Rattle.syntax.specs.Cutting.{stopFrom}
 use Rattle.syntax.specs.CuttingLaws.{slice-take}
 use Rattle.syntax.specs.Segment.{componentAt, partOf}

@@ -2,7 +2,7 @@
 ghost use mathlib.Core.Path.{_≡_};
 ghost use Prim.Native.Nat.{_+_, _≤_, _<_};
 ghost use lib.ListN.{length};
-ghost use Rattle.syntax.specs.Repertoire.{Table};
+ghost use Rattle.syntax.specs.Classes.{Table};
 ghost use Rattle.writing.specs.Laid.{Laid};
 ghost use Rattle.weaving.specs.Woven.{headerText, trailerText};
 use crate::value::put_released;

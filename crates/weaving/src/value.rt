@@ -4,7 +4,7 @@ ghost use mathlib.Core.List.{[], _∷_};
 ghost use Prim.Native.Nat.{_+_, _*_, _≤_, _<_};
 ghost use lib.ListN.{length};
 ghost use Rattle.syntax.specs.Service.{serves};
-ghost use Rattle.syntax.specs.Repertoire.{Table};
+ghost use Rattle.syntax.specs.Classes.{Table};
 ghost use Rattle.syntax.specs.Octets.{every};
 ghost use Rattle.writing.specs.Laid.{Laid};
 ghost use Rattle.weaving.specs.Seals.{textBy, mayWrite};

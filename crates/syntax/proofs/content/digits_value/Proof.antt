@@ -1,6 +1,7 @@
 use Prim.Native.Nat.{_-_}
 use lib.ListN.{length}
-use Rattle.syntax.specs.Content.{content, numberIn}
+use Rattle.syntax.specs.Content.{content}
+use Rattle.syntax.specs.Scanning.{numberIn}
 use Rattle.syntax.specs.ContentLaws.{Numbering, numbering-starts, numbering-fits, numbering-none, numbering-end, numbering-less, numbering-below, numbering-above, numbering-long, numbering-on}
 use borrow.Author.Needs.{needs}
 use Rattle.syntax.proofs.content.digits_value.Statement.{statement}

@@ -3,7 +3,7 @@ use Prim.Native.Nat.{_+_, _-_}
 use native.Mathlib.Omega.{arith}
 use mathlib.Core.Path.{_≡_, refl}
 use lib.ListN.{length}
-use Rattle.syntax.specs.Cutting.{cutAt}
+use Rattle.syntax.specs.Scanning.{cutAt}
 use Rattle.syntax.specs.CuttingLaws.{Cutting, cutting-at, cutting-from, cutting-four, cutting-eight}
 use Rattle.syntax.proofs.cutting.run.Statement.{statement}
 use Rattle.syntax.proofs.cutting.run.Tie as tie

@@ -3,7 +3,7 @@ use Prim.Native.Nat.{ℕ, _≤_, _<_, _-_, _+_}
 use mathlib.Core.Path.{_≡_, refl, sym, _∙_}
 use mathlib.Core.Bool.{true, false}
 use lib.ListN.{length, drop}
-use Rattle.syntax.specs.Cutting.{cutAt}
+use Rattle.syntax.specs.Scanning.{cutAt}
 use Rattle.syntax.specs.CuttingLaws.{Cutting, cutting-at, cutting-none, cutting-on, cutting-end, cutting-bad, cutting-short, cutting-freed, cutting-freed-bad}
 use Rattle.syntax.proofs.cutting.scan.Statement.{statement}
 use Rattle.syntax.proofs.cutting.scan.Tie as tie

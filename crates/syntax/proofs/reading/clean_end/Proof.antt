@@ -1,6 +1,7 @@
 use Prim.Native.Nat.{_-_}
 use lib.ListN.{length}
-use Rattle.syntax.specs.CleanLaws.{Tidy, tidy-start, tidy-then, tidy-none, tidy-separator, tidy-end, tidy-bad, tidy-short, tidy-freed-bad, tidy-freed}
+use Rattle.syntax.specs.CleanLaws.{tidy-start, tidy-then, tidy-none, tidy-separator, tidy-end, tidy-bad, tidy-short, tidy-freed-bad, tidy-freed}
+use Rattle.syntax.specs.Clean.{Tidy}
 use borrow.Author.Needs.{needs}
 use Rattle.syntax.proofs.reading.clean_end.Statement.{statement}
 use Rattle.syntax.proofs.reading.clean_end.Tie as tie

@@ -1,6 +1,7 @@
 use Prim.Native.Nat.{_-_}
 use lib.ListN.{length}
-use Rattle.syntax.specs.CleanLaws.{Tidy, tidy-start, tidy-data, tidy-stop, stopping-none}
+use Rattle.syntax.specs.CleanLaws.{tidy-start, tidy-data, tidy-stop, stopping-none}
+use Rattle.syntax.specs.Clean.{Tidy}
 use borrow.Author.Needs.{needs}
 use Rattle.syntax.proofs.reading.data_end.Statement.{statement}
 use Rattle.syntax.proofs.reading.data_end.Tie as tie
