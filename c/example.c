@@ -9,9 +9,8 @@
 #include <string.h>
 
 /* One octet more than an interchange may have, so that a file that is too long is refused and not cut. */
-static uint8_t interchange[65536], kept[65535], octets[65535], sealed[65535], signature[256], value[256];
-
-enum { HEX = 2 };
+static uint8_t interchange[GURANDEPI_LONGEST + 1];
+static uint8_t kept[GURANDEPI_LONGEST], octets[GURANDEPI_LONGEST], sealed[GURANDEPI_LONGEST], signature[256], value[256];
 
 /* A reference, as it is lent: its octets and how many. */
 #define LENT(name) (const uint8_t *)(name), strlen(name)
@@ -69,12 +68,13 @@ static int check(size_t length, const char *message, const char *header, size_t 
 static int seal(size_t length, const char *message, const char *header) {
     struct gurandepi_written written;
     size_t octets_length, signature_length;
-    written = gurandepi_seal_octets(interchange, length, LENT(message), LENT(header), HEX, octets, sizeof octets);
+    written = gurandepi_seal_octets(interchange, length, LENT(message), LENT(header), GURANDEPI_FILTER_HEX, octets,
+                                    sizeof octets);
     if (refused("seal", written.number, written.place)) return 1;
     octets_length = (size_t)written.length;
     signature_length = sign(octets, octets_length, signature);
-    written = gurandepi_seal(interchange, length, LENT(message), LENT(header), HEX, signature, signature_length, sealed,
-                             sizeof sealed);
+    written = gurandepi_seal(interchange, length, LENT(message), LENT(header), GURANDEPI_FILTER_HEX, signature,
+                             signature_length, sealed, sizeof sealed);
     if (refused("seal", written.number, written.place)) return 1;
     printf("sealed under %s: %llu octets\n", header, (unsigned long long)written.length);
     return check((size_t)written.length, message, header, octets_length, signature_length);

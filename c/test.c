@@ -15,8 +15,8 @@
 #include <stdlib.h>
 #include <string.h>
 
-/* No result is longer than 65,535, so that a longer buffer is as good as one of 65,536. */
-enum { GUARD = 256, MOST = 150000, BUFFER = 65536, WORDS = 8, SHOWN = 20 };
+/* No result is longer than GURANDEPI_LONGEST, so that a longer buffer is as good as one of an octet more. */
+enum { GUARD = 256, MOST = 150000, BUFFER = GURANDEPI_LONGEST + 1, WORDS = 8, SHOWN = 20 };
 
 struct lent {
     uint8_t now[GUARD + MOST + GUARD];
@@ -29,7 +29,7 @@ static uint64_t number[WORDS];
 static size_t written;              /* by this call, into the last argument */
 static char said[2 * MOST];
 static char commands[1 << 24], answers[1 << 24];
-static unsigned failed, compared, passed_over, checked;
+static unsigned failed, compared, passed_over, checked, sealed_hex, sealed_base64;
 static unsigned long line;
 
 #define OCTETS(i) (lent[i].now + GUARD), lent[i].length
@@ -90,6 +90,13 @@ static void make_scope2(void) {
     tell(r.number, r.place, own, 2);
 }
 
+/* A refusal with 1 to 12 is that of the AUTACK's interchange where this is refused, else that of the other. */
+static void look_whose(struct gurandepi_range r) {
+    struct gurandepi_answer own = gurandepi_judge(OCTETS(0));
+    if (own.number == GURANDEPI_OK) own = gurandepi_judge(OCTETS(1));
+    if (r.number != own.number || r.place != own.place) fault("a refusal of neither interchange", "");
+}
+
 /* Where the two interchanges are equal, the very same octets may be lent for both. */
 static void make_f01(void) {
     struct gurandepi_range r = gurandepi_f01(OCTETS(0), OCTETS(1), OCTETS(2), OCTETS(3));
@@ -98,6 +105,7 @@ static void make_f01(void) {
         struct gurandepi_range one = gurandepi_f01(OCTETS(0), OCTETS(0), OCTETS(2), OCTETS(3));
         if (memcmp(&r, &one, sizeof r) != 0) fault("another answer where one interchange is lent twice", "");
     }
+    if (r.number != GURANDEPI_OK && r.number <= GURANDEPI_BAD_AMOUNT) look_whose(r);
     tell(r.number, r.place, own, 2);
 }
 
@@ -125,6 +133,8 @@ static void seal_back(void) {
     if (at.number != 0 || o.number != 0 || o.length != header + body || memcmp(octets, sealed + at.header_start, header) != 0 ||
         memcmp(octets + header, sealed + at.body_start, body) != 0)
         fault("what was sealed has other octets than those to be signed", "");
+    if (number[3] == GURANDEPI_FILTER_HEX) sealed_hex++;
+    if (number[3] == GURANDEPI_FILTER_BASE64) sealed_base64++;
     if (v.number != 0 || v.length != lent[4].length || memcmp(value, lent[4].now + GUARD, lent[4].length) != 0)
         fault("what was sealed has another value", "");
 }
@@ -337,15 +347,15 @@ static void long_register(const char *answer, const char *back) {
 
 /* A register of 3,276 messages has 65,524 octets, one of 3,277 has 65,544. */
 static void long_ones(void) {
-    lend_long(3276, 65535);
+    lend_long(3276, GURANDEPI_LONGEST);
     held("h", make_judge, "ok");
     lend_octets(1, name_of(3275), strlen(name_of(3275)));
     held("hh", make_totals, "ok 1 1000");
     long_register("ok 00000ccc", "ok");
-    lend_long(3277, 65535);
+    lend_long(3277, GURANDEPI_LONGEST);
     held("h", make_judge, "ok");
     long_register("refused 15 0", "refused 13 0");
-    lend_long(3276, 65536);
+    lend_long(3276, GURANDEPI_LONGEST + 1);
     held("h", make_judge, "refused 1 0");
     long_register("refused 1 0", "refused 1 0");
 }
@@ -394,6 +404,7 @@ int main(int argc, char **argv) {
     calls[CHECK].carried_out += checked;
     for (i = 0; i < CALLS; i++)
         if (calls[i].carried_out == 0 || calls[i].refused == 0) fault("no case carried out, or none refused, of ", calls[i].name);
+    if (sealed_hex == 0 || sealed_base64 == 0) fault("no case sealed with hexadecimal, or none with base 64", "");
     printf("%u cases compared, %u passed over (report, bad), %u failed\n", compared, passed_over, failed);
     return failed != 0;
 }

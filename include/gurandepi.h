@@ -37,6 +37,22 @@ extern "C" {
 #endif
 
 /*
+ * The version of this interface: of what is declared here, and of what is said of it here.
+ * MINOR grows where a program written by the header before goes on compiling and working: a call or a constant is new, or a
+ * call carries out what it refused before. MAJOR grows, and MINOR is 0 again, where such a program has to be looked at: a
+ * declaration is changed or gone, or for equal octets another answer is given. The library has no version of its own: take
+ * both from one tree.
+ */
+#define GURANDEPI_MAJOR 1
+#define GURANDEPI_MINOR 0
+
+/*
+ * The octets of the longest interchange, and of the longest result. An `out` of so many octets has room for every result:
+ * with it a call refuses with 15 only where no `out` would do.
+ */
+#define GURANDEPI_LONGEST 65535
+
+/*
  * The refusals. A file has one: numbers 1 and 2 are looked for first, then the segments are gone through in order, and the
  * first bad one decides. Every call judges its interchange in this way before all else, so that each may refuse with 1 to
  * 12; 13, 16, 14 and 15 are looked for after that, in this order.
@@ -64,6 +80,12 @@ enum gurandepi_number {
     GURANDEPI_NO_ROOM = 15,         /* the result is longer than `out`, or than 65,535 octets. Place: 0 */
     GURANDEPI_NOT_SEALABLE = 16     /* sealing: the reference is not allowed or already used in the message; the filter or
                                        the length of the value is not allowed; nine headers already; an AUTACK. Place: 0 */
+};
+
+/* How the value of a seal is written (0505): the `filter` of the sealing calls, which refuse every other with 16. */
+enum gurandepi_filter {
+    GURANDEPI_FILTER_HEX = 2,       /* hexadecimal; a value of 1 to 256 octets */
+    GURANDEPI_FILTER_BASE64 = 7     /* base 64; a value of 1 to 384 octets */
 };
 
 /* Carried out, or refused. */
@@ -135,6 +157,8 @@ struct gurandepi_range gurandepi_scope2(const uint8_t *interchange, size_t inter
  * Refuses with 1 to 12, for `autack` first and then for `referenced`; 13: no such message or header of scope F01, no USY
  * names the header, `referenced` is another interchange than the one referred to, holds no message but AUTACKs, or has an
  * AUTACK between the others.
+ * A refusal with 1 to 12 does not say which of the two is refused, and so in which of them `place` lies. gurandepi_judge on
+ * `autack` does: where it refuses, this is that refusal; where it accepts, `referenced` is the one refused.
  */
 struct gurandepi_range gurandepi_f01(const uint8_t *autack, size_t autack_length,
                                      const uint8_t *referenced, size_t referenced_length,
@@ -155,8 +179,8 @@ struct gurandepi_written gurandepi_value(const uint8_t *interchange, size_t inte
  * Sealing a message, in two calls: the first writes the octets to be signed; the caller signs them; the second writes the
  * interchange with the message sealed by a header of scope 1. In it gurandepi_scope1 for `reference` gives the octets that
  * the first call wrote, and gurandepi_value gives `value`; ranges of scopes 1 and 2 that were there keep their octets.
- * `reference` is the new header's 0534: 1 to 14 of A to Z and 0 to 9, new in the message. `filter` says how the value is
- * written: 2 is hexadecimal, 7 is base 64. `value` has 1 to 256 octets for 2, 1 to 384 for 7.
+ * `reference` is the new header's 0534: 1 to 14 of A to Z and 0 to 9, new in the message. `filter`, of enum
+ * gurandepi_filter, says how `value` is written, and how many octets it may have.
  * Both refuse with 1 to 12; 13: no such message; 16; 15. The second also with 14, before 15: the interchange's repertoire
  * or service characters cannot write this value.
  */
