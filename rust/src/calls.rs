@@ -1,6 +1,7 @@
 //! The calls. All `unsafe` is here, and one thing makes it sound: each slice is lent with its own pointer and length, `out` as
 //! the only unique one.
-use crate::{Filter, Parts, Reason, Refusal, Totals};
+use crate::{Filter, Parts, Places, Reason, Refusal, Totals};
+use core::ops::Range;
 
 /// As include/gurandepi.h declares it.
 mod c {
@@ -91,8 +92,8 @@ fn given<T>(number: u64, place: u64, answer: impl FnOnce() -> T) -> Result<T, Re
     }
 }
 
-fn part(octets: &[u8], start: u64, end: u64) -> &[u8] {
-    &octets[start as usize..end as usize]
+fn range(start: u64, end: u64) -> Range<usize> {
+    start as usize..end as usize
 }
 
 fn written(r: c::Written, out: &mut [u8]) -> Result<&mut [u8], Refusal> {
@@ -101,7 +102,8 @@ fn written(r: c::Written, out: &mut [u8]) -> Result<&mut [u8], Refusal> {
 
 /// Is this an interchange without fault?
 ///
-/// ```
+#[cfg_attr(linked, doc = "```")]
+#[cfg_attr(not(linked), doc = "```no_run")]
 /// # let p = std::fs::read_to_string("../examples/p.edi").unwrap();
 /// assert!(gurandepi::judge(p.as_bytes()).is_ok());
 /// let refusal = gurandepi::judge(p.replace("UNT+5", "UNT+6").as_bytes()).unwrap_err();
@@ -123,7 +125,8 @@ pub fn totals(interchange: &[u8], message: &[u8]) -> Result<Totals, Refusal> {
 ///
 /// The example sealed with A1:
 ///
-/// ```
+#[cfg_attr(linked, doc = "```")]
+#[cfg_attr(not(linked), doc = "```no_run")]
 /// # let p7 = std::fs::read("../examples/p7.edi").unwrap();
 /// let parts = gurandepi::scope1(&p7, b"M1", b"A1").unwrap();
 /// assert_eq!((parts.header.len(), parts.body.len()), (32, 50));
@@ -137,26 +140,48 @@ pub fn totals(interchange: &[u8], message: &[u8]) -> Result<Totals, Refusal> {
 /// assert_eq!(parts.header.len(), 32);
 /// ```
 pub fn scope1<'a>(interchange: &'a [u8], message: &[u8], header: &[u8]) -> Result<Parts<'a>, Refusal> {
+    let at = scope1_places(interchange, message, header)?;
+    Ok(Parts { header: &interchange[at.header], body: &interchange[at.body] })
+}
+
+/// Where the parts stand that [`scope1`] gives. An empty body starts and ends where it would stand.
+///
+#[cfg_attr(linked, doc = "```")]
+#[cfg_attr(not(linked), doc = "```no_run")]
+/// # let p7 = std::fs::read("../examples/p7.edi").unwrap();
+/// let places = gurandepi::scope1_places(&p7, b"M1", b"A1").unwrap();
+/// assert_eq!((places.header, places.body), (63..95, 95..145));
+/// ```
+pub fn scope1_places(interchange: &[u8], message: &[u8], header: &[u8]) -> Result<Places, Refusal> {
     let (i, m, h) = (interchange, message, header);
     let r = unsafe { c::gurandepi_scope1(i.as_ptr(), i.len(), m.as_ptr(), m.len(), h.as_ptr(), h.len()) };
-    given(r.number, r.place, || Parts {
-        header: part(i, r.header_start, r.header_end),
-        body: part(i, r.body_start, r.body_end),
+    given(r.number, r.place, || Places {
+        header: range(r.header_start, r.header_end),
+        body: range(r.body_start, r.body_end),
     })
 }
 
 /// What a header of scope 2 seals: from its USH up to the UST that belongs to it.
 pub fn scope2<'a>(interchange: &'a [u8], message: &[u8], header: &[u8]) -> Result<&'a [u8], Refusal> {
+    Ok(&interchange[scope2_places(interchange, message, header)?])
+}
+
+/// Where the part stands that [`scope2`] gives.
+pub fn scope2_places(interchange: &[u8], message: &[u8], header: &[u8]) -> Result<Range<usize>, Refusal> {
     let (i, m, h) = (interchange, message, header);
     let r = unsafe { c::gurandepi_scope2(i.as_ptr(), i.len(), m.as_ptr(), m.len(), h.as_ptr(), h.len()) };
-    given(r.number, r.place, || part(i, r.start, r.end))
+    given(r.number, r.place, || range(r.start, r.end))
 }
 
 /// What a header of scope F01 seals: in the interchange that the AUTACK refers to, from the first UNH to the last UNT of the
 /// messages that are no AUTACK. `message` is the AUTACK's 0062. Both interchanges may be the same one; the part belongs to
 /// `referenced`.
 ///
-/// ```
+/// A refusal with 1 to 12 does not say which of the two is refused, and so in which of them its place lies. [`judge`] on
+/// `autack` does: where it refuses, this is that refusal; where it accepts, `referenced` is the one refused.
+///
+#[cfg_attr(linked, doc = "```")]
+#[cfg_attr(not(linked), doc = "```no_run")]
 /// # let file = std::fs::read("../examples/f01.edi").unwrap();
 /// let part = gurandepi::f01(&file, &file, b"11", b"1").unwrap();
 /// assert_eq!(part, b"UNH+1+DESADV:D:96A:UN'BGM+351+X1'UNT+3+1'");
@@ -170,17 +195,29 @@ pub fn scope2<'a>(interchange: &'a [u8], message: &[u8], header: &[u8]) -> Resul
 /// assert!(part.starts_with(b"UNH+"));
 /// ```
 pub fn f01<'r>(autack: &[u8], referenced: &'r [u8], message: &[u8], header: &[u8]) -> Result<&'r [u8], Refusal> {
+    Ok(&referenced[f01_places(autack, referenced, message, header)?])
+}
+
+/// Where the part stands that [`f01`] gives, in `referenced`.
+///
+#[cfg_attr(linked, doc = "```")]
+#[cfg_attr(not(linked), doc = "```no_run")]
+/// # let file = std::fs::read("../examples/f01.edi").unwrap();
+/// assert_eq!(gurandepi::f01_places(&file, &file, b"11", b"1"), Ok(50..91));
+/// ```
+pub fn f01_places(autack: &[u8], referenced: &[u8], message: &[u8], header: &[u8]) -> Result<Range<usize>, Refusal> {
     let (a, i, m, h) = (autack, referenced, message, header);
     let r =
         unsafe { c::gurandepi_f01(a.as_ptr(), a.len(), i.as_ptr(), i.len(), m.as_ptr(), m.len(), h.as_ptr(), h.len()) };
-    given(r.number, r.place, || part(i, r.start, r.end))
+    given(r.number, r.place, || range(r.start, r.end))
 }
 
 /// The value that a header's seal carries, of any scope, read by the filter that the header names; an odd number of
 /// hexadecimal digits is read as if one 0 stood before them. It is written to the front of `out` and handed back; on a
 /// refusal `out` is left as it was.
 ///
-/// ```
+#[cfg_attr(linked, doc = "```")]
+#[cfg_attr(not(linked), doc = "```no_run")]
 /// # let p7 = std::fs::read("../examples/p7.edi").unwrap();
 /// let mut out = [0; 512];
 /// assert_eq!(gurandepi::value(&p7, b"M1", b"A1", &mut out).unwrap(), [0x0F, 0xA0]);
@@ -201,7 +238,8 @@ pub fn value<'o>(
 /// The octets to be signed when a message is sealed under `reference`, the new header's 0534: 1 to 14 of A to Z and 0 to 9, new in
 /// the message. They are written to the front of `out` and handed back; on a refusal `out` is left as it was.
 ///
-/// ```
+#[cfg_attr(linked, doc = "```")]
+#[cfg_attr(not(linked), doc = "```no_run")]
 /// # let p = std::fs::read("../examples/p.edi").unwrap();
 /// # let p7 = std::fs::read("../examples/p7.edi").unwrap();
 /// use gurandepi::{scope1, seal, seal_octets, Filter};

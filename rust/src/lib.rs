@@ -1,6 +1,7 @@
 //! Gurandepi judges EDIFACT interchanges, hands back what is sealed in them, recovers signature values, totals loads,
-//! seals a message and writes a register. The calls are written and proved in Rattle; this crate is a safe and thin layer over their static library,
-//! which is for x86-64 Linux.
+//! seals a message and writes a register. The calls are written and proved in Rattle; this crate is a safe and thin layer
+//! over their static library, which is for x86-64 Linux. On another target this crate and its users are compiled, but a
+//! program that makes a call does not link.
 //!
 //! An interchange is the whole file as octets. A message is named by the content of its 0062, a security header by the
 //! content of its 0534. Every call judges the interchange first; the first fault decides and is given back as a [`Refusal`].
@@ -8,8 +9,8 @@
 //!
 //! The example of the rules paper, with its first variants:
 //!
-#![cfg_attr(all(target_arch = "x86_64", target_os = "linux"), doc = "```")]
-#![cfg_attr(not(all(target_arch = "x86_64", target_os = "linux")), doc = "```ignore")]
+#![cfg_attr(linked, doc = "```")]
+#![cfg_attr(not(linked), doc = "```no_run")]
 //! use gurandepi::{judge, totals, Reason, Refusal, Totals};
 //!
 //! let p = b"UNB+UNOC:4+PITA+ROYALT+20240105:0700+R1'UNH+M1+DESADV:D:01B:UN'QTY+12:30000:KGM'\
@@ -25,11 +26,14 @@
 #![warn(missing_docs)]
 
 use core::fmt;
+use core::ops::Range;
 
-#[cfg(all(target_arch = "x86_64", target_os = "linux"))]
 mod calls;
-#[cfg(all(target_arch = "x86_64", target_os = "linux"))]
 pub use calls::*;
+
+/// The octets of the longest interchange, and of the longest result. A lent buffer of so many octets has room for every
+/// result: with it a call refuses with [`Reason::Room`] only where no buffer would do.
+pub const LONGEST: usize = 65_535;
 
 /// Why a call refuses. The discriminant is the paper's number.
 #[derive(Clone, Copy, Debug, PartialEq, Eq, Hash)]
@@ -80,9 +84,16 @@ pub struct Refusal {
     pub place: usize,
 }
 
+impl Refusal {
+    /// The paper's number of the reason, 1 to 16.
+    pub const fn number(self) -> u8 {
+        self.reason as u8
+    }
+}
+
 impl fmt::Display for Refusal {
     fn fmt(&self, f: &mut fmt::Formatter<'_>) -> fmt::Result {
-        write!(f, "refused {} at {}", self.reason as u8, self.place)
+        write!(f, "refused {} at {}", self.number(), self.place)
     }
 }
 
@@ -104,6 +115,15 @@ pub struct Parts<'a> {
     pub header: &'a [u8],
     /// The message's body.
     pub body: &'a [u8],
+}
+
+/// Where the parts stand that a header of scope 1 seals, in octets of the lent interchange from 0.
+#[derive(Clone, Debug, PartialEq, Eq, Hash)]
+pub struct Places {
+    /// The header group, from its USH.
+    pub header: Range<usize>,
+    /// The message's body.
+    pub body: Range<usize>,
 }
 
 /// How a value is written in a seal: 0505.
