@@ -3,7 +3,7 @@
 use crate::{Filter, Parts, Places, Reason, Refusal, Totals};
 use core::ops::Range;
 
-/// As include/gurandepi.h declares it.
+/// As include/gurandepi.h declares it: c/interface compares them.
 mod c {
     #[repr(C)]
     pub struct Answer {
@@ -44,21 +44,43 @@ mod c {
         pub length: u64,
     }
 
-    type In = *const u8;
-    type Out = *mut u8;
-
     #[rustfmt::skip]
     extern "C" {
-        pub fn gurandepi_judge(i: In, il: usize) -> Answer;
-        pub fn gurandepi_totals(i: In, il: usize, m: In, ml: usize) -> Loads;
-        pub fn gurandepi_scope1(i: In, il: usize, m: In, ml: usize, h: In, hl: usize) -> Parts;
-        pub fn gurandepi_scope2(i: In, il: usize, m: In, ml: usize, h: In, hl: usize) -> Range;
-        pub fn gurandepi_f01(a: In, al: usize, r: In, rl: usize, m: In, ml: usize, h: In, hl: usize) -> Range;
-        pub fn gurandepi_value(i: In, il: usize, m: In, ml: usize, h: In, hl: usize, o: Out, ol: usize) -> Written;
-        pub fn gurandepi_seal_octets(i: In, il: usize, m: In, ml: usize, r: In, rl: usize, f: u64, o: Out, ol: usize) -> Written;
-        pub fn gurandepi_seal(i: In, il: usize, m: In, ml: usize, r: In, rl: usize, f: u64, v: In, vl: usize, o: Out, ol: usize) -> Written;
-        pub fn gurandepi_register_write(i: In, il: usize, o: Out, ol: usize) -> Written;
-        pub fn gurandepi_register_check(i: In, il: usize, k: In, kl: usize) -> Answer;
+        pub fn gurandepi_judge(interchange: *const u8, interchange_length: usize) -> Answer;
+        pub fn gurandepi_totals(
+            interchange: *const u8, interchange_length: usize, message: *const u8, message_length: usize
+        ) -> Loads;
+        pub fn gurandepi_scope1(
+            interchange: *const u8, interchange_length: usize, message: *const u8, message_length: usize,
+            header: *const u8, header_length: usize
+        ) -> Parts;
+        pub fn gurandepi_scope2(
+            interchange: *const u8, interchange_length: usize, message: *const u8, message_length: usize,
+            header: *const u8, header_length: usize
+        ) -> Range;
+        pub fn gurandepi_f01(
+            autack: *const u8, autack_length: usize, referenced: *const u8, referenced_length: usize,
+            message: *const u8, message_length: usize, header: *const u8, header_length: usize
+        ) -> Range;
+        pub fn gurandepi_value(
+            interchange: *const u8, interchange_length: usize, message: *const u8, message_length: usize,
+            header: *const u8, header_length: usize, out: *mut u8, out_length: usize
+        ) -> Written;
+        pub fn gurandepi_seal_octets(
+            interchange: *const u8, interchange_length: usize, message: *const u8, message_length: usize,
+            reference: *const u8, reference_length: usize, filter: u64, out: *mut u8, out_length: usize
+        ) -> Written;
+        pub fn gurandepi_seal(
+            interchange: *const u8, interchange_length: usize, message: *const u8, message_length: usize,
+            reference: *const u8, reference_length: usize, filter: u64,
+            value: *const u8, value_length: usize, out: *mut u8, out_length: usize
+        ) -> Written;
+        pub fn gurandepi_register_write(
+            interchange: *const u8, interchange_length: usize, out: *mut u8, out_length: usize
+        ) -> Written;
+        pub fn gurandepi_register_check(
+            interchange: *const u8, interchange_length: usize, kept: *const u8, kept_length: usize
+        ) -> Answer;
     }
 }
 

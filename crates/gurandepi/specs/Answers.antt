@@ -4,7 +4,7 @@ use mathlib.Core.List.{List, [], _∷_}
 use mathlib.Core.Path.{_≡_}
 use Rattle.writing.specs.Written.{Text, writtenAs, leftIn, toldWritten}
 use Rattle.gurandepi.specs.declared.Answer.{Answer}
-use Rattle.gurandepi.specs.declared.Totals.{Totals}
+use Rattle.gurandepi.specs.declared.Loads.{Loads}
 use Rattle.gurandepi.specs.declared.Parts.{Parts}
 use Rattle.gurandepi.specs.declared.Range.{Range}
 use Rattle.gurandepi.specs.declared.Written.{Written}
@@ -12,7 +12,7 @@ use Rattle.gurandepi.specs.declared.Written.{Written}
 abbrev pub answerFields : Answer → List ℕ
 answerFields r = r .number ∷ r .place ∷ []
 
-abbrev pub totalsFields : Totals → List ℕ
+abbrev pub totalsFields : Loads → List ℕ
 totalsFields r = r .number ∷ r .place ∷ r .loads ∷ r .grams ∷ []
 
 abbrev pub partsFields : Parts → List ℕ

@@ -1,6 +1,7 @@
-// The exported interface, for C and Rust: include/gurandepi.h says it in C. Each call takes slices, a pointer and a length
-// in C, and gives a struct of numbers: the number of the refusal, 0 for none, its place, then the call's own. Any octets of
-// any length are allowed everywhere; no call keeps anything.
+// The exported interface, for C and Rust: include/gurandepi.h says it in C, rust/src/calls.rs in Rust, by the same names, which
+// c/interface compares. Each call takes slices, a pointer and a length in C, and gives a struct of numbers: the number of
+// the refusal, 0 for none, its place, then the call's own. Any octets of any length are allowed everywhere; no call keeps
+// anything.
 ghost use mathlib.Core.Path.{_≡_};
 ghost use Rattle.grammar.specs.Verdict.{verdictOf, numbers, totalsOf, totalNumbers};
 ghost use Rattle.judge.specs.Told.{told};
@@ -36,7 +37,7 @@ pub struct Answer {
 }
 
 #[repr(C)]
-pub struct Totals {
+pub struct Loads {
     pub number: u64,
     pub place: u64,
     pub loads: u64,
@@ -84,17 +85,17 @@ fn verdict_answer(v: Verdict) -> Answer
     }
 }
 
-fn totals_answer(t: judge::totals::Totals) -> Totals
+fn totals_answer(t: judge::totals::Totals) -> Loads
     ensures { λ r. ⌜ totalsFields r ≡ toldTotals t ⌝ }
 {
     match t {
-        judge::totals::Totals::Of(x) => Totals {
+        judge::totals::Totals::Of(x) => Loads {
             number: 0,
             place: 0,
             loads: x.loads as u64,
             grams: x.grams,
         },
-        judge::totals::Totals::Refused(f) => Totals {
+        judge::totals::Totals::Refused(f) => Loads {
             number: f.number as u64,
             place: f.place as u64,
             loads: 0,
@@ -187,7 +188,7 @@ pub extern "C" fn gurandepi_judge(interchange: &[u8]) -> Answer
 
 // The loads of a message, named by its 0062, and their grams.
 #[no_mangle]
-pub extern "C" fn gurandepi_totals(interchange: &[u8], message: &[u8]) -> Totals
+pub extern "C" fn gurandepi_totals(interchange: &[u8], message: &[u8]) -> Loads
     ensures { λ r. ⌜ totalsFields r ≡ totalNumbers (totalsOf (now (interchange .entry)) (now (message .entry))) ⌝ }
 {
     totals_answer(message_totals(interchange, message))
@@ -272,10 +273,10 @@ pub extern "C" fn gurandepi_register_write(interchange: &[u8], out: &mut [u8]) -
     written_answer(register_write(interchange, out))
 }
 
-// Whether `register` is the register of the interchange.
+// Whether `kept` is the register of the interchange.
 #[no_mangle]
-pub extern "C" fn gurandepi_register_check(interchange: &[u8], register: &[u8]) -> Answer
-    ensures { λ r. ⌜ answerFields r ≡ checkNumbers (registerOf Old (now (interchange .entry))) (now (register .entry)) ⌝ }
+pub extern "C" fn gurandepi_register_check(interchange: &[u8], kept: &[u8]) -> Answer
+    ensures { λ r. ⌜ answerFields r ≡ checkNumbers (registerOf Old (now (interchange .entry))) (now (kept .entry)) ⌝ }
 {
-    checked_answer(register_check(interchange, register))
+    checked_answer(register_check(interchange, kept))
 }
