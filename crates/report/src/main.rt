@@ -1,4 +1,5 @@
 // The report on an interchange on standard input, on standard output.
+use input::drain;
 use libc::STDIN_FILENO;
 use libc::STDOUT_FILENO;
 use listing::text::listing;
@@ -13,24 +14,6 @@ fn tell(s: &[u8]) {
             io::write_all(STDOUT_FILENO, part(&out, 0, n));
         }
         Written::Refused(_) => {}
-    }
-}
-
-// Reads a part of what is left of the input, and keeps nothing: how many octets there were.
-fn read_away() -> usize {
-    let mut chunk = io::large_buffer();
-    io::read_full(STDIN_FILENO, &mut chunk)
-}
-
-// To the end of the input. A proved loop has to end, and nothing says that the input does: so the loop counts its turns down, from a
-// number that no run uses up.
-fn drain() {
-    let mut turns = u64::MAX;
-    while turns > 0 {
-        if read_away() == 0 {
-            return;
-        }
-        turns -= 1;
     }
 }
 

@@ -1,4 +1,5 @@
 // For an interchange on standard input: `accepted`, or the refusal with its place.
+use input::drain;
 use judge::run::Verdict;
 use judge::run::judge;
 use libc::STDIN_FILENO;
@@ -23,5 +24,6 @@ fn tell(s: &[u8]) {
 fn main() {
     let mut space = io::large_buffer();
     let n = io::read_full(STDIN_FILENO, &mut space);
+    drain();
     tell(&space[..n]);
 }

@@ -1,6 +1,6 @@
 use borrow.Author.Needs.{needs}
-use Rattle.report.proofs.drain.Statement.{statement}
-use Rattle.report.proofs.drain.Tie as tie
+use Rattle.input.proofs.drain.Statement.{statement}
+use Rattle.input.proofs.drain.Tie as tie
 
 abbrev Inv-loop : tie.InvT-loop
 Inv-loop turns₀ turns = Unit {0}
