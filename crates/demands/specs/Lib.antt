@@ -26,3 +26,18 @@ pub mod RangeLaws
 pub mod Read
 pub mod ReadLaws
 pub mod Example
+-- the clauses of the demands, by what is in an interchange and where
+pub mod Stated
+pub mod Sewn
+pub mod Allowed
+pub mod Valued
+pub mod RefusedLaws
+pub mod OnceLaws
+pub mod AskedForLaws
+pub mod PairedLaws
+pub mod TiedLaws
+pub mod PartedLaws
+pub mod ReferredLaws
+pub mod SewnLaws
+pub mod AllowedLaws
+pub mod ValuedLaws

@@ -17,7 +17,8 @@ use Rattle.groups.specs.Calls.{serviceIn}
 use Rattle.demands.specs.Printed.{Scope1, Scope2, F01}
 use Rattle.demands.specs.Range.{Reads, Same, totalIn, Range1, range1, scope1, Range2, range2, scope2, f01}
 
--- "version, repertoire and service characters are always those of the interchange in which the octets lie"
+-- "Equal octets read alike only under equal service characters: UNA lies outside all three scopes. Demand 3 therefore names them; its version, repertoire and
+-- service characters are always those of the interchange in which the octets lie"
 abbrev pub syntaxBy : Verdict → Option Syntax
 syntaxBy (accepted i) = syntaxIn i
 syntaxBy (refusedWith f) = none

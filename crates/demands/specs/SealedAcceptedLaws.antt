@@ -47,7 +47,7 @@ pub record Succeeds (s m r : List ℕ) (f : ℕ) (v x : List ℕ) : Type 0 where
   pub written : T (writable (syntaxIn i) (textBy f v))
   pub printed : print (sealedBy i m r f v) ≡ x
 
-no-text : {A : Type 0} {f : Refusal} {x : List ℕ} → noText f ≡ text x → A
+pub no-text : {A : Type 0} {f : Refusal} {x : List ℕ} → noText f ≡ text x → A
 no-text e = let z : _≡_ {A = ℕ} 0 1 = cc in absurd (omega arith)
 
 pub answered-text : (a : Answered Text) {x : List ℕ} → answered a ≡ text x → a ≡ given (text x)

@@ -1,7 +1,7 @@
 // The demands, in the users' words and document 01's. Each is the promise of a function that does nothing, so that the gate holds it.
 // The definitions are those that the calls promise: of the crate `grammar` `Interchange` and `print` (Valid.antt, Interchange.antt), `Valid`
 // (Valid.antt, with the rules of Rules.antt, Elements.antt and Loads.antt), `verdictOf` and `totalsOf` (Verdict.antt), `countedIn` (Counted.antt);
-// of `ranges` `scope1Of`, `scope2Of` (Ranges.antt) and `f01Of` (F01.antt); of `values` `valueOf` (Values.antt); of `sealing` `sealOf`,
+// of `ranges` `scope1Of`, `scope2Of` (Ranges.antt), of `f01` `f01Of` (F01.antt); of `values` `valueOf` (Values.antt); of `sealing` `sealOf`,
 // `sealOctetsOf` and `sealed` (Sealing.antt); of `register` `registerOf`, `checkNumbers`, `told` (Register.antt); of `writing` `Writes`
 // (Written.antt); and here `Printed.antt`, `Sealed.antt`, `Range.antt` (the grammars of what is sealed) and `Read.antt`.
 ghost use Prim.Native.Nat.{ℕ, _≤_};
@@ -11,31 +11,55 @@ ghost use mathlib.Core.Logic.{_↔_};
 ghost use lib.Dec.{T};
 ghost use lib.ListN.{length, take, drop};
 ghost use lib.Seq.{slice};
+ghost use Rattle.syntax.specs.Octets.{octets};
 ghost use Rattle.syntax.specs.Service.{fit};
 ghost use Rattle.syntax.specs.declared.Refusal.{Refusal};
 ghost use Rattle.syntax.specs.declared.Service.{Service};
-ghost use Rattle.grammar.specs.Lists.{Snoc};
+ghost use Rattle.grammar.specs.Lists.{Snoc, size};
 ghost use Rattle.grammar.specs.Interchange.{Message};
 ghost use Rattle.grammar.specs.Valid.{Interchange, print, Valid};
 ghost use Rattle.grammar.specs.Verdict.{verdictOf, accepted, refusedWith, totalsOf, totalsIn};
 ghost use Rattle.grammar.specs.Counted.{countedIn, messagesIn};
 ghost use Rattle.groups.specs.Calls.{given};
-ghost use Rattle.ranges.specs.Ranges.{parts, run, scope1Of, scope2Of};
+ghost use Rattle.ranges.specs.Ranges.{Parts, parts, Run, run, scope1Of, scope2Of};
 ghost use Rattle.f01.specs.F01.{f01Of};
 ghost use Rattle.filters.specs.Octets.{Octets};
 ghost use Rattle.writing.specs.Written.{Text, text, Writes};
-ghost use Rattle.writing.specs.declared.Written.the-variants.{Length};
+ghost use Rattle.writing.specs.declared.Written.the-variants.{Length, Refused};
 ghost use Rattle.values.specs.Values.{valueOf};
-ghost use Rattle.sealing.specs.Sealing.{sealOf};
+ghost use Rattle.sealing.specs.Sealing.{sealOctetsOf, sealOf};
 ghost use Rattle.register.specs.Register.{registerOf, checkNumbers, told};
 ghost use Rattle.register.specs.declared.forms.Form.the-variants.{Old};
 ghost use Rattle.register.specs.declared.register.Checked.the-variants.{Same};
+ghost use Rattle.listing.specs.Listing.{Lists};
+ghost use Rattle.gurandepi.specs.Answers.{Gives};
+ghost use Rattle.gurandepi.specs.declared.Written.{Written as Exported};
+ghost use Rattle.demands.specs.Stated.{In, HasHeader, headersOf, trailersOf, Pairs, CountsAgree, number0036, Refers, RunOf};
+ghost use Rattle.demands.specs.Sewn.{Sewn};
+ghost use Rattle.demands.specs.Allowed.{Allows, Seals};
+ghost use Rattle.demands.specs.Valued.{Valued};
 ghost use Rattle.demands.specs.Printed.{Scope1, Scope2, F01};
 ghost use Rattle.demands.specs.Sealed.{Accepted, Signed, Kept};
 ghost use Rattle.demands.specs.Range.{Reads, Range1, scope1, Range2, scope2, f01};
 ghost use Rattle.demands.specs.Read.{syntaxOf, Read1, Alike1, Read2, Alike2, ReadF, AlikeF};
 
-// D2a. "An interchange is accepted exactly when it meets ISO 9735 parts 1, 2, 5, 6 as document 01 narrows or relaxes them": the verdict on
+// D1. "A refusing call writes nothing into the buffers lent to it.": a call that writes a text and answers a refusal leaves the lent buffer as it was, every octet
+// of it.
+pub fn refusal_writes_nothing()
+    ensures { λ _. ⌜ ((x : Text) (out : List ℕ) (f : Refusal) (left : List ℕ) → Writes x out (Refused f) left → left ≡ out) ⌝ }
+{}
+
+// The listing, too.
+pub fn refused_listing_writes_nothing()
+    ensures { λ _. ⌜ ((t out : List ℕ) (f : Refusal) (left : List ℕ) → Lists t out (Refused f) left → left ≡ out) ⌝ }
+{}
+
+// And each exported call that writes: where its answer's number is not 0.
+pub fn exported_refusal_writes_nothing()
+    ensures { λ _. ⌜ ((x : Text) (out : List ℕ) (r : Exported) (left : List ℕ) → Gives x out r left → ((r .number ≡ 0) → ⊥) → left ≡ out) ⌝ }
+{}
+
+// D2a. "An interchange is accepted exactly when it meets ISO 9735 parts 1, 2, 5 and 6 as the rules paper narrows or relaxes them": the verdict on
 // the octets s is accepted if and only if some valid interchange prints s.
 pub fn accepted_exactly()
     ensures { λ _. ⌜ ((s : List ℕ) → ((t : Interchange) × (verdictOf s ≡ accepted t)) ↔ ((t : Interchange) × Valid t × (print t ≡ s))) ⌝ }
@@ -67,7 +91,46 @@ pub fn refusals_are_numbered()
     ensures { λ _. ⌜ ((s : List ℕ) (f : Refusal) → verdictOf s ≡ refusedWith f → (1 ≤ f .number) × (f .number ≤ 12)) ⌝ }
 {}
 
-// D2c. What a range call hands back is the printing of that part of the one tree. Scope 1: of the header group, and of the body, of the message and
+// "Security headers and trailers pair one to one by reference": in every message of an accepted interchange.
+pub fn pairs_one_to_one()
+    ensures { λ _. ⌜ ((s : List ℕ) (i : Interchange) → verdictOf s ≡ accepted i → (m : Message) → In m (messagesIn i) → Pairs (headersOf m) (trailersOf m)) ⌝ }
+{}
+
+// "And all counts agree": 0588, 0074 and the control totals of every message, and 0036 of the interchange.
+pub fn counts_agree()
+    ensures { λ _. ⌜ ((s : List ℕ) (i : Interchange) → verdictOf s ≡ accepted i → (number0036 i ≡ size (messagesIn i)) × ((m : Message) → In m (messagesIn i) → CountsAgree m)) ⌝ }
+{}
+
+// D2c. Ranges are given, not only right when given. Scope 1: for s, m and r a range is given if and only if s is accepted and has a message with the 0062 m
+// that has a header with the 0534 r and the scope code 1.
+pub fn scope1_is_given()
+    ensures { λ _. ⌜ ((s m r : List ℕ) → ((p : Parts) × (scope1Of s m r ≡ given p)) ↔ HasHeader s m r (octets "1")) ⌝ }
+{}
+
+// Scope 2: the same, with the scope code 2.
+pub fn scope2_is_given()
+    ensures { λ _. ⌜ ((s m r : List ℕ) → ((p : Run) × (scope2Of s m r ≡ given p)) ↔ HasHeader s m r (octets "2")) ⌝ }
+{}
+
+// F01: a run is given if and only if the AUTACK's interchange a has the message m with a header of the 0534 r and the scope code F01, a USY of it names
+// that header, and s is accepted, has the 0020 of the first such USX in its UNB, and has messages that are no AUTACK with no AUTACK between them. Where
+// one of these fails and both are accepted, the answer is 13.
+pub fn f01_is_given()
+    ensures { λ _. ⌜ ((a s m r : List ℕ) → ((p : Run) × (f01Of a s m r ≡ given p)) ↔ Refers a s m r) ⌝ }
+{}
+
+// F01 by its meaning: what is given is the run of messages that are no AUTACK, from the first UNH to the last UNT, of the interchange that is referred to.
+pub fn f01_is_meant()
+    ensures { λ _. ⌜ ((a s m r : List ℕ) (x y : ℕ) → f01Of a s m r ≡ given (run x y) → RunOf a s m r x y) ⌝ }
+{}
+
+// The value call gives v if and only if s is accepted and has the message and the header that are named, and the header's filter reads v from the text of
+// its seal: 0560 of the USR after the UST, or in an AUTACK of the first USY that names the header.
+pub fn value_is_given()
+    ensures { λ _. ⌜ ((s m r v : List ℕ) → (valueOf s m r ≡ text v) ↔ Valued s m r v) ⌝ }
+{}
+
+// What a range call hands back is the printing of that part of the one tree. Scope 1: of the header group, and of the body, of the message and
 // the header that are named.
 pub fn scope1_is_printed()
     ensures { λ _. ⌜ ((s m r : List ℕ) (a b c d : ℕ) → scope1Of s m r ≡ given (parts a b c d) → Scope1 s m r a b c d) ⌝ }
@@ -83,7 +146,17 @@ pub fn f01_is_printed()
     ensures { λ _. ⌜ ((t s m r : List ℕ) (a b : ℕ) → f01Of t s m r ≡ given (run a b) → F01 s a b) ⌝ }
 {}
 
-// D2d. For every input on which `seal` succeeds; x is what it writes, for the interchange s, the message m, REF r, F f and VALUE v.
+// D2d. Sealing has a text, not only a right one: the octets to be signed, if and only if s is accepted and none of 13 and 16 holds
+pub fn seal_octets_is_given()
+    ensures { λ _. ⌜ ((s m r : List ℕ) (f : ℕ) → ((x : List ℕ) × (sealOctetsOf s m r f ≡ text x)) ↔ Allows s m r f) ⌝ }
+{}
+
+// .. and the sealed interchange, if and only if none of 13, 16 and 14 holds. (15 is told of a text that is too long to be written.)
+pub fn seal_is_given()
+    ensures { λ _. ⌜ ((s m r : List ℕ) (f : ℕ) (v : List ℕ) → ((x : List ℕ) × (sealOf s m r f v ≡ text x)) ↔ Seals s m r f v) ⌝ }
+{}
+
+// For every input on which `seal` succeeds; x is what it writes, for the interchange s, the message m, REF r, F f and VALUE v.
 //
 // What it is to succeed: a call that writes a text and answers a length has written that text, first in the lent buffer, and it has 65,535 octets
 // at most.
@@ -91,10 +164,16 @@ pub fn success_is_written()
     ensures { λ _. ⌜ ((t : Text) (out : List ℕ) (k : ℕ) (left : List ℕ) → Writes t out (Length k) left → (t ≡ text (take k left)) × ((length (take k left) ≡ k) × (k ≤ 65535))) ⌝ }
 {}
 
-// "A sealed message is accepted, keeps its other segments octet for octet": the result is accepted; its tree is the old one with the new header
+// "A message we seal is accepted": the result is accepted; its tree is the old one with the new header
 // group first and the new trailer group last in that message and UNT's count four more
 pub fn sealed_is_accepted()
     ensures { λ _. ⌜ ((s m r : List ℕ) (f : ℕ) (v x : List ℕ) → sealOf s m r f v ≡ text x → length x ≤ 65535 → Accepted s m r f v x) ⌝ }
+{}
+
+// "keeps its other segments octet for octet": what `seal` writes is the old octets with the new header put in behind UNH, the new trailer before UNT, and
+// UNT's 0074 replaced.
+pub fn sealed_octets()
+    ensures { λ _. ⌜ ((s m r : List ℕ) (f : ℕ) (v x : List ℕ) → sealOf s m r f v ≡ text x → Sewn s m r f v x) ⌝ }
 {}
 
 // "For one interchange, message, REF and F, the new header's range in the sealed interchange is what the first call wrote."
@@ -120,7 +199,7 @@ pub fn check_accepts_written()
     ensures { λ _. ⌜ ((s g out : List ℕ) → length g ≤ length out → (told Same ≡ checkNumbers (registerOf Old s) g) ↔ Writes (registerOf Old s) out (Length (length g)) (g ++ drop (length g) out)) ⌝ }
 {}
 
-// D3. "Equal sealed octets mean equal readings". Scope 1: the header group, then the body, joined. Octets have at most one reading under the
+// D3. "If their sealed octets are equal, they hold the same segments, element by element". Scope 1: the header group, then the body, joined. Octets have at most one reading under the
 // grammar of the range.
 pub fn scope1_one_reading()
     ensures { λ _. ⌜ ((σ : Service) → T (fit σ) → (o : List ℕ) (t v : Range1) → Reads scope1 σ o t → Reads scope1 σ o v → t ≡ v) ⌝ }

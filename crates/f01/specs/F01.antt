@@ -19,7 +19,7 @@ use Rattle.ranges.specs.Ranges.{Run, run, headerIn}
 abbrev pub usxReference : Tie → List ℕ
 usxReference (tie x y) = usx0020 x
 
--- "the 0020 of the first USX under which a USY names the header"
+-- "the 0020 of the first USX under which a USY names the header"; 13 "if no USY names the header"
 abbrev pub referenceAt : Placed → List ℕ → Option (List ℕ)
 referenceAt (placed (message o t) q) r = then (headerIn (octets "F01") o r) (λ h. then (tieIn (bodyIn o) r) (λ k. some (usxReference k)))
 

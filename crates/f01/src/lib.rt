@@ -165,7 +165,7 @@ pub fn f01_places(autack: &[u8], referenced: &[u8], message: &[u8], header: &[u8
     }
 }
 
-// The run itself: it belongs to `referenced`. Empty and at 0 where it is refused.
+// The run itself: "for F01 a part of the referenced interchange, which is lent beside the AUTACK's and may be the same one". Empty and at 0 where it is refused.
 pub fn f01_run<'a, 'r>(
     autack: &'a [u8],
     referenced: &'r [u8],

@@ -15,7 +15,7 @@ use Rattle.grammar.specs.Loads.{controlRight}
 pub data Range : Type 0 where
   text digits reference : ℕ → ℕ → Range
 
--- an element: its first components; whether further ones may follow
+-- an element: its first components; whether further ones may follow. "one range for a composite means its first component"
 pub data Checked : Type 0 where
   closed composite : List Range → Checked
 
@@ -72,12 +72,12 @@ abbrev pub inRanges : List Range → Asked → ℕ → ℕ → Bool
 inRanges [] a p c = true
 inRanges (r ∷ rs) a p c = inRange r (a .text p c) && inRanges rs a p (suc c)
 
--- "may nothing repeat"
+-- "Only here, and in QTY and CNT, may nothing repeat."
 abbrev pub formedAs : Checked → Asked → ℕ → Bool
 formedAs (closed rs) a p = not (a .repeated p) && inRanges rs a p 0 && leb (a .parts p) (length rs)
 formedAs (composite rs) a p = not (a .repeated p) && inRanges rs a p 0
 
--- the elements from position p on
+-- the elements from position p on; behind the row's, "the rest is only read as octets"
 abbrev pub formedRow : List Checked → Asked → ℕ → Bool
 formedRow [] a p = true
 formedRow (k ∷ ks) a p = formedAs k a p && formedRow ks a (suc p)

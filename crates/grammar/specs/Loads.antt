@@ -48,6 +48,7 @@ abbrev pub fraction : ℕ → Option (List ℕ) → ℕ
 fraction d none = 0
 fraction d (some f) = valueFrom 0 f * tens (d - length f)
 
+-- the digits before the mark, and those behind it, as whole grams: never through a float
 abbrev pub grams : Shape → List ℕ → Grams
 grams (shape w d) s = valueFrom 0 (before s) * tens d + fraction d (behind s)
 
@@ -68,6 +69,7 @@ controlUnit u = unit u (shape 12 3) (shape 9 6)
 abbrev pub threePart : Asked → Bool
 threePart a = eqb (a .size) 1 && eqb (a .parts 1) 3
 
+-- "Any other QTY isn't a load"
 abbrev pub loadShape : Asked → Option Shape
 loadShape a = cond (same (a .tag) (octets "QTY") && threePart a) (loadUnit (a .text 1 2)) none
 

@@ -14,8 +14,8 @@ use Rattle.grammar.specs.Segments.{Name, Unb, Unh, Unt, Unz, Ush, Usa, U
 use Rattle.grammar.specs.Interchange.{Leaf, certificate, Header, header, trailer, link, Body, plain, ack, Open, msg, Message, Reading, start, idle, busy, done, showHeader, showBody}
 use Rattle.grammar.specs.Placing.{usaH, uscH, usrH, lastly, inHeaders, inBody, usbB, usxB, usyB, itemB, usrO, ustO, inOpen, growNamed, grow, place}
 use Rattle.grammar.specs.PlacingLaws.{kind-named}
-use Rattle.grammar.specs.Places.{wide, opensHeader, inHeader, inItems, opensTrailer, inTrailer, begins, opens, goesOn, closes, ends}
-use Rattle.grammar.specs.Going.{more, begunB, Where, Goes, leads, Grown, Closed, Opened, Begun, Ended}
+use Rattle.grammar.specs.Places.{wide}
+use Rattle.grammar.specs.Going.{more, begunB, Where, Goes, leads, Grown, Closed, Opened, Begun, Ended, opensHeader, inHeader, inItems, opensTrailer, inTrailer, begins, opens, goesOn, closes, ends}
 
 -- ---- the octets that segments take
 

@@ -119,7 +119,8 @@ linked (ack c ls) = joined refsL ls
 abbrev pub one : Snoc (List ℕ) → List ℕ → Rule
 one s r = test (among s r)
 
--- "0534 of USH once in a message", "Each USY names a USH of its message", "Each UST names a header not yet named"
+-- "0534 of USH once in a message", "Each USY names a USH of its message", "Each UST names a header not yet named; trailers may come in any order."
+-- "A UST with no header left to name is 9, in a message without headers too."
 abbrev pub refsOpen : Open → Rule
 refsOpen (msg h hs b ts) =
     distinct (each refH hs) and every (one (each refH hs)) (linked b)
@@ -157,7 +158,7 @@ claimed s = cond (inRange (digits 1 6) s) (valueFrom 0 s) 0
 abbrev pub counted : Snoc Header → Trailer → Rule
 counted hs (trailer c r) = test (eqb (claimed (ust0588 c)) (sizeAt (ust0534 c) hs + size (showTrailer (trailer c r))))
 
--- "0074 counts UNH to UNT, both included."; in every version alike
+-- "then 10 for 0074, 0588 and CNT". "0074 counts UNH to UNT, both included."; in every version alike
 abbrev pub countsMessage : Version → Message → Rule
 countsMessage v (message (msg h hs b ts) t) =
     test (eqb (unt0074 t) (size (showMessage (message (msg h hs b ts) t)))) and every (counted hs) ts and total b

@@ -20,6 +20,7 @@ pub data Kind : Type 0 where
 pub data Entry : Type 0 where
   entry : List ℕ → Kind → Entry
 
+-- "Groups (UNG), packages (UNO), .. are no part of the base": they have no place.
 -- "A body has 0 or more segments, none tagged UNA UNB UNG UNE UNH UNT UNZ UNO UNP USH USA USC USR UST USB USX USY USD USU."
 abbrev pub tags : List Entry
 tags =

@@ -37,7 +37,7 @@ abbrev pub on : (Reading → Rule) → Option Reading → Bool
 on rule none = false
 on rule (some x) = check (rule x)
 
--- "place: the octet" for 3
+-- the place of 3 is "the octet": the first one outside
 abbrev pub foundAt : ℕ → Found → ℕ
 foundAt p (At q) = q
 foundAt p Nothing = p
@@ -71,7 +71,7 @@ abbrev pub then : Answer → (Reading → Answer) → Answer
 then (read x) k = k x
 then (refused n p) k = refused n p
 
--- "input ends early": 7 at the end
+-- "input ends early": 7 at the end. "Where no octet is left, 4 isn't given: it is 5 before UNB, 7 later."
 abbrev pub atEnd : Reading → ℕ → Answer
 atEnd start p = refused 7 p
 atEnd (idle u ms) p = refused 7 p
@@ -125,6 +125,7 @@ verdictOf s = verdictBy s (begunOf s)
 
 -- ---- the loads and grams of the message with a given 0062
 
+-- "In messages other than AUTACK"; "an AUTACK prints loads 0 grams 0"
 abbrev pub loadsB : Body → Snoc Grams
 loadsB (plain b) = loads b
 loadsB (ack c ls) = nil

@@ -77,6 +77,7 @@ listingOf s = listingBy (verdictOf s)
 abbrev pub listedAs : List ℕ → List ℕ → Written
 listedAs t out = cond (ltb (length out) (length t)) (refusedAs 15) (Length (length t))
 
+-- "Lent octets beyond a written result stay."
 abbrev pub leftIn : List ℕ → List ℕ → List ℕ
 leftIn t out = cond (ltb (length out) (length t)) out (t ++ drop (length t) out)
 

@@ -45,7 +45,8 @@ abbrev pub toldRun : Ran → List ℕ
 toldRun (RunOf x) = 0 ∷ 0 ∷ x .start ∷ x .end ∷ []
 toldRun (RunRefused f) = f .number ∷ f .place ∷ 0 ∷ 0 ∷ []
 
--- where the parts lie: on refusal "the part is empty and starts at 0"
+-- "Range calls hand back the caller's own octets: for scope 1 the header part and the body part, each a part of the lent interchange". Where the parts lie; on
+-- refusal "the part is empty and starts at 0"
 abbrev pub headerPart : Answered Parts → Run
 headerPart (given (parts a b c d)) = run a b
 headerPart (refusedAs f) = run 0 0

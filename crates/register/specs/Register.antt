@@ -68,6 +68,7 @@ abbrev pub registerBy : Form → Verdict → Text
 registerBy f (refusedWith g) = noText g
 registerBy f (accepted i) = text (registerText f (entriesIn i))
 
+-- "One call writes it"
 abbrev pub registerOf : Form → List ℕ → Text
 registerOf f s = registerBy f (verdictOf s)
 

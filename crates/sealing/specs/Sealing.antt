@@ -25,6 +25,7 @@ sealOctetsOf s m r f = answered (answeredBy (verdictOf s) (λ i. then (messageIn
 abbrev pub orUnwritten : Interchange → List ℕ → List ℕ → ℕ → List ℕ → Text
 orUnwritten i m r f t = cond (writable (syntaxIn i) t) (text (sealedText i m r f t)) (noText (atZero 14))
 
+-- ".. then 13, 16, 14, 15"
 abbrev pub sealAt : Interchange → Placed → List ℕ → List ℕ → ℕ → List ℕ → Text
 sealAt i (placed (message o n) q) m r f v = cond (maySeal o r f && lengthRight f v) (orUnwritten i m r f (textBy f v)) (noText (atZero 16))
 

@@ -67,6 +67,7 @@ tagElement a b c = ne (ne (plain a ∷ plain b ∷ plain c ∷ []) []) []
 abbrev pub flatS : Segment → List Symbol
 flatS (segment a b c es) = joined elem flatE (ne (tagElement a b c) es) ++ term ∷ []
 
+-- one behind the other: "Nothing may stand between segments or after UNZ, line ends included."
 abbrev pub flat : List Segment → List Symbol
 flat [] = []
 flat (g ∷ gs) = flatS g ++ flat gs

@@ -15,8 +15,8 @@ use Rattle.syntax.specs.declared.Service.{Service}
 use Rattle.grammar.specs.Lists.{Snoc, nil, _▷_, _+++_, joined, size}
 use Rattle.grammar.specs.Segments.{Unh, Ush, seg}
 use Rattle.grammar.specs.Interchange.{Leaf, certificate, Header, header, Trailer, trailer, Body, plain, ack, Open, msg, showHeader, showTrailer, showBody, showOpen}
-use Rattle.grammar.specs.Places.{wide, startsOf, headersIn, trailersIn, opensHeader, inHeader, inItems, opensTrailer, inTrailer}
-use Rattle.grammar.specs.Going.{more, begunB, Where}
+use Rattle.grammar.specs.Places.{wide, startsOf, headersIn, trailersIn}
+use Rattle.grammar.specs.Going.{more, begunB, Where, opensHeader, inHeader, inItems, opensTrailer, inTrailer}
 use Rattle.grammar.specs.PlacesLaws.{wide-join}
 use Rattle.message.specs.Summary.{groupOf}
 use Rattle.message.specs.Heads.{upto}

@@ -125,7 +125,7 @@ writable (some y) t = every (mayWrite y) t
 
 -- ---- the texts
 
--- "the scope 1 octets to be signed": the new header group, then the body
+-- "the scope 1 octets to be signed": the new header group, then the body, "in the interchange's own service characters"
 abbrev pub signedText : Service → Open → List ℕ → ℕ → List ℕ
 signedText σ (msg u hs b ts) r f = syntax.print σ (list (showHeader (newHeader r f) +++ showBody b))
 

@@ -27,7 +27,7 @@ abbrev pub writtenAs : Text → List ℕ → Written
 writtenAs (noText f) out = Refused f
 writtenAs (text t) out = cond (tooLong (length out) (length t)) (refusedAs 15) (Length (length t))
 
--- the text first and the rest as it was; all as it was where the call refuses
+-- the text first, and "Lent octets beyond a written result stay."; all as it was where the call refuses
 abbrev pub leftIn : Text → List ℕ → List ℕ
 leftIn (noText f) out = out
 leftIn (text t) out = cond (tooLong (length out) (length t)) out (t ++ drop (length t) out)
