@@ -1,82 +1,26 @@
 -- Headers and trailers pair, and the counts agree, in every message of an accepted interchange.
-use Prim.Native.Nat.{ℕ, suc, _+_, _≤_}
+use Prim.Native.Nat.{ℕ, _+_, _≤_}
 use native.Mathlib.Omega.{arith}
-use mathlib.Core.Bool.{Bool, true, false, cond, not, _||_, false≢true}
+use mathlib.Core.Bool.{false}
 use mathlib.Core.List.{List}
-use mathlib.Core.Path.{_≡_, refl, ap, sym, _∙_, subst}
-use lib.Dec.{T, eqb, eqb→eq}
-use Rattle.syntax.specs.Octets.{same}
-use Rattle.grammar.specs.Lists.{Snoc, nil, _▷_, each, size, among, test, holds, every, distinct}
+use mathlib.Core.Path.{_≡_, refl, ap, _∙_}
+use lib.Dec.{eqb, eqb→eq}
+use Rattle.grammar.specs.Lists.{Snoc, nil, each, size, test, holds, every, distinct}
 use Rattle.grammar.specs.Grams.{sum}
-use Rattle.grammar.specs.Interchange.{Leaf, Header, Trailer, trailer, Body, plain, ack, msg, Message, message, showHeader, showTrailer}
+use Rattle.grammar.specs.Interchange.{Header, Trailer, trailer, Body, plain, ack, msg, Message, message, showHeader, showTrailer}
 use Rattle.grammar.specs.Rules.{refH, refT, one, refsMessage, total, sizeAt, counted, countsMessage}
-use Rattle.grammar.specs.PlacingLaws.{same-eq}
-use Rattle.grammar.specs.TestLaws.{is-true}
 use Rattle.grammar.specs.ListsLaws.{each-size}
 use Rattle.grammar.specs.Loads.{loads}
+use Rattle.syntax.specs.declared.Version.{Version}
 use Rattle.grammar.specs.Valid.{Interchange, interchange, Valid}
 use Rattle.grammar.specs.Verdict.{accepted, verdictOf, loadsB}
 use Rattle.grammar.specs.VerdictLaws.{verdict-exact}
 use Rattle.grammar.specs.Counted.{messagesIn}
 use Rattle.demands.specs.Stated.{In, headersOf, trailersOf, Pairs, number0588, number0036, controlsB, CountsAgree}
 use Rattle.demands.specs.OnceLaws.{every-in, each-in, found-once, one-place, chosen-in, among-chosen}
+use Rattle.grammar.specs.PairLaws.{count-most, pigeons}
 
--- ---- as many trailers as headers. (PairLaws of grammar has this for one way only, and keeps it to itself.)
-
--- how many of rs are among ts
-abbrev countIn : Snoc (List ℕ) → Snoc (List ℕ) → ℕ
-countIn ts nil = 0
-countIn ts (rs ▷ r) = cond (among ts r) (suc (countIn ts rs)) (countIn ts rs)
-
-more : (a b : Bool) (n m : ℕ) → n ≤ m → cond b (suc n) n ≤ cond (a || b) (suc m) m
-more true true n m l = omega (arith, l)
-more true false n m l = omega (arith, l)
-more false true n m l = omega (arith, l)
-more false false n m l = l
-
-count-most : (ts rs : Snoc (List ℕ)) → countIn ts rs ≤ size rs
-count-most ts nil = omega arith
-count-most ts (rs ▷ r) = by (among ts r) (count-most ts rs)
-  where
-    by : (b : Bool) → countIn ts rs ≤ size rs → cond b (suc (countIn ts rs)) (countIn ts rs) ≤ suc (size rs)
-    by true l = omega (arith, l)
-    by false l = omega (arith, l)
-
-count-up : (ts rs : Snoc (List ℕ)) (t : List ℕ) → countIn ts rs ≤ countIn (ts ▷ t) rs
-count-up ts nil t = omega arith
-count-up ts (rs ▷ r) t = more (same t r) (among ts r) (countIn ts rs) (countIn (ts ▷ t) rs) (count-up ts rs t)
-
-same-refl : (x y : List ℕ) → T (same x y) → same y x ≡ true
-same-refl x y h =
-    let e = same-eq x y h in
-    is-true (same y x) (subst (λ (z : List ℕ). T (same z x)) e (subst (λ (z : List ℕ). T (same x z)) (sym e) h))
-
-count-new : (ts rs : Snoc (List ℕ)) (t : List ℕ) → T (not (among ts t)) → T (among rs t) → suc (countIn ts rs) ≤ countIn (ts ▷ t) rs
-count-new ts nil t n a = absurd a
-count-new ts (rs ▷ r) t n a = by (same r t) refl (count-new ts rs t n) a
-  where
-    grown : (b c : Bool) (k m : ℕ) → suc k ≤ m → suc (cond b (suc k) k) ≤ cond (c || b) (suc m) m
-    grown true true k m l = omega (arith, l)
-    grown true false k m l = omega (arith, l)
-    grown false true k m l = omega (arith, l)
-    grown false false k m l = l
-
-    first : (b c : Bool) (k m : ℕ) → T (not b) → c ≡ true → k ≤ m → suc (cond b (suc k) k) ≤ cond (c || b) (suc m) m
-    first true c k m x e l = absurd x
-    first false true k m x e l = omega (arith, l)
-    first false false k m x e l = absurd (false≢true e)
-
-    by : (b : Bool) → same r t ≡ b → (T (among rs t) → suc (countIn ts rs) ≤ countIn (ts ▷ t) rs) → T (b || among rs t)
-        → suc (cond (among ts r) (suc (countIn ts rs)) (countIn ts rs)) ≤ cond (same t r || among ts r) (suc (countIn (ts ▷ t) rs)) (countIn (ts ▷ t) rs)
-    by true e ih x =
-        let h : T (same r t) = subst T (sym e) tt in
-        first (among ts r) (same t r) (countIn ts rs) (countIn (ts ▷ t) rs)
-        (subst (λ (z : List ℕ). T (not (among ts z))) (sym (same-eq r t h)) n) (same-refl r t h) (count-up ts rs t)
-    by false e ih x = grown (among ts r) (same t r) (countIn ts rs) (countIn (ts ▷ t) rs) (ih x)
-
-pigeons : (ts rs : Snoc (List ℕ)) → holds (distinct ts) → holds (every (one rs) ts) → size ts ≤ countIn ts rs
-pigeons nil rs d e = omega arith
-pigeons (ts ▷ t) rs d e = let l = pigeons ts rs (d .0) (e .0) in let k = count-new ts rs t (d .1) (e .1) in omega (arith, l, k)
+-- ---- as many trailers as headers
 
 no-more : (ts rs : Snoc (List ℕ)) → holds (distinct ts) → holds (every (one rs) ts) → size ts ≤ size rs
 no-more ts rs d e = let l = pigeons ts rs d e in let m = count-most ts rs in omega (arith, l, m)
@@ -121,8 +65,8 @@ total-of : (b : Body) → holds (total b) → (n : ℕ) → In n (controlsB b) �
 total-of (plain b) h n x = eqb→eq n (sum (loads b)) (every-in (λ (n : ℕ). test (eqb n (sum (loads b)))) h x)
 total-of (ack c ls) h n x = absurd (every-in (λ (n : ℕ). test false) {row = nil} tt x)
 
-counts-of : (m : Message) → holds (refsMessage m) → holds (countsMessage m) → CountsAgree m
-counts-of (message (msg h hs b ts) t) q c = record {
+counts-of : (v : Version) (m : Message) → holds (refsMessage m) → holds (countsMessage v m) → CountsAgree m
+counts-of v (message (msg h hs b ts) t) q c = record {
   pair = λ k l x y e. pair-counted hs l (every-in (counted hs) (c .1 .0) y) ∙ ap (λ (n : ℕ). n + size (showTrailer l)) (size-of (refT l) x e (q .0 .0));
   segments = eqb→eq _ _ (c .0);
   total = total-of b (c .1 .1);
@@ -133,4 +77,4 @@ counts-all s i e = by i (verdict-exact s i .0 e .0)
   where
     by : (i : Interchange) → Valid i → (number0036 i ≡ size (messagesIn i)) × ((m : Message) → In m (messagesIn i) → CountsAgree m)
     by (interchange n u ms z) v =
-        (eqb→eq _ _ (v .counted .1), λ (m : Message) (x : In m ms). counts-of m (every-in refsMessage (v .references .1 .0) x) (every-in countsMessage (v .counted .0) x))
+        (eqb→eq _ _ (v .counted .1), λ (m : Message) (x : In m ms). counts-of (v .y .version) m (every-in refsMessage (v .references .1 .0) x) (every-in (countsMessage (v .y .version)) (v .counted .0) x))

@@ -1,78 +1,43 @@
--- What sealing writes, octet for octet. (The first half is of WovenLaws of weaving, which keeps it to itself.)
-use Prim.Native.Nat.{ℕ, suc, _+_, _-_, _≤_, _<_}
+-- What sealing writes, octet for octet.
+use Prim.Native.Nat.{ℕ, _+_, _-_}
 use native.Mathlib.Omega.{arith}
-use native.Mathlib.Numerals.{add-one}
-use mathlib.Core.Bool.{Bool, true, false, cond, not, _&&_, false≢true}
+use mathlib.Core.Bool.{true, false, false≢true}
 use mathlib.Core.List.{List, [], _∷_, _++_, append-assoc, append-nil}
-use mathlib.Core.Option.{Option, none, some}
+use mathlib.Core.Option.{Option, some}
 use mathlib.Core.Path.{_≡_, refl, ap, _∙_, sym, subst}
-use lib.Dec.{T, leb, leb→le}
-use lib.ListN.{length, take, drop, length-append}
-use lib.Seq.{slice, take-append-seam, drop-append-seam, drop-append-add, drop-drop}
-use Rattle.syntax.specs.Octets.{same, within}
-use Rattle.syntax.specs.Service.{kindOf, fit}
-use Rattle.syntax.specs.Content.{content, allDigits, numberIn, valueFrom}
-use Rattle.syntax.specs.Cutting.{stopFrom}
-use Rattle.syntax.specs.CuttingLaws.{slice-take}
-use Rattle.syntax.specs.Segment.{componentAt, partOf}
-use Rattle.syntax.specs.Tree.{Element, Segment, Octet, plain, freed, Symbol, tok, elem, term, comp, rep, flatE, each, spells, printS, print, well}
-use Rattle.syntax.specs.TreeLaws.{and-left, and-right, symKind, Reads, All, all-left, allE, ok-reads, well-reads, spells-append, print-cons, pass}
+use lib.Dec.{T}
+use lib.ListN.{length, length-append}
+use lib.Seq.{slice}
+use Rattle.syntax.specs.Service.{fit}
+use Rattle.syntax.specs.Tree.{Segment, flatE, spells, printS, print}
+use Rattle.syntax.specs.TreeLaws.{print-cons}
 use Rattle.syntax.specs.declared.Service.{Service}
 use Rattle.syntax.specs.declared.Syntax.{Syntax}
-use Rattle.syntax.specs.declared.Version.{Version}
-use Rattle.syntax.specs.declared.Found.{Found}
-use Rattle.syntax.specs.declared.Found.the-variants.{At, Nothing}
-use Rattle.syntax.specs.declared.content.Number.{Number}
-use Rattle.syntax.specs.declared.content.Number.the-variants.{Is, Not}
 use Rattle.grammar.specs.Lists as grammar
-use Rattle.grammar.specs.Lists.{Snoc, nil, _▷_, _+++_, list, Rule, holds, every}
-use Rattle.grammar.specs.Segments.{Unb, Unh, Unt, Unz, seg, text, number, Asked, asked}
-use Rattle.grammar.specs.Elements.{digits, inRange, formed}
+use Rattle.grammar.specs.Lists.{Snoc, nil, _▷_, _+++_, list}
+use Rattle.grammar.specs.Segments.{Unb, Unh, Unt, Unz, seg, text, number}
 use Rattle.grammar.specs.Interchange.{Leaf, Header, Trailer, Body, Open, msg, Message, message, idle, done, shown, showHeader, showTrailer, showBody, showOpen, showMessage}
-use Rattle.grammar.specs.Rules.{refM, formedS}
 use Rattle.grammar.specs.Valid as valid
-use Rattle.grammar.specs.Valid.{Una, una, Interchange, interchange, inForce, syntaxIn, openingIn, printUna, unaOf, segments, Valid}
+use Rattle.grammar.specs.Valid.{Interchange, interchange, inForce, openingIn, printUna, segments}
 use Rattle.grammar.specs.Verdict.{accepted, verdictOf}
 use Rattle.grammar.specs.VerdictLaws.{verdict-exact}
-use Rattle.grammar.specs.PlacingLaws.{regroup}
-use Rattle.grammar.specs.TestLaws.{is-true}
-use Rattle.grammar.specs.Places.{wide}
-use Rattle.grammar.specs.PlacesLaws.{wide-list, wide-join}
-use Rattle.grammar.specs.Named.{Placed, placed, placedIn}
-use Rattle.elements.specs.AmountsLaws.{tens-below, digits-below}
-use Rattle.message.specs.StepsLaws.{six-is}
-use Rattle.walk.specs.Layout.{headsAt, bodyAt, tailAt}
-use Rattle.walk.specs.Sections.{Laid}
-use Rattle.walk.specs.declared.sections.Layout.{Layout}
+use Rattle.grammar.specs.PlacesLaws.{wide-list}
+use Rattle.grammar.specs.Named.{placed}
 use Rattle.writing.specs.Decimal.{decimalOf}
 use Rattle.writing.specs.Laid.{joined}
-use Rattle.groups.specs.Stand.{Stand}
-use Rattle.groups.specs.StandLaws.{list-join, print-append, stand-front, stand-back, stand-asked, stand-slice}
-use Rattle.groups.specs.PartsLaws.{body-stands}
-use Rattle.groups.specs.Calls.{serviceIn, messageIn, Holds}
-use Rattle.groups.specs.CallsLaws.{placed-every}
-use Rattle.weaving.specs.Seals.{single, newHeader, newTrailer, grown, sealedMessage, sealedIn, sealed, signedText, sealedText}
-use Rattle.weaving.specs.Woven.{headerText, trailerText, countBy, countAt, endBy, countEnd, restPieces, octetsPieces, sealedPieces}
-use Rattle.weaving.specs.PiecesLaws.{segment-print, single-print}
-use Rattle.grammar.specs.ListsLaws.{every-right, every-joined, joined-join}
+use Rattle.groups.specs.StandLaws.{list-join, print-append}
+use Rattle.groups.specs.Calls.{serviceIn, messageIn}
+use Rattle.weaving.specs.Seals.{newHeader, newTrailer, grown, sealedMessage}
+use Rattle.grammar.specs.ListsLaws.{joined-join}
 use Rattle.weaving.specs.Seals.{textBy}
 use Rattle.weaving.specs.WovenLaws.{untTail, unt-print, grown-print, around}
 use Rattle.grammar.specs.StartLaws.{fit-in-force}
 use Rattle.sealing.specs.Sealing.{sealOf}
 use Rattle.writing.specs.Written as writing
 use Rattle.demands.specs.Sealed.{sealedBy}
-use Rattle.demands.specs.SealedAcceptedLaws.{Succeeds, succeeds}
+use Rattle.demands.specs.SealedAcceptedLaws.{succeeds}
 use Rattle.demands.specs.Sewn.{Sewn}
-
-cut-at : (a x z s : List ℕ) (p q : ℕ) → s ≡ a ++ (x ++ z) → p ≡ length a → q ≡ length a + length x → slice p q s ≡ x
-cut-at a x z s p q e i j =
-    let n : q - p ≡ length x = omega (arith, i, j) in
-    slice-take p q s ∙ ap (λ (k : ℕ). take k (drop p s)) n ∙ ap (λ (k : ℕ). take (length x) (drop k s)) i ∙ ap (λ (l : List ℕ). take (length x) (drop (length a) l)) e
-    ∙ ap (take (length x)) (drop-append-seam a (x ++ z)) ∙ take-append-seam x z
-
--- between UNH and UNT
-abbrev inner : Snoc Header → Body → Snoc Trailer → Snoc Segment
-inner hs b ts = grammar.joined showHeader hs +++ showBody b +++ grammar.joined showTrailer ts
+use Rattle.weaving.specs.WovenLaws.{cut-at, inner, una-length, unt-digits, old-parts, new-parts}
 
 module _ (σ : Service) where
   one-print : (g : Segment) → print σ (g ∷ []) ≡ printS σ g
@@ -126,29 +91,6 @@ module _ (σ : Service) where
     where
       whole-list : (x y w : Snoc Segment) → list (nil ▷ seg Unb u +++ (x +++ y +++ w) ▷ seg Unz z) ≡ list (nil ▷ seg Unb u +++ x) ++ (list y ++ list (w ▷ seg Unz z))
       whole-list x y w = simp (list-join, append-assoc)
-
-una-length : (n : Option Una) → length (printUna n) ≡ openingIn n .at
-una-length none = refl
-una-length (some (una σ x)) = refl
-
-unt-formed : (y : Version) (k : Leaf) → T (formed y (asked (seg Unt k))) → inRange (digits 1 6) (text k 1 0) ≡ true
-unt-formed y k h = let w : T (inRange (digits 1 6) (text k 1 0)) = search (and-left, and-right) in is-true (inRange (digits 1 6) (text k 1 0)) w
-
--- UNT of the message that is named has a count
-unt-digits : (s m : List ℕ) (i : Interchange) (o : Open) (k : Leaf) (q : ℕ) → verdictOf s ≡ accepted i → messageIn i m ≡ some (placed (message o k) q) → inRange (digits 1 6) (text k 1 0) ≡ true
-unt-digits s m (interchange n u ms z) o k q e named =
-    let v = verdict-exact s (interchange n u ms z) .0 e in
-    let y : Syntax = v .0 .y in
-    let w : holds (every (formedS y) (showMessage (message o k))) =
-    placed-every (serviceIn (interchange n u ms z)) (openingIn n .at) u m (λ (x : Message). every (formedS y) (showMessage x)) ms named
-    (every-joined (formedS y) showMessage ms (every-right (formedS y) (nil ▷ seg Unb u) (grammar.joined showMessage ms) (v .0 .elements .0))) in
-    unt-formed (y .version) k (w .1)
-
-old-parts : (P I W B U E R D : List ℕ) → P ++ (I ++ (W ++ (B ++ (U ++ (E ++ R))) ++ D)) ≡ P ++ (I ++ W) ++ (B ++ (U ++ (E ++ (R ++ D))))
-old-parts P I W B U E R D = simp append-assoc
-
-new-parts : (P I W H B T U N R D : List ℕ) → P ++ (I ++ (W ++ (H ++ (B ++ (T ++ (U ++ (N ++ R))))) ++ D)) ≡ P ++ (I ++ W) ++ (H ++ (B ++ (T ++ (U ++ (N ++ (R ++ D))))))
-new-parts P I W H B T U N R D = simp append-assoc
 
 -- ---- octets that are made of parts
 

@@ -15,7 +15,7 @@ use Rattle.grammar.specs.TestLaws.{is-true}
 use Rattle.grammar.specs.ListsLaws.{each-size}
 
 -- how many of rs are among ts
-abbrev countIn : Snoc (List ℕ) → Snoc (List ℕ) → ℕ
+abbrev pub countIn : Snoc (List ℕ) → Snoc (List ℕ) → ℕ
 countIn ts nil = 0
 countIn ts (rs ▷ r) = cond (among ts r) (suc (countIn ts rs)) (countIn ts rs)
 
@@ -25,7 +25,7 @@ more true false n m l = omega (arith, l)
 more false true n m l = omega (arith, l)
 more false false n m l = l
 
-count-most : (ts rs : Snoc (List ℕ)) → countIn ts rs ≤ size rs
+pub count-most : (ts rs : Snoc (List ℕ)) → countIn ts rs ≤ size rs
 count-most ts nil = omega arith
 count-most ts (rs ▷ r) = by (among ts r) (count-most ts rs)
   where
@@ -65,7 +65,7 @@ count-new ts (rs ▷ r) t n a = by (same r t) refl (count-new ts rs t n) a
         (subst (λ (z : List ℕ). T (not (among ts z))) (sym (same-eq r t h)) n) (same-refl r t h) (count-up ts rs t)
     by false e ih x = grown (among ts r) (same t r) (countIn ts rs) (countIn (ts ▷ t) rs) (ih x)
 
-pigeons : (ts rs : Snoc (List ℕ)) → holds (distinct ts) → holds (every (one rs) ts) → size ts ≤ countIn ts rs
+pub pigeons : (ts rs : Snoc (List ℕ)) → holds (distinct ts) → holds (every (one rs) ts) → size ts ≤ countIn ts rs
 pigeons nil rs d e = omega arith
 pigeons (ts ▷ t) rs d e = let l = pigeons ts rs (d .0) (e .0) in let k = count-new ts rs t (d .1) (e .1) in omega (arith, l, k)
 

@@ -148,7 +148,7 @@ module _ (σ : Service) (p : ℕ) (u : Leaf) (h : Header) (t : Trailer) (r : Lis
 
 -- ---- octets that are made of parts
 
-cut-at : (a x z s : List ℕ) (p q : ℕ) → s ≡ a ++ (x ++ z) → p ≡ length a → q ≡ length a + length x → slice p q s ≡ x
+pub cut-at : (a x z s : List ℕ) (p q : ℕ) → s ≡ a ++ (x ++ z) → p ≡ length a → q ≡ length a + length x → slice p q s ≡ x
 cut-at a x z s p q e i j =
     let n : q - p ≡ length x = omega (arith, i, j) in
     slice-take p q s ∙ ap (λ (k : ℕ). take k (drop p s)) n ∙ ap (λ (k : ℕ). take (length x) (drop k s)) i ∙ ap (λ (l : List ℕ). take (length x) (drop (length a) l)) e
@@ -182,7 +182,7 @@ module _ (A B U E X s : List ℕ) (h u e : ℕ) (is : s ≡ A ++ (B ++ (U ++ (E 
 -- ---- a message, and a sealed one, printed
 
 -- between UNH and UNT
-abbrev inner : Snoc Header → Body → Snoc Trailer → Snoc Segment
+abbrev pub inner : Snoc Header → Body → Snoc Trailer → Snoc Segment
 inner hs b ts = grammar.joined showHeader hs +++ showBody b +++ grammar.joined showTrailer ts
 
 module _ (σ : Service) where
@@ -240,14 +240,14 @@ module _ (σ : Service) where
 
 -- ---- the sealed interchange
 
-una-length : (n : Option Una) → length (printUna n) ≡ openingIn n .at
+pub una-length : (n : Option Una) → length (printUna n) ≡ openingIn n .at
 una-length none = refl
 una-length (some (una σ x)) = refl
 
-old-parts : (P I W B U E R D : List ℕ) → P ++ (I ++ (W ++ (B ++ (U ++ (E ++ R))) ++ D)) ≡ P ++ (I ++ W) ++ (B ++ (U ++ (E ++ (R ++ D))))
+pub old-parts : (P I W B U E R D : List ℕ) → P ++ (I ++ (W ++ (B ++ (U ++ (E ++ R))) ++ D)) ≡ P ++ (I ++ W) ++ (B ++ (U ++ (E ++ (R ++ D))))
 old-parts P I W B U E R D = simp append-assoc
 
-new-parts : (P I W H B T U N R D : List ℕ) → P ++ (I ++ (W ++ (H ++ (B ++ (T ++ (U ++ (N ++ R))))) ++ D)) ≡ P ++ (I ++ W) ++ (H ++ (B ++ (T ++ (U ++ (N ++ (R ++ D))))))
+pub new-parts : (P I W H B T U N R D : List ℕ) → P ++ (I ++ (W ++ (H ++ (B ++ (T ++ (U ++ (N ++ R))))) ++ D)) ≡ P ++ (I ++ W) ++ (H ++ (B ++ (T ++ (U ++ (N ++ (R ++ D))))))
 new-parts P I W H B T U N R D = simp append-assoc
 
 -- an accepted interchange is short
@@ -259,7 +259,7 @@ read-short s i e =
     omega (arith, l, ap length (v .1))
 
 -- UNT of the message that is named has a count
-unt-digits : (s m : List ℕ) (i : Interchange) (o : Open) (k : Leaf) (q : ℕ) → verdictOf s ≡ accepted i → messageIn i m ≡ some (placed (message o k) q) → inRange (digits 1 6) (text k 1 0) ≡ true
+pub unt-digits : (s m : List ℕ) (i : Interchange) (o : Open) (k : Leaf) (q : ℕ) → verdictOf s ≡ accepted i → messageIn i m ≡ some (placed (message o k) q) → inRange (digits 1 6) (text k 1 0) ≡ true
 unt-digits s m (interchange n u ms z) o k q e named =
     let v = verdict-exact s (interchange n u ms z) .0 e in
     let y : Syntax = v .0 .y in
