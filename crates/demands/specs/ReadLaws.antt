@@ -19,7 +19,9 @@ use Rattle.grammar.specs.Lists.{Snoc, nil, _▷_, _+++_, joined, list, each, si
 use Rattle.grammar.specs.Grams.{sum}
 use Rattle.grammar.specs.Segments.{Unb, Unh, Unt, Unz, seg}
 use Rattle.grammar.specs.Interchange.{Leaf, Header, header, Body, plain, ack, Open, msg, Message, message, showHeader, showTrailer, showBody, showOpen, showMessage, shown, idle}
-use Rattle.grammar.specs.Rules.{autack, okHeader, okItem, okBody, okMessage, scopeRight, scopesMessage, refM}
+use Rattle.grammar.specs.declared.Subset.{Subset}
+use Rattle.grammar.specs.declared.Subset.the-variants.{None, F01 as AckF01}
+use Rattle.grammar.specs.Rules.{autack, subset, isAutack, okHeader, okItem, okBody, okMessage, scopeRight, scopesMessage, refM}
 use Rattle.grammar.specs.Valid.{Interchange, interchange, Valid, inForce, openingIn}
 use Rattle.grammar.specs.Verdict.{Verdict, accepted, verdictOf, loadsB, loadsM, totalsIn, totalsBy, totalsOf}
 use Rattle.grammar.specs.VerdictLaws.{verdict-exact, totals-read}
@@ -27,7 +29,7 @@ use Rattle.grammar.specs.StartLaws.{fit-in-force}
 use Rattle.grammar.specs.Places.{headersIn, trailersIn}
 use Rattle.grammar.specs.Named.{placed, totalsAt}
 use Rattle.grammar.specs.Counted.{messagesIn}
-use Rattle.grammar.specs.RuleLaws.{check-holds}
+use Rattle.grammar.specs.RuleLaws.{check-holds, is-autack}
 use Rattle.grammar.specs.PlacingLaws.{same-eq, regroup}
 use Rattle.spans.specs.Span.{other}
 use Rattle.spans.specs.SpanLaws.{Parts as RunParts, parted-so}
@@ -115,16 +117,16 @@ items-so hs (plain nil) k = record { items = nil; plainly = refl; free = tt }
 items-so hs (plain (b ▷ i)) k = record { items = b ▷ i; plainly = refl; free = k .1 }
 items-so hs (ack c ls) k = absurd (k .0)
 
-no-autack : (a : Bool) (x : Header) (code : List ℕ) → T (not (same code (octets "F01"))) → holds (scopeRight a x) → scopeH x ≡ code → a ≡ false
-no-autack true (header c us cs) code n k e = absurd (T-not (same code (octets "F01")) n (subst (λ (l : List ℕ). T (same l (octets "F01"))) e k))
-no-autack false x code n k e = refl
+no-autack : (a : Subset) (x : Header) (code : List ℕ) → T (not (same code (octets "F01"))) → holds (scopeRight a x) → scopeH x ≡ code → isAutack a ≡ false
+no-autack AckF01 (header c us cs) code n k e = absurd (T-not (same code (octets "F01")) n (subst (λ (l : List ℕ). T (same l (octets "F01"))) e k))
+no-autack None x code n k e = refl
 
 module _ (code : List ℕ) (n : T (not (same code (octets "F01")))) where
   body-so : (o : Open) (t : Leaf) (x : Header) (bs ls : Snoc Header) → headersIn o ≡ bs ▷ x +++ ls → scopeH x ≡ code
       → holds (okMessage (message o t)) → holds (scopesMessage (message o t)) → Items (bodyIn o)
   body-so (msg u hs w ts) t x bs ls e c k j =
-      let y = every-left (scopeRight (autack u)) (bs ▷ x) ls (subst (λ (z : Snoc Header). holds (every (scopeRight (autack u)) z)) e j) in
-      items-so hs w (subst (λ (b : Bool). holds (okBody b hs w)) (no-autack (autack u) x code n (y .1) c) (k .0 .1 .1 .0))
+      let y = every-left (scopeRight (subset u)) (bs ▷ x) ls (subst (λ (z : Snoc Header). holds (every (scopeRight (subset u)) z)) e j) in
+      items-so hs w (subst (λ (b : Bool). holds (okBody b hs w)) (sym (is-autack u) ∙ no-autack (subset u) x code n (y .1) c) (k .0 .1 .1 .0))
 
 -- those behind one of a row are fewer than all
 few-behind : {A : Type 0} (xs bs ls : Snoc A) (x : A) (n : ℕ) → xs ≡ bs ▷ x +++ ls → holds (few (suc n) xs) → holds (few n ls)

@@ -16,7 +16,8 @@ use Rattle.grammar.specs.ListsLaws.{size-join}
 use Rattle.grammar.specs.TestLaws.{passes}
 use Rattle.grammar.specs.Segments.{Unh, seg, number, unh0062, unt0062, ust0534, ust0588}
 use Rattle.grammar.specs.Interchange.{Leaf, Header, Trailer, trailer, Body, plain, ack, msg, Message, message, showHeader, showTrailer, showBody, showOpen, showMessage}
-use Rattle.grammar.specs.Rules.{autack, okHeader, okBody, whole, okMessage, refH, refT, linked, one, refsMessage, sizeAt, claimed, counted, countsMessage, scopeRight, scopesMessage}
+use Rattle.grammar.specs.declared.Subset.the-variants.{None, F01}
+use Rattle.grammar.specs.Rules.{autack, subset, okHeader, okBody, whole, okMessage, refH, refT, linked, one, refsMessage, sizeAt, claimed, counted, countsMessage, scopeRight, scopesMessage}
 use Rattle.weaving.specs.Seals.{newHeader, newTrailer, grown, sealedMessage, refRight, filterRight, takesMore, isNew, maySeal}
 use Rattle.demands.specs.SealedListLaws.{front, same-swap, each-front, joined-front, every-front, distinct-front, away, aways, wider, longer, first-among}
 use Rattle.demands.specs.SealedNumberLaws.{ref-header, ref-trailer, grown-number, grown-0062}
@@ -154,4 +155,4 @@ module _ (r : List ℕ) (f : ℕ) (σ : Service) (t : List ℕ) (u : Leaf) (hs :
 
   -- 11
   pub scopes-sealed : holds (scopesMessage was) → holds (scopesMessage is)
-  scopes-sealed k = every-front (scopeRight (autack u)) (newHeader r f) hs (subst (λ (a : Bool). holds (scopeRight a (newHeader r f))) (sym (off (autack u) (q .other))) tt) k
+  scopes-sealed k = every-front (scopeRight (subset u)) (newHeader r f) hs (subst (λ (a : Bool). holds (scopeRight (cond a F01 None) (newHeader r f))) (sym (off (autack u) (q .other))) tt) k

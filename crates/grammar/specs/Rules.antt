@@ -12,6 +12,8 @@ use Rattle.syntax.specs.Opening.{isThere}
 use Rattle.syntax.specs.Tree.{Segment, printS}
 use Rattle.syntax.specs.declared.Syntax.{Syntax}
 use Rattle.syntax.specs.declared.Version.{Version}
+use Rattle.grammar.specs.declared.Subset.{Subset}
+use Rattle.grammar.specs.declared.Subset.the-variants.{None, F01}
 use Rattle.grammar.specs.Lists.{Snoc, nil, _▷_, each, joined, size, any, among, Rule, always, test, _and_, every, few, distinct}
 use Rattle.grammar.specs.Grams.{Grams, sameGrams, sum}
 use Rattle.grammar.specs.Segments.{Kind, Named, Reserved, Free, kindOf, asked, unb0020, unh0062, unh0065, unt0074, unt0062, unz0036, unz0020, ush0534, ush0541, ust0534, ust0588, usy0534}
@@ -32,6 +34,17 @@ inside y x = every (insideS y) (shown x)
 -- "A message of type AUTACK": 0065 has exactly that content
 abbrev pub autack : Leaf → Bool
 autack h = same (unh0065 h) (octets "AUTACK")
+
+-- the subset of AUTACK that a message of this type is written by; None: it is no AUTACK
+abbrev pub subsetOf : List ℕ → Subset
+subsetOf t = cond (same t (octets "AUTACK")) F01 None
+
+abbrev pub subset : Leaf → Subset
+subset h = subsetOf (unh0065 h)
+
+abbrev pub isAutack : Subset → Bool
+isAutack None = false
+isAutack F01 = true
 
 -- "0 to 3 USA", "0 to 2 times (USC, ..)"
 abbrev pub okCertificate : Certificate → Rule
@@ -172,16 +185,16 @@ counts v (done u ms z) = every (countsMessage v) ms and test (eqb (unz0036 z) (s
 
 -- ---- 11: "0541 is 1 or 2; in AUTACK it is F01 and nothing else."
 
--- whether 0541 may be this, in an AUTACK or elsewhere
-abbrev pub scopeCode : Bool → List ℕ → Bool
-scopeCode true s = same s (octets "F01")
-scopeCode false s = same s (octets "1") || same s (octets "2")
+-- whether 0541 may be this, in a message of the subset
+abbrev pub scopeCode : Subset → List ℕ → Bool
+scopeCode None s = same s (octets "1") || same s (octets "2")
+scopeCode F01 s = same s (octets "F01")
 
-abbrev pub scopeRight : Bool → Header → Rule
+abbrev pub scopeRight : Subset → Header → Rule
 scopeRight a (header c us cs) = test (scopeCode a (ush0541 c))
 
 abbrev pub scopesOpen : Open → Rule
-scopesOpen (msg h hs b ts) = every (scopeRight (autack h)) hs
+scopesOpen (msg h hs b ts) = every (scopeRight (subset h)) hs
 
 abbrev pub scopesMessage : Message → Rule
 scopesMessage (message o t) = scopesOpen o

@@ -21,6 +21,8 @@ use Rattle.syntax.specs.declared.content.Number.{Number}
 use Rattle.syntax.specs.declared.content.Number.the-variants.{Is, Not}
 use Rattle.grammar.specs.Lists.{Snoc, _▷_, among}
 use Rattle.grammar.specs.TestLaws.{passes}
+use Rattle.grammar.specs.declared.Subset.{Subset}
+use Rattle.grammar.specs.declared.Subset.the-variants.{None, F01}
 use Rattle.grammar.specs.Rules.{claimed, scopeCode}
 use Rattle.grammar.specs.Segments.{Unt, Unz, Ust, Asked}
 use Rattle.grammar.specs.Elements.{Range, text, digits, closed, anyLength, row, inRange, formedAs, formedRow}
@@ -69,13 +71,13 @@ module _ (σ : Service) (s : List ℕ) (a : ℕ) {x : List ℕ} (e : x ≡ partO
   scope-text : (t : List ℕ) → same (content (σ .release) x) t ≡ same (textAt σ s a 3 0) t
   scope-text t = ap (λ (z : List ℕ). same (content (σ .release) z) t) e
 
-  module _ {autack : Bool} where
-    pub scope-autack : {r : Bool} → autack ≡ true → r ≡ same (content (σ .release) x) (octets "F01") → r ≡ scopeCode autack (textAt σ s a 3 0)
-    scope-autack t q = q ∙ scope-text (octets "F01") ∙ ap (λ (b : Bool). scopeCode b (textAt σ s a 3 0)) (sym t)
+  module _ {autack : Subset} where
+    pub scope-autack : {r : Bool} → autack ≡ F01 → r ≡ same (content (σ .release) x) (octets "F01") → r ≡ scopeCode autack (textAt σ s a 3 0)
+    scope-autack t q = q ∙ scope-text (octets "F01") ∙ ap (λ (b : Subset). scopeCode b (textAt σ s a 3 0)) (sym t)
 
-    module _ (t : autack ≡ false) {p : Bool} (q : p ≡ same (content (σ .release) x) (octets "1")) where
+    module _ (t : autack ≡ None) {p : Bool} (q : p ≡ same (content (σ .release) x) (octets "1")) where
       scope-is : (b : Bool) → p ≡ b → scopeCode autack (textAt σ s a 3 0) ≡ (b || same (textAt σ s a 3 0) (octets "2"))
-      scope-is b h = ap (λ (z : Bool). scopeCode z (textAt σ s a 3 0)) t ∙ ap (λ (z : Bool). z || same (textAt σ s a 3 0) (octets "2")) (sym (scope-text (octets "1")) ∙ sym q ∙ h)
+      scope-is b h = ap (λ (z : Subset). scopeCode z (textAt σ s a 3 0)) t ∙ ap (λ (z : Bool). z || same (textAt σ s a 3 0) (octets "2")) (sym (scope-text (octets "1")) ∙ sym q ∙ h)
 
       pub scope-one : p ≡ true → true ≡ scopeCode autack (textAt σ s a 3 0)
       scope-one h = sym (scope-is true h)

@@ -8,13 +8,14 @@ use Rattle.syntax.specs.Octets.{octets, same}
 use Rattle.syntax.specs.Content.{valueFrom, compared}
 use Rattle.syntax.specs.declared.Syntax.{Syntax}
 use Rattle.syntax.specs.declared.Version.{Version}
+use Rattle.grammar.specs.declared.Subset.{Subset}
 use Rattle.grammar.specs.Lists.{Snoc, nil, _▷_, each, size, any, among, test, check, every}
 use Rattle.grammar.specs.Grams.{Grams, noGrams, sameGrams, sum}
 use Rattle.grammar.specs.Segments.{Asked, unb0020, unh0062, ust0534, ust0588}
 use Rattle.grammar.specs.Interchange.{Leaf, certificate, Header, header, Trailer, trailer, Link, link, Body, plain, ack, Open, msg, Reading, start, idle, busy, done, showHeader, showTrailer, showOpen}
 use Rattle.grammar.specs.Loads.{loads, controls, loadIn, controlIn, loadRight}
 use Rattle.grammar.specs.Elements.{formed}
-use Rattle.grammar.specs.Rules.{autack, refH, refT, refM, sizeAt, claimed, counted, scopeCode}
+use Rattle.grammar.specs.Rules.{isAutack, subset, subsetOf, refH, refT, refM, sizeAt, claimed, counted, scopeCode}
 use Rattle.grammar.specs.Verdict.{Test, tested, Answer, read, refused}
 use Rattle.elements.specs.Kinds.{kindOf}
 use Rattle.elements.specs.declared.Kind.{Kind}
@@ -90,7 +91,7 @@ sizeH h = size (showHeader h)
 
 abbrev pub keptOf : Open → Kept
 keptOf (msg h hs b ts) =
-    record { group = groupOf (msg h hs b ts); autack = autack h; segments = size (showOpen (msg h hs b ts)); headers = size (each refH hs); sums = sumsOf b; pair = pairOf hs ts }
+    record { group = groupOf (msg h hs b ts); autack = subset h; segments = size (showOpen (msg h hs b ts)); headers = size (each refH hs); sums = sumsOf b; pair = pairOf hs ts }
 
 abbrev pub flagsOf : Snoc (List ℕ) → Snoc (List ℕ) → Snoc Bool
 flagsOf names refs = each (among names) refs
@@ -191,20 +192,20 @@ usyMay (InTrailer r) = false
 abbrev pub mayCome : Kind → Kept → Bool
 mayCome Unb m = false
 mayCome Unh m = false
-mayCome Unt m = closes (m .autack) (m .group)
+mayCome Unt m = closes (isAutack (m .autack)) (m .group)
 mayCome Unz m = false
 mayCome Ush m = atHeads (m .group) && ltb (m .headers) 9
 mayCome Usa m = usaMay (m .group)
 mayCome Usc m = uscMay (m .group)
 mayCome Usr m = usrMay (m .group)
-mayCome Ust m = closes (m .autack) (m .group)
-mayCome Usb m = atHeads (m .group) && (m .autack && ltb 0 (m .headers))
+mayCome Ust m = closes (isAutack (m .autack)) (m .group)
+mayCome Usb m = atHeads (m .group) && (isAutack (m .autack) && ltb 0 (m .headers))
 mayCome Usx m = usxMay (m .group)
 mayCome Usy m = usyMay (m .group)
 mayCome Reserved m = false
-mayCome Qty m = atItems (m .group) && not (m .autack)
-mayCome Cnt m = atItems (m .group) && not (m .autack)
-mayCome Other m = atItems (m .group) && not (m .autack)
+mayCome Qty m = atItems (m .group) && not (isAutack (m .autack))
+mayCome Cnt m = atItems (m .group) && not (isAutack (m .autack))
+mayCome Other m = atItems (m .group) && not (isAutack (m .autack))
 
 -- ---- by the kinds that matter
 
@@ -466,7 +467,7 @@ busyNext Other u rs S a = busyS u rs (itemNext S (S .m .sums))
 -- a message begun by its UNH
 abbrev pub opened : Asked → Summary
 opened a = record {
-  m = record { group = Opened; autack = same (a .text 2 0) (octets "AUTACK"); segments = 1; headers = 0; sums = noSums; pair = noPair };
+  m = record { group = Opened; autack = subsetOf (a .text 2 0); segments = 1; headers = 0; sums = noSums; pair = noPair };
   ref = refIn a 1;
   refs = nil;
   sizes = nil;
@@ -524,5 +525,5 @@ told (read x) = readS (stateOf x)
 told (refused n p) = refusedS n p
 
 -- the state of a message just begun
-abbrev pub fresh : Bool → Kept
+abbrev pub fresh : Subset → Kept
 fresh a = record { group = Opened; autack = a; segments = 1; headers = 0; sums = noSums; pair = noPair }

@@ -34,10 +34,11 @@ fn with_sums(m: Message, g: Group, u: Sums) -> Moved
     requires { ⌜ m .segments < 65535 ⌝ }
     ensures { λ r. ⌜ r ≡ To (grownWith m g u) ⌝ }
 {
+    let autack = m.autack;
     let p = m.pair;
     Moved::To(Message {
         group: g,
-        autack: m.autack,
+        autack: autack,
         segments: m.segments + 1,
         headers: m.headers,
         sums: u,

@@ -8,6 +8,7 @@ use crate::Group;
 use crate::Message;
 use crate::Pair;
 use crate::Sums;
+use grammar::Subset;
 
 pub fn no_sums() -> Sums
     ensures { λ r. ⌜ r ≡ noSums ⌝ }
@@ -33,7 +34,7 @@ pub fn no_pair() -> Pair
 }
 
 // A message begun by its UNH.
-pub fn fresh_message(autack: bool) -> Message
+pub fn fresh_message(autack: Subset) -> Message
     ensures { λ r. ⌜ r ≡ fresh autack ⌝ }
 {
     let u = no_sums();
@@ -83,11 +84,12 @@ pub fn grown_to(m: Message, g: Group) -> Message
     requires { ⌜ m .segments < 65535 ⌝ }
     ensures { λ r. ⌜ r ≡ grown m g ⌝ }
 {
+    let autack = m.autack;
     let u = m.sums;
     let p = m.pair;
     Message {
         group: g,
-        autack: m.autack,
+        autack: autack,
         segments: m.segments + 1,
         headers: m.headers,
         sums: u,

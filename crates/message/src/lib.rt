@@ -5,6 +5,8 @@ pub mod kept;
 pub mod order;
 pub mod steps;
 
+use grammar::Subset;
+
 // The group of a message that is now open.
 pub enum Group {
     // UNH, nothing behind it
@@ -44,5 +46,5 @@ pub struct Message {
     pub segments: u32,
     pub group: Group,
     pub headers: u16,
-    pub autack: bool,
+    pub autack: Subset,
 }

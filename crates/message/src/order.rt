@@ -2,10 +2,13 @@
 ghost use mathlib.Core.Path.{_≡_};
 ghost use mathlib.Core.Bool.{_&&_, not};
 ghost use lib.Dec.{ltb};
+ghost use Rattle.grammar.specs.Rules.{isAutack};
 ghost use Rattle.message.specs.Summary.{atHeads, atItems, closes, usaMay, uscMay, usrMay, usxMay, usyMay, mayCome};
 use crate::Group;
 use crate::Message;
 use elements::Kind;
+use grammar::Subset;
+use grammar::is_autack;
 
 fn at_heads(g: Group) -> bool
     ensures { λ r. ⌜ r ≡ atHeads g ⌝ }
@@ -34,9 +37,10 @@ fn at_items(g: Group) -> bool
 }
 
 // Whether a trailer or UNT may come.
-fn may_close(autack: bool, g: Group) -> bool
-    ensures { λ r. ⌜ r ≡ closes autack g ⌝ }
+fn may_close(x: Subset, g: Group) -> bool
+    ensures { λ r. ⌜ r ≡ closes (isAutack x) g ⌝ }
 {
+    let autack = is_autack(x);
     match g {
         Group::Opened => !autack,
         Group::Header(_) => !autack,
@@ -131,22 +135,22 @@ fn ush_may(g: Group, headers: u16) -> bool
     false
 }
 
-fn usb_may(g: Group, autack: bool, headers: u16) -> bool
-    ensures { λ r. ⌜ r ≡ (atHeads g && (autack && ltb 0 headers)) ⌝ }
+fn usb_may(g: Group, x: Subset, headers: u16) -> bool
+    ensures { λ r. ⌜ r ≡ (atHeads g && (isAutack x && ltb 0 headers)) ⌝ }
 {
     if at_heads(g) {
-        if autack {
+        if is_autack(x) {
             return 0 < headers;
         }
     }
     false
 }
 
-fn item_may(g: Group, autack: bool) -> bool
-    ensures { λ r. ⌜ r ≡ (atItems g && not autack) ⌝ }
+fn item_may(g: Group, x: Subset) -> bool
+    ensures { λ r. ⌜ r ≡ (atItems g && not (isAutack x)) ⌝ }
 {
     if at_items(g) {
-        return !autack;
+        return !is_autack(x);
     }
     false
 }
@@ -156,24 +160,24 @@ pub fn may_come(k: Kind, m: Message) -> bool
     ensures { λ r. ⌜ r ≡ mayCome k m ⌝ }
 {
     let g = m.group;
-    let autack = m.autack;
+    let x = m.autack;
     let headers = m.headers;
     match k {
         Kind::Unb => false,
         Kind::Unh => false,
-        Kind::Unt => may_close(autack, g),
+        Kind::Unt => may_close(x, g),
         Kind::Unz => false,
         Kind::Ush => ush_may(g, headers),
         Kind::Usa => usa_may(g),
         Kind::Usc => usc_may(g),
         Kind::Usr => usr_may(g),
-        Kind::Ust => may_close(autack, g),
-        Kind::Usb => usb_may(g, autack, headers),
+        Kind::Ust => may_close(x, g),
+        Kind::Usb => usb_may(g, x, headers),
         Kind::Usx => usx_may(g),
         Kind::Usy => usy_may(g),
         Kind::Reserved => false,
-        Kind::Qty => item_may(g, autack),
-        Kind::Cnt => item_may(g, autack),
-        Kind::Other => item_may(g, autack),
+        Kind::Qty => item_may(g, x),
+        Kind::Cnt => item_may(g, x),
+        Kind::Other => item_may(g, x),
     }
 }

@@ -25,6 +25,7 @@ use elements::fields::field;
 use elements::fields::field_end;
 use elements::fields::field_start;
 use elements::formed::digits;
+use grammar::Subset;
 use syntax::Syntax;
 use syntax::content::Number;
 use syntax::content::content_is;
@@ -37,19 +38,21 @@ pub enum Moved {
 }
 
 // 0541 is 1 or 2; in AUTACK it is F01.
-fn scope_right(s: &[u8], at: usize, y: Syntax, marks: &[usize], autack: bool) -> bool
+fn scope_right(s: &[u8], at: usize, y: Syntax, marks: &[usize], autack: Subset) -> bool
     requires { ⌜ Marked (y .service) (now s) at (now marks) ⌝ }
     ensures { λ r. ⌜ r ≡ scopeCode autack (textAt (y .service) (now (s .entry)) at 3 0) ⌝ }
 {
     let v = y.service;
     let x = field(s, at, y, marks, 3, 0);
-    if autack {
-        return content_is(x, v.release, b"F01");
+    match autack {
+        Subset::F01 => content_is(x, v.release, b"F01"),
+        Subset::None => {
+            if content_is(x, v.release, b"1") {
+                return true;
+            }
+            content_is(x, v.release, b"2")
+        }
     }
-    if content_is(x, v.release, b"1") {
-        return true;
-    }
-    content_is(x, v.release, b"2")
 }
 
 // The message with a header more.
@@ -57,11 +60,12 @@ fn with_header(m: Message) -> Message
     requires { ⌜ (m .headers < 9) × (m .segments < 65535) ⌝ }
     ensures { λ r. ⌜ r ≡ headed m ⌝ }
 {
+    let autack = m.autack;
     let u = m.sums;
     let p = m.pair;
     Message {
         group: Group::Header(0),
-        autack: m.autack,
+        autack: autack,
         segments: m.segments + 1,
         headers: m.headers + 1,
         sums: u,
@@ -90,7 +94,8 @@ pub fn on_ush(
     if header_named(s, v.release, heads, n, x) {
         return Moved::Bad(9);
     }
-    if !scope_right(s, at, y, marks, m.autack) {
+    let autack = m.autack;
+    if !scope_right(s, at, y, marks, autack) {
         return Moved::Bad(11);
     }
     let b = field_start(marks, 2, 0);
@@ -116,11 +121,12 @@ fn in_trailer(m: Message) -> Message
     requires { ⌜ (m .segments < 65535) × (m .pair .own < 65535) ⌝ }
     ensures { λ r. ⌜ r ≡ ownGrown m ⌝ }
 {
+    let autack = m.autack;
     let u = m.sums;
     let p = m.pair;
     Message {
         group: Group::Trailer(true),
-        autack: m.autack,
+        autack: autack,
         segments: m.segments + 1,
         headers: m.headers,
         sums: u,
@@ -180,12 +186,13 @@ fn with_trailer(m: Message, claim: u32, base: u32) -> Message
     requires { ⌜ (m .segments < 65535) × (m .pair .base < 65536) × (m .pair .own < 65536) ⌝ }
     ensures { λ r. ⌜ r ≡ trailed m claim base ⌝ }
 {
+    let autack = m.autack;
     let u = m.sums;
     let p = m.pair;
     let right = pairs_right(p);
     Message {
         group: Group::Trailer(false),
-        autack: m.autack,
+        autack: autack,
         segments: m.segments + 1,
         headers: m.headers,
         sums: u,

@@ -16,8 +16,8 @@ use Rattle.grammar.specs.Segments as segments
 use Rattle.grammar.specs.Segments.{Name, Named, Free, Asked, asked, elementsOf, tagText, unb0020, unh0062, unt0062, unz0020, ush0534, ust0534, usy0534, unt0074, unz0036}
 use Rattle.grammar.specs.Interchange.{Leaf, certificate, Header, header, Trailer, trailer, link, Body, plain, ack, Open, msg, Message, message, Reading, start, idle, busy, done, showOpen}
 use Rattle.grammar.specs.Loads.{loads, controls, loadIn, controlIn}
-use Rattle.grammar.specs.Rules.{insideS, order, formedS, refs, counts, scopes, amountS, autack, refH, refT, refM, isFree, okItem, whole, filled, one, counted, total, scopeRight}
-use Rattle.grammar.specs.RuleLaws.{check-holds, holds-check}
+use Rattle.grammar.specs.Rules.{insideS, order, formedS, refs, counts, scopes, amountS, autack, isAutack, subset, refH, refT, refM, isFree, okItem, whole, filled, one, counted, total, scopeRight}
+use Rattle.grammar.specs.RuleLaws.{check-holds, holds-check, is-autack}
 use Rattle.grammar.specs.Placing.{growNamed, grow, place, inOpen, inBody, itemB}
 use Rattle.grammar.specs.PlacingLaws.{same-eq}
 use Rattle.grammar.specs.Verdict.{tested, on, foundAt, tests, refused, decided}
@@ -61,7 +61,7 @@ module _ (y : Syntax) (u : Leaf) (ms : Snoc Message) (g : Segment) where
       (λ i. alike (refs z) (test (not (among (each refH hs) (ush0534 (elementsOf g)))))
       (λ p. p .1 .1 .0 .1) (λ p. (q .nine .0, (q .nine .1 .0, ((q .nine .1 .1 .0, p), q .nine .1 .1 .1)))))
       (λ i j. holds-check (counts (y .version) z) (q .ten))
-      (λ i. alike (scopes z) (scopeRight (autack h) (header (elementsOf g) nil nil)) (λ p. p .1 .1) (λ p. (q .eleven .0, (q .eleven .1, p))))
+      (λ i. alike (scopes z) (scopeRight (subset h) (header (elementsOf g) nil nil)) (λ p. p .1 .1) (λ p. (q .eleven .0, (q .eleven .1, p))))
       (λ i j. refl)
   ush (msg h hs (plain (b ▷ i)) nil) q = nowhere refl
   ush (msg h hs (ack d ls) nil) q = nowhere refl
@@ -140,15 +140,19 @@ module _ (y : Syntax) (u : Leaf) (ms : Snoc Message) (g : Segment) where
   usr (msg h hs b (ts ▷ trailer t (some r))) q = nowhere refl
 
   -- what a trailer or UNT asks of the body: nothing after a trailer
-  ends : (h : Leaf) (hs : Snoc Header) (b : Body) (ts : Snoc Trailer) → Good y (busy u ms (msg h hs b ts))
+  as-autack : (h : Leaf) (hs : Snoc Header) (b : Body) (ts : Snoc Trailer) → Good y (busy u ms (msg h hs b ts))
       → check (whole (autack h) b) ≡ closes (autack h) (groupOf (msg h hs b ts))
-  ends h nil (plain nil) nil q = refl
-  ends h (hs ▷ header d us nil) (plain nil) nil q = refl
-  ends h (hs ▷ header d us (cs ▷ certificate e vs r)) (plain nil) nil q = refl
-  ends h hs (plain (b ▷ i)) nil q = holds-check (test (not (autack h))) (q .seven .1 .1 .1 .0 .0)
-  ends h hs (ack d nil) nil q = refl
-  ends h hs (ack d (ls ▷ link e ys)) nil q = alike (every filled (ls ▷ link e ys)) (test (any ys)) (λ p. p .1) (λ p. (q .seven .1 .1 .1 .0 .1 .1, p))
-  ends h hs b (ts ▷ trailer t r) q = holds-check (whole (autack h) b) (q .seven .1 .1 .1 .1)
+  as-autack h nil (plain nil) nil q = refl
+  as-autack h (hs ▷ header d us nil) (plain nil) nil q = refl
+  as-autack h (hs ▷ header d us (cs ▷ certificate e vs r)) (plain nil) nil q = refl
+  as-autack h hs (plain (b ▷ i)) nil q = holds-check (test (not (autack h))) (q .seven .1 .1 .1 .0 .0)
+  as-autack h hs (ack d nil) nil q = refl
+  as-autack h hs (ack d (ls ▷ link e ys)) nil q = alike (every filled (ls ▷ link e ys)) (test (any ys)) (λ p. p .1) (λ p. (q .seven .1 .1 .1 .0 .1 .1, p))
+  as-autack h hs b (ts ▷ trailer t r) q = holds-check (whole (autack h) b) (q .seven .1 .1 .1 .1)
+
+  ends : (h : Leaf) (hs : Snoc Header) (b : Body) (ts : Snoc Trailer) → Good y (busy u ms (msg h hs b ts))
+      → check (whole (autack h) b) ≡ closes (isAutack (subset h)) (groupOf (msg h hs b ts))
+  ends h hs b ts q = as-autack h hs b ts q ∙ ap (λ (a : Bool). closes a (groupOf (msg h hs b ts))) (sym (is-autack h))
 
   -- what the search for the header that a UST names finds
   ust-found : (hs : Snoc Header) (names : Snoc (List ℕ)) (o : Option ℕ) → Spot (ust0534 (elementsOf g)) hs names o
@@ -186,7 +190,7 @@ module _ (y : Syntax) (u : Leaf) (ms : Snoc Message) (g : Segment) where
   usb (msg h hs (plain nil) nil) q =
       let z : Reading = busy u ms (msg h hs (ack (elementsOf g) nil) nil) in
       here z
-      (rw (heads h hs)
+      (rw (heads h hs, is-autack h)
       (alike (order z) (test (autack h) and test (any hs))
       (λ p. (p .1 .1 .1 .0 .0, p .1 .1 .1 .0 .1 .0)) (λ p. (q .seven .0, (q .seven .1 .0, (q .seven .1 .1 .0, ((p .0, (p .1, tt)), tt)))))
       ∙ ap (λ (b : Bool). autack h && b) (any-size refH hs)))
@@ -280,10 +284,11 @@ module _ (y : Syntax) (u : Leaf) (ms : Snoc Message) (g : Segment) where
 
   -- 7 asks only that the message is no AUTACK; and what is kept then, given its sums
   item-placed : (h : Leaf) (hs : Snoc Header) (b : Snoc Segment) → Good y (busy u ms (msg h hs (plain b) nil)) → holds (every okItem b) → T (isFree (segments.kindOf g))
-      → check (order (busy u ms (msg h hs (plain (b ▷ g)) nil))) ≡ not (autack h)
+      → check (order (busy u ms (msg h hs (plain (b ▷ g)) nil))) ≡ not (isAutack (subset h))
   item-placed h hs b q e f =
       alike (order (busy u ms (msg h hs (plain (b ▷ g)) nil))) (test (not (autack h)))
       (λ p. p .1 .1 .1 .0 .0) (λ p. (q .seven .0, (q .seven .1 .0, (q .seven .1 .1 .0, ((p, (e, f)), tt)))))
+      ∙ ap not (sym (is-autack h))
 
   item-next : (h : Leaf) (hs : Snoc Header) (b : Snoc Segment) (s : Sums) → sumsOf (plain (b ▷ g)) ≡ s
       → stateOf (busy u ms (msg h hs (plain (b ▷ g)) nil)) ≡ busyS (unb0020 u) (each refM ms) (itemNext (summaryOf (msg h hs (plain b) nil)) s)

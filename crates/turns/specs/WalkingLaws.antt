@@ -3,7 +3,7 @@ use Prim.Native.Nat.{ℕ, zero, suc, _+_, _*_, _≤_, _<_}
 use native.Mathlib.Numerals.{add-one}
 use native.Mathlib.Omega.{arith}
 use mathlib.Core.Path.{_≡_, refl, ap, sym, _∙_, subst}
-use mathlib.Core.Bool.{Bool, true, false, not, _&&_, false≢true}
+use mathlib.Core.Bool.{Bool, true, false, cond, not, _&&_, false≢true}
 use mathlib.Core.List.{List, [], _∷_}
 use borrow.Author.Tests.{eq-eqb, ne-eqb, leb-true}
 use lib.Dec.{T, eqb, leb}
@@ -15,9 +15,13 @@ use Rattle.syntax.specs.RepertoireLaws.{and-l, and-r}
 use Rattle.syntax.specs.Segment.{componentAt, partOf}
 use Rattle.syntax.specs.declared.Found.{Found}
 use Rattle.syntax.specs.declared.Found.the-variants.{At, Nothing}
+use Rattle.syntax.specs.declared.Service.{Service}
 use Rattle.syntax.specs.declared.Syntax.{Syntax}
 use Rattle.syntax.specs.declared.Version.{Version}
+use Rattle.grammar.specs.declared.Subset.{Subset}
+use Rattle.grammar.specs.declared.Subset.the-variants.{None, F01}
 use Rattle.grammar.specs.Lists.{Snoc, nil, _▷_, size, any, among}
+use Rattle.grammar.specs.Rules.{subsetOf}
 use Rattle.grammar.specs.Segments.{Asked}
 use Rattle.grammar.specs.Segments as named
 use Rattle.grammar.specs.Elements.{text, digits, closed, composite, row, inRange, formedAs, formedRow, formed}
@@ -72,6 +76,11 @@ module _ (a : Asked) where
 
   unt-load : Unt ≡ kindOf (a .tag) → loadRight a ≡ true
   unt-load e = free-load a (λ q. false≢true (sym (ap (λ (k : Kind). atBusy false false false true false k) (e ∙ q))))
+
+-- the subset, as its type is compared
+module _ (σ : Service) (s : List ℕ) (a : ℕ) {x : List ℕ} (e : x ≡ partOf s (componentAt σ s a 2 0)) {b : Bool} (d : b ≡ same (content (σ .release) x) (octets "AUTACK")) where
+  pub subset-by : (c : Bool) → b ≡ c → cond c F01 None ≡ subsetOf (textAt σ s a 2 0)
+  subset-by c h = ap (λ (z : Bool). cond z F01 None) (sym h ∙ d ∙ ap (λ (z : List ℕ). same (content (σ .release) z) (octets "AUTACK")) e)
 
 -- ---- the first test that fails tells the number
 
@@ -159,7 +168,7 @@ done-shut e = absurd (false≢true (ap isOpen e))
 least : (n : ℕ) → 0 ≤ n
 least n = omega arith
 
-roomy-fresh : (b : Bool) (h : List ℕ) → Roomy (fresh b) h
+roomy-fresh : (b : Subset) (h : List ℕ) → Roomy (fresh b) h
 roomy-fresh b h = record {
   headers = least 9;
   loads = least 1;
@@ -170,13 +179,13 @@ roomy-fresh b h = record {
 }
 
 module _ (ρ : ℕ) (s h : List ℕ) where
-  fresh-summary : {m : Message} {b : Bool} (i j : ℕ) (a : Asked) → m ≡ fresh b → b ≡ same (a .text 2 0) (octets "AUTACK") → content ρ (slice i j s) ≡ a .text 1 0 →
+  fresh-summary : {m : Message} {b : Subset} (i j : ℕ) (a : Asked) → m ≡ fresh b → b ≡ subsetOf (a .text 2 0) → content ρ (slice i j s) ≡ a .text 1 0 →
       summaryIn ρ s m i j h ≡ opened a
   fresh-summary {m} {b} i j a e d q =
       ap (λ (x : Message). summaryIn ρ s x i j h) (e ∙ ap fresh d) ∙ named-by q
     where
       named-by : {t : List ℕ} → t ≡ a .text 1 0 →
-          _≡_ {A = Summary} (record { m = fresh (same (a .text 2 0) (octets "AUTACK")); ref = t; refs = nil; sizes = nil; flags = nil }) (opened a)
+          _≡_ {A = Summary} (record { m = fresh (subsetOf (a .text 2 0)); ref = t; refs = nil; sizes = nil; flags = nil }) (opened a)
       named-by q = rw q
 
 -- ---- the steps
@@ -275,8 +284,7 @@ module _ (y : Syntax) (s : List ℕ) (st : State) (h l b : List ℕ) (at next : 
           let used = subst (λ (w : Found). OfferIs l b (st .count) (content (y .service .release) x) w l′) v o .0 in
           stop (y .service .release) s h l′ b next (at-9 (y .version) here ask at unh-order (sym e ∙ not-false q n) (unh-refs used)) d
 
-      module _ {l′ : List ℕ} {k : ℕ} (o : Fitting l b (st .count) (content (y .service .release) x) k l′) {z : List ℕ} (name : z ≡ partOf s (componentAt (y .service) s at 2 0))
-          {c : Bool} (autack : c ≡ same (content (y .service .release) z) (octets "AUTACK")) {m : Message} (new : m ≡ fresh c)
+      module _ {l′ : List ℕ} {k : ℕ} (o : Fitting l b (st .count) (content (y .service .release) x) k l′) {c : Subset} (autack : c ≡ subsetOf (textAt (y .service) s at 2 0)) {m : Message} (new : m ≡ fresh c)
           {w : Stretch} (u : w ≡ stretchIn marks 1) where
         unh-part : slice (w .start) (w .end) s ≡ x
         unh-part = between (g .noted refl .marks) 1 (omega arith) (omega arith) u ∙ sym field
@@ -299,7 +307,7 @@ module _ (y : Syntax) (s : List ℕ) (st : State) (h l b : List ℕ) (at next : 
         unh-is : stateIn (y .service .release) s (afterUnh st k w m) h l′ ≡ nextS here ask
         unh-is =
             ap (λ (x : Summary). busyS unbs (refsIn l′ (st .count)) x)
-            (fresh-summary (y .service .release) s h (w .start) (w .end) ask new (autack ∙ ap (λ (t : List ℕ). same (content (y .service .release) t) (octets "AUTACK")) name)
+            (fresh-summary (y .service .release) s h (w .start) (w .end) ask new autack
             (ap (content (y .service .release)) (between (g .noted refl .marks) 1 (omega arith) (omega arith) u)))
             ∙ ap (λ (rs : Snoc (List ℕ)). busyS unbs rs (opened ask)) (o .same)
             ∙ sym (by (λ (x : StateS) (k : Kind). nextK x k ask) (idle-here ph) (g .kind))

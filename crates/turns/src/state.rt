@@ -9,6 +9,7 @@ ghost use lib.Seq.{slice};
 ghost use Rattle.syntax.specs.Service.{fit};
 ghost use Rattle.syntax.specs.Classes.{Table};
 ghost use Rattle.grammar.specs.Elements.{inRange, digits, formed};
+ghost use Rattle.grammar.specs.Rules.{subsetOf};
 ghost use Rattle.elements.specs.Kinds.{kindOf};
 ghost use Rattle.elements.specs.Octets.{textAt, askedAt};
 ghost use Rattle.elements.specs.Fields.{Marked, Fields, FieldsAs};
@@ -31,6 +32,7 @@ use elements::formed::is_formed;
 use elements::formed::unb_formed;
 use elements::formed::unh_formed;
 use elements::kind_of;
+use grammar::Subset;
 use message::Group;
 use message::Message;
 use message::heads::all_named;
@@ -306,6 +308,18 @@ fn on_unb(
     Step::On(after_unb(st, stretch_in(marks, 5)))
 }
 
+// The subset of AUTACK that the message is written by, whose UNH stands at `at`.
+fn subset_in(s: &[u8], at: usize, y: Syntax, marks: &[usize]) -> Subset
+    requires { ⌜ Marked (y .service) (now s) at (now marks) ⌝ }
+    ensures { λ r. ⌜ r ≡ subsetOf (textAt (y .service) (now (s .entry)) at 2 0) ⌝ }
+{
+    let v = y.service;
+    if content_is(field(s, at, y, marks, 2, 0), v.release, b"AUTACK") {
+        return Subset::F01;
+    }
+    Subset::None
+}
+
 // UNH between messages: 8, then 0062 once in an interchange.
 fn on_unh(
     s: &[u8],
@@ -338,8 +352,7 @@ fn on_unh(
     ) {
         Found::Nothing => stopped(9, at),
         Found::At(i) => {
-            let autack = content_is(field(s, at, y, marks, 2, 0), v.release, b"AUTACK");
-            let m = fresh_message(autack);
+            let m = fresh_message(subset_in(s, at, y, marks));
             Step::On(after_unh(st, i, stretch_in(marks, 1), m))
         }
     }

@@ -27,6 +27,7 @@ use Rattle.syntax.specs.declared.cutting.Tag.the-variants.{Is, Bad as NoTag}
 use Rattle.syntax.specs.declared.opening.Start.{Start as Opening}
 use Rattle.syntax.specs.declared.opening.Begun.{Begun}
 use Rattle.syntax.specs.declared.opening.Begun.the-variants.{Ready as Begins}
+use Rattle.grammar.specs.declared.Subset.the-variants.{None}
 use Rattle.grammar.specs.Lists.{Snoc}
 use Rattle.grammar.specs.Segments.{Asked, asked}
 use Rattle.grammar.specs.Interchange.{Leaf, Message, Reading, start, idle, busy, done, shown}

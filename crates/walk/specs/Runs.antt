@@ -8,6 +8,7 @@ use lib.ListN.{length, drop}
 use Rattle.syntax.specs.Service.{fit}
 use Rattle.syntax.specs.Reader.{chain}
 use Rattle.syntax.specs.declared.Syntax.{Syntax}
+use Rattle.grammar.specs.declared.Subset.the-variants.{None}
 use Rattle.grammar.specs.Interchange.{Reading, start, shown}
 use Rattle.grammar.specs.Placing.{place}
 use Rattle.grammar.specs.Places.{wide}
@@ -29,7 +30,7 @@ use Rattle.elements.specs.Octets.{askedAt}
 use Rattle.turns.specs.declared.state.Ahead.{Ahead}
 
 abbrev pub unreadAs : State
-unreadAs = record { phase = Start; count = 0; slot = 0; unb = record { start = 0; end = 0 }; unh = record { start = 0; end = 0 }; message = fresh false }
+unreadAs = record { phase = Start; count = 0; slot = 0; unb = record { start = 0; end = 0 }; unh = record { start = 0; end = 0 }; message = fresh None }
 
 abbrev pub isDone : Phase → Bool
 isDone Start = false

@@ -23,7 +23,8 @@ use Rattle.grammar.specs.ListsLaws.{each-size}
 use Rattle.grammar.specs.Segments as segments
 use Rattle.grammar.specs.Segments.{Named, Free, kindIn, tags, seg, elementsOf}
 use Rattle.grammar.specs.Interchange.{Leaf, Body, plain, ack, Open, msg, Message, message, Reading, start, idle, busy, done, showHeader, showBody, showTrailer, showOpen, showMessage, shown}
-use Rattle.grammar.specs.Rules.{refH, refO}
+use Rattle.grammar.specs.Rules.{isAutack, refH, refO}
+use Rattle.grammar.specs.RuleLaws.{is-autack}
 use Rattle.grammar.specs.Placing.{place}
 use Rattle.grammar.specs.PlacingLaws.{tag-named}
 use Rattle.grammar.specs.Places.{wide, headersIn, trailersIn}
@@ -159,8 +160,8 @@ kept-group (msg h hs b ts) = refl
 kept-headers : (o : Open) → keptOf o .headers ≡ size (headersIn o)
 kept-headers (msg h hs b ts) = each-size refH hs
 
-kept-autack : (o : Open) → keptOf o .autack ≡ autackO o
-kept-autack (msg h hs b ts) = refl
+kept-autack : (o : Open) → isAutack (keptOf o .autack) ≡ autackO o
+kept-autack (msg h hs b ts) = is-autack h
 
 sums-loads : (b : Body) → sumsOf b .loads ≡ size (loadsB b)
 sums-loads (plain b) = refl
@@ -309,7 +310,7 @@ module _ {y : Syntax} {s : List ℕ} {from p : ℕ} {u : Leaf} {ms : Snoc Messag
                   headers = rw k (sym (ap (λ (m : Kept). m .headers) n) ∙ kept-headers (w .o));
                   trailers = rw (k, w .spots);
                   starts = w .starts;
-                  autack = rw k (sym (ap (λ (m : Kept). m .autack) n) ∙ kept-autack (w .o));
+                  autack = rw k (sym (ap (λ (m : Kept). isAutack (m .autack)) n) ∙ kept-autack (w .o));
                   loads = rw k (sym (ap (λ (m : Kept). m .sums .loads) n) ∙ kept-loads (w .o) (elementsOf (f .g)));
                   grams = rw k (sym (ap (λ (m : Kept). m .sums .grams) n) ∙ kept-grams (w .o) (elementsOf (f .g)));
                   reference = rw k (now-open .ref);

@@ -16,7 +16,7 @@ use Rattle.grammar.specs.Lists.{Snoc, nil, _▷_, size}
 use Rattle.grammar.specs.Grams.{sum}
 use Rattle.grammar.specs.Segments.{Unt, seg}
 use Rattle.grammar.specs.Interchange.{Leaf, Open, msg, Message, message, Reading, start, idle, busy, done, showOpen}
-use Rattle.grammar.specs.Rules.{autack, refO}
+use Rattle.grammar.specs.Rules.{autack, isAutack, refO}
 use Rattle.grammar.specs.Verdict.{loadsM, refused}
 use Rattle.grammar.specs.Places.{wide, headersIn, trailersIn}
 use Rattle.walk.specs.Layout.{headsAt, bodyAt, tailAt, spotsOf, Rows}
@@ -44,7 +44,7 @@ laidOut x q at next = record {
   end = next;
   headers = x .message .headers;
   trailers = q .trailers;
-  autack = x .message .autack;
+  autack = isAutack (x .message .autack);
   loads = x .message .sums .loads;
   grams = x .message .sums .grams;
   reference = x .unh;

@@ -14,6 +14,8 @@ use crate::advance::advance;
 use crate::layout::Spots;
 use crate::layout::opened;
 use crate::layout::spotted;
+use grammar::Subset;
+use grammar::is_autack;
 use message::heads::is_free;
 use message::kept::fresh_message;
 use syntax::Breach;
@@ -63,7 +65,7 @@ pub enum Reached {
 pub fn unread() -> State
     ensures { λ r. ⌜ r ≡ unreadAs ⌝ }
 {
-    let m = fresh_message(false);
+    let m = fresh_message(Subset::None);
     State {
         phase: Phase::Start,
         count: 0,
@@ -137,6 +139,7 @@ fn laid_out(st: State, x: Spots, at: usize, next: usize) -> Layout
     ensures { λ r. ⌜ r ≡ laidOut st x at next ⌝ }
 {
     let m = st.message;
+    let a = m.autack;
     let u = m.sums;
     let w = st.unh;
     Layout {
@@ -148,7 +151,7 @@ fn laid_out(st: State, x: Spots, at: usize, next: usize) -> Layout
         end: next,
         headers: m.headers as usize,
         trailers: x.trailers,
-        autack: m.autack,
+        autack: is_autack(a),
         loads: u.loads as usize,
         grams: u.grams,
         reference: w,

@@ -9,12 +9,12 @@ use Rattle.message.proofs.kept.grown_to.Reads as reads
 use Rattle.message.proofs.kept.grown_to.Lts as lts
 
 -- src/kept.rt:88:19
-add-t5 : tie.Need-add-t5
-add-t5 c = search needs
+add-t6 : tie.Need-add-t6
+add-t6 c = search needs
 
 -- src/kept.rt:79:1
 returns : tie.Need-returns
 returns c = rw add-one
 
 pub grown-to-spec : {M : Type 1} → statement M
-grown-to-spec = tie.close (tie.spec add-t5 returns)
+grown-to-spec = tie.close (tie.spec add-t6 returns)

@@ -11,12 +11,12 @@ pairs-right-requires : tie.Need-pairs-right-requires
 pairs-right-requires c κs = search needs
 
 -- src/steps.rt:157:19
-add-t8 : tie.Need-add-t8
-add-t8 c = search needs
+add-t9 : tie.Need-add-t9
+add-t9 c = search needs
 
 -- src/steps.rt:147:1
 returns : tie.Need-returns
 returns c = rw (add-one, c .before .pairs-right .ensures)
 
 pub with-trailer-spec : {M : Type 1} → statement M
-with-trailer-spec = tie.close (tie.spec pairs-right-requires add-t8 returns)
+with-trailer-spec = tie.close (tie.spec pairs-right-requires add-t9 returns)

@@ -39,20 +39,14 @@ stopped-requires-2 c κs = search needs
 enum-known-i : tie.Need-enum-known-i
 enum-known-i c = search needs
 
-field-requires-2 : tie.Need-field-requires-2
-field-requires-2 c κs = (c .before .before .before .before .before .before .before .before .before .before .before .before .before .before .before .before .pre .1 .0 .noted refl .marks, (omega arith, omega arith, omega arith))
-
-slice-aggregate-content-is : tie.Need-slice-aggregate-content-is
-slice-aggregate-content-is c = search needs
-
-content-is-requires : tie.Need-content-is-requires
-content-is-requires c κs = search needs
+subset-in-requires : tie.Need-subset-in-requires
+subset-in-requires c κs = c .before .before .before .before .before .before .before .before .before .before .before .before .before .before .before .before .pre .1 .0 .noted refl .marks
 
 fresh-message-requires : tie.Need-fresh-message-requires
 fresh-message-requires c κs = search needs
 
 stretch-in-requires : tie.Need-stretch-in-requires
-stretch-in-requires c κs = (c .before .before .before .before .before .before .before .before .before .before .before .before .before .before .before .before .before .before .before .before .pre .1 .0 .marks, omega arith, omega arith)
+stretch-in-requires c κs = (c .before .before .before .before .before .before .before .before .before .before .before .before .before .before .before .before .before .before .pre .1 .0 .marks, omega arith, omega arith)
 
 after-unh-requires : tie.Need-after-unh-requires
 after-unh-requires c κs = search needs
@@ -66,12 +60,12 @@ returns-2 c =
     unh-again (g .args .y) (g .args .s .now) (g .args .st) (g .args .heads .now) (g .args .names .now) (g .args .slots .now) (g .args .at) (g .args .next) (g .args .f) (g .args .marks .now) (g .pre .1 .0) (g .pre .1 .1) (formed-at _ (askedAt (g .args .y .service) (g .args .s .now) (g .args .at)) (g .pre .1 .0 .kind) Unh refl (c .before .before .before .before .before .before .before .before .before .before .unh-formed .ensures)) (c .before .before .before .before .before .before .before .before .before .if1 .left) (c .before .before .before .before .before .before .field .ensures) _ (c .before .before .before .before .before .offer .result) (c .before .before .before .before .before .offer .ensures) (c .before .enum-told .given .1) (c .stopped2 .ensures)
 
 same-length-2 : tie.Need-same-length-2
-same-length-2 c = let o = c .before .before .before .before .before .before .before .before .before .before .before .offer in search needs
+same-length-2 c = let o = c .before .before .before .before .before .before .before .before .before .offer in search needs
 
 returns-3 : tie.Need-returns-3
 returns-3 c =
-    let g = c .before .before .before .before .before .before .before .before .before .before .before .before .before .before .before .before .before .before .before .before .before .before in
-    unh-read (g .args .y) (g .args .s .now) (g .args .st) (g .args .heads .now) (g .args .names .now) (g .args .slots .now) (g .args .at) (g .args .next) (g .args .f) (g .args .marks .now) (g .pre .1 .0) (g .pre .1 .1) (formed-at _ (askedAt (g .args .y .service) (g .args .s .now) (g .args .at)) (g .pre .1 .0 .kind) Unh refl (c .before .before .before .before .before .before .before .before .before .before .before .before .before .before .before .before .unh-formed .ensures)) (c .before .before .before .before .before .before .before .before .before .before .before .before .before .before .before .if1 .left) (c .before .before .before .before .before .before .before .before .before .before .before .before .field .ensures) (offer-at (c .before .before .before .before .before .before .before .before .before .before .before .offer .result) (c .before .before .before .before .before .before .before .before .before .before .before .offer .ensures) (c .before .before .before .before .before .before .before .i .given .1)) (c .before .before .before .before .before .field2 .ensures) (c .before .before .before .content-is .ensures) (c .before .before .fresh-message .ensures) (c .before .stretch-in .ensures) (c .after-unh .ensures)
+    let g = c .before .before .before .before .before .before .before .before .before .before .before .before .before .before .before .before .before .before .before .before in
+    unh-read (g .args .y) (g .args .s .now) (g .args .st) (g .args .heads .now) (g .args .names .now) (g .args .slots .now) (g .args .at) (g .args .next) (g .args .f) (g .args .marks .now) (g .pre .1 .0) (g .pre .1 .1) (formed-at _ (askedAt (g .args .y .service) (g .args .s .now) (g .args .at)) (g .pre .1 .0 .kind) Unh refl (c .before .before .before .before .before .before .before .before .before .before .before .before .before .before .unh-formed .ensures)) (c .before .before .before .before .before .before .before .before .before .before .before .before .before .if1 .left) (c .before .before .before .before .before .before .before .before .before .before .field .ensures) (offer-at (c .before .before .before .before .before .before .before .before .before .offer .result) (c .before .before .before .before .before .before .before .before .before .offer .ensures) (c .before .before .before .before .before .i .given .1)) (c .before .before .before .subset-in .ensures) (c .before .before .fresh-message .ensures) (c .before .stretch-in .ensures) (c .after-unh .ensures)
 
 pub on-unh-spec : {M : Type 1} → statement M
 on-unh-spec =
@@ -86,9 +80,7 @@ on-unh-spec =
     enum-told
     stopped-requires-2
     enum-known-i
-    field-requires-2
-    slice-aggregate-content-is
-    content-is-requires
+    subset-in-requires
     fresh-message-requires
     stretch-in-requires
     after-unh-requires
