@@ -2,12 +2,10 @@
 ghost use mathlib.Core.Path.{_≡_};
 ghost use mathlib.Core.Bool.{_&&_, not};
 ghost use lib.Dec.{ltb};
-ghost use Rattle.grammar.specs.Rules.{isAutack};
 ghost use Rattle.message.specs.Summary.{atHeads, atItems, closes, usaMay, uscMay, usrMay, usxMay, usyMay, mayCome};
 use crate::Group;
 use crate::Message;
 use elements::Kind;
-use grammar::Subset;
 use grammar::is_autack;
 
 fn at_heads(g: Group) -> bool
@@ -37,10 +35,9 @@ fn at_items(g: Group) -> bool
 }
 
 // Whether a trailer or UNT may come.
-fn may_close(x: Subset, g: Group) -> bool
-    ensures { λ r. ⌜ r ≡ closes (isAutack x) g ⌝ }
+fn may_close(autack: bool, g: Group) -> bool
+    ensures { λ r. ⌜ r ≡ closes autack g ⌝ }
 {
-    let autack = is_autack(x);
     match g {
         Group::Opened => !autack,
         Group::Header(_) => !autack,
@@ -135,22 +132,22 @@ fn ush_may(g: Group, headers: u16) -> bool
     false
 }
 
-fn usb_may(g: Group, x: Subset, headers: u16) -> bool
-    ensures { λ r. ⌜ r ≡ (atHeads g && (isAutack x && ltb 0 headers)) ⌝ }
+fn usb_may(g: Group, autack: bool, headers: u16) -> bool
+    ensures { λ r. ⌜ r ≡ (atHeads g && (autack && ltb 0 headers)) ⌝ }
 {
     if at_heads(g) {
-        if is_autack(x) {
+        if autack {
             return 0 < headers;
         }
     }
     false
 }
 
-fn item_may(g: Group, x: Subset) -> bool
-    ensures { λ r. ⌜ r ≡ (atItems g && not (isAutack x)) ⌝ }
+fn item_may(g: Group, autack: bool) -> bool
+    ensures { λ r. ⌜ r ≡ (atItems g && not autack) ⌝ }
 {
     if at_items(g) {
-        return !is_autack(x);
+        return !autack;
     }
     false
 }
@@ -160,24 +157,25 @@ pub fn may_come(k: Kind, m: Message) -> bool
     ensures { λ r. ⌜ r ≡ mayCome k m ⌝ }
 {
     let g = m.group;
-    let x = m.autack;
+    let subset = m.autack;
+    let autack = is_autack(subset);
     let headers = m.headers;
     match k {
         Kind::Unb => false,
         Kind::Unh => false,
-        Kind::Unt => may_close(x, g),
+        Kind::Unt => may_close(autack, g),
         Kind::Unz => false,
         Kind::Ush => ush_may(g, headers),
         Kind::Usa => usa_may(g),
         Kind::Usc => usc_may(g),
         Kind::Usr => usr_may(g),
-        Kind::Ust => may_close(x, g),
-        Kind::Usb => usb_may(g, x, headers),
+        Kind::Ust => may_close(autack, g),
+        Kind::Usb => usb_may(g, autack, headers),
         Kind::Usx => usx_may(g),
         Kind::Usy => usy_may(g),
         Kind::Reserved => false,
-        Kind::Qty => item_may(g, x),
-        Kind::Cnt => item_may(g, x),
-        Kind::Other => item_may(g, x),
+        Kind::Qty => item_may(g, autack),
+        Kind::Cnt => item_may(g, autack),
+        Kind::Other => item_may(g, autack),
     }
 }

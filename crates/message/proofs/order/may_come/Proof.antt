@@ -3,6 +3,7 @@ use Rattle.message.proofs.order.may_come.Statement.{statement}
 use Rattle.message.proofs.order.may_come.Tie as tie
 use Rattle.message.proofs.order.may_come.Reads as reads
 use Rattle.message.proofs.order.may_come.Lts as lts
+use Rattle.grammar.proofs.is_autack.Reads as is-autack-reads
 use Rattle.message.proofs.order.item_may.Reads as item-may-reads
 use Rattle.message.proofs.order.may_close.Reads as may-close-reads
 use Rattle.message.proofs.order.usa_may.Reads as usa-may-reads
@@ -12,6 +13,10 @@ use Rattle.message.proofs.order.ush_may.Reads as ush-may-reads
 use Rattle.message.proofs.order.usr_may.Reads as usr-may-reads
 use Rattle.message.proofs.order.usx_may.Reads as usx-may-reads
 use Rattle.message.proofs.order.usy_may.Reads as usy-may-reads
+
+-- src/order.rt:160:18
+is-autack-requires : tie.Need-is-autack-requires
+is-autack-requires c κs = search needs
 
 -- src/order.rt:160:22
 enum-told : tie.Need-enum-told
@@ -135,7 +140,7 @@ returns-2 c = rw (c .enum-told2 .given .1)
 
 -- src/order.rt:153:1
 returns-3 : tie.Need-returns-3
-returns-3 c = rw (c .before .enum-told3 .given .1) (c .may-close .ensures)
+returns-3 c = rw (c .before .enum-told3 .given .1, ← c .before .before .before .is-autack .ensures) (c .may-close .ensures)
 
 -- src/order.rt:153:1
 returns-4 : tie.Need-returns-4
@@ -159,11 +164,11 @@ returns-8 c = rw (c .before .enum-told8 .given .1) (c .usr-may .ensures)
 
 -- src/order.rt:153:1
 returns-9 : tie.Need-returns-9
-returns-9 c = rw (c .before .enum-told9 .given .1) (c .may-close2 .ensures)
+returns-9 c = rw (c .before .enum-told9 .given .1, ← c .before .before .before .is-autack .ensures) (c .may-close2 .ensures)
 
 -- src/order.rt:153:1
 returns-10 : tie.Need-returns-10
-returns-10 c = rw (c .before .enum-told10 .given .1) (c .usb-may .ensures)
+returns-10 c = rw (c .before .enum-told10 .given .1, ← c .before .before .before .is-autack .ensures) (c .usb-may .ensures)
 
 -- src/order.rt:153:1
 returns-11 : tie.Need-returns-11
@@ -179,20 +184,21 @@ returns-13 c = rw (c .enum-told13 .given .1)
 
 -- src/order.rt:153:1
 returns-14 : tie.Need-returns-14
-returns-14 c = rw (c .before .enum-told14 .given .1) (c .item-may .ensures)
+returns-14 c = rw (c .before .enum-told14 .given .1, ← c .before .before .before .is-autack .ensures) (c .item-may .ensures)
 
 -- src/order.rt:153:1
 returns-15 : tie.Need-returns-15
-returns-15 c = rw (c .before .enum-told15 .given .1) (c .item-may2 .ensures)
+returns-15 c = rw (c .before .enum-told15 .given .1, ← c .before .before .before .is-autack .ensures) (c .item-may2 .ensures)
 
 -- src/order.rt:153:1
 returns-16 : tie.Need-returns-16
-returns-16 c = rw (c .before .enum-told16 .given .1) (c .item-may3 .ensures)
+returns-16 c = rw (c .before .enum-told16 .given .1, ← c .before .before .before .is-autack .ensures) (c .item-may3 .ensures)
 
 pub may-come-spec : {M : Type 1} → statement M
 may-come-spec =
     tie.close
     (tie.spec
+    is-autack-requires
     enum-told
     enum-told-2
     enum-told-3

@@ -13,12 +13,9 @@ use Rattle.message.proofs.order.at_heads.Reads as at-heads-reads
 at-heads-requires : tie.Need-at-heads-requires
 at-heads-requires c κs = search needs
 
-is-autack-requires : tie.Need-is-autack-requires
-is-autack-requires c κs = search needs
-
 -- src/order.rt:137:13
 returns : tie.Need-returns
-returns c = rw (← c .before .before .before .at-heads .ensures, c .before .before .if1 .taken, ← c .before .is-autack .ensures, c .if2 .taken)
+returns c = rw (← c .before .before .at-heads .ensures, c .before .if1 .taken, c .if2 .taken)
 
 -- src/order.rt:132:1
 returns-2 : tie.Need-returns-2
@@ -29,4 +26,4 @@ returns-3 : tie.Need-returns-3
 returns-3 c = search needs
 
 pub usb-may-spec : {M : Type 1} → statement M
-usb-may-spec = tie.close (tie.spec at-heads-requires is-autack-requires returns returns-2 returns-3)
+usb-may-spec = tie.close (tie.spec at-heads-requires returns returns-2 returns-3)
