@@ -6,7 +6,7 @@ use mathlib.Core.Option.{some}
 use mathlib.Core.Path.{_≡_}
 use lib.Dec.{T, eqb}
 use lib.ListN.{length}
-use Rattle.syntax.specs.Octets.{every}
+use Rattle.syntax.specs.Octets.{allPass}
 use Rattle.syntax.specs.Repertoire.{tagOctet}
 use Rattle.syntax.specs.declared.Syntax.{Syntax}
 use Rattle.grammar.specs.Lists.{size}
@@ -29,7 +29,7 @@ pub record Allows (s m r : List ℕ) (f : ℕ) : Type 0 where
   pub name : refM of ≡ m
   -- not 16: "REF is 1 to 14 of A to Z and 0 to 9, new in the message"
   pub ref-size : (1 ≤ length r) × (length r ≤ 14)
-  pub ref-octets : T (every tagOctet r)
+  pub ref-octets : T (allPass tagOctet r)
   pub ref-new : (h : Header) → In h (headersOf of) → refH h ≡ r → ⊥
   -- "F is 2 or 7."
   pub filter : T (eqb f 2 || eqb f 7)
@@ -45,4 +45,4 @@ pub record Seals (s m r : List ℕ) (f : ℕ) (v : List ℕ) : Type 0 where
   -- not 14: each octet of its filtered text is inside the repertoire, and no service character where release is not in force
   pub y : Syntax
   pub settled : syntaxIn (allowed .i) ≡ some y
-  pub written : T (every (mayWrite y) (textBy f v))
+  pub written : T (allPass (mayWrite y) (textBy f v))

@@ -9,7 +9,7 @@ use mathlib.Core.Bool.{Bool, true, false, cond, not, _&&_, _||_}
 use lib.Dec.{T, T-not, eqb, leb, leb→le, le→leb}
 use lib.ListN.{length}
 use Rattle.syntax.specs.Refusals.{atZero}
-use Rattle.syntax.specs.Octets.{every, within}
+use Rattle.syntax.specs.Octets.{allPass, within}
 use Rattle.syntax.specs.Repertoire.{tagOctet}
 use Rattle.syntax.specs.TreeLaws.{and-left, and-right, and-both}
 use Rattle.syntax.specs.declared.Syntax.{Syntax}
@@ -84,8 +84,8 @@ module _ (s m r : List ℕ) (f : ℕ) where
           of = message (msg u hs b ts) n;
           there = x .0;
           name = x .1;
-          ref-size = within-so 1 14 (length r) (and-left (within 1 14 (length r)) (every tagOctet r) ref);
-          ref-octets = and-right (within 1 14 (length r)) (every tagOctet r) ref;
+          ref-size = within-so 1 14 (length r) (and-left (within 1 14 (length r)) (allPass tagOctet r) ref);
+          ref-octets = and-right (within 1 14 (length r)) (allPass tagOctet r) ref;
           ref-new = new-so hs r (t .1 .1 .1);
           filter = t .1 .0;
           few = leb→le (size hs) 8 (and-right (not (autack u)) (leb (size hs) 8) more);
@@ -116,7 +116,7 @@ module _ (s m r : List ℕ) (f : ℕ) where
             may =
                 is-true (maySeal (msg u hs b ts) r f)
                 (four-of (refRight r) (filterRight f) (takesMore (msg u hs b ts)) (isNew (msg u hs b ts) r)
-                (and-both (within 1 14 (length r)) (every tagOctet r) (within-of 1 14 (length r) (w .ref-size)) (w .ref-octets))
+                (and-both (within 1 14 (length r)) (allPass tagOctet r) (within-of 1 14 (length r) (w .ref-size)) (w .ref-octets))
                 (w .filter)
                 (and-both (not (autack u)) (leb (size hs) 8) (subst (λ (c : Bool). T (not c)) (sym other) tt) (le→leb (size hs) 8 few))
                 (new-of hs r new));
@@ -180,7 +180,7 @@ module _ (s m r : List ℕ) (f : ℕ) where
           let long : lengthRight f v ≡ true = is-true (lengthRight f v) (within-of 1 (cond (eqb f 2) 256 384) (length v) (w .value-size)) in
           let c : (maySeal (p .o) r f && lengthRight f v) ≡ true =
           is-true (maySeal (p .o) r f && lengthRight f v) (and-both (maySeal (p .o) r f) (lengthRight f v) (passes (maySeal (p .o) r f) (p .may)) (passes (lengthRight f v) long)) in
-          let e : writable (syntaxIn (w .allowed .i)) (textBy f v) ≡ true = ap (λ (o : Option Syntax). writable o (textBy f v)) (w .settled) ∙ is-true (every (mayWrite (w .y)) (textBy f v)) (w .written) in (
+          let e : writable (syntaxIn (w .allowed .i)) (textBy f v) ≡ true = ap (λ (o : Option Syntax). writable o (textBy f v)) (w .settled) ∙ is-true (allPass (mayWrite (w .y)) (textBy f v)) (w .written) in (
             sealedText (w .allowed .i) m r f (textBy f v),
             ap answered (asked-of s m (λ i p. some (sealAt i p m r f v)) (w .allowed .i) (placed (message (p .o) (p .n)) (p .q)) (w .allowed .read) (p .named))
                 ∙ ap (λ (b : Bool). cond b (orUnwritten (w .allowed .i) m r f (textBy f v)) (noText (atZero 16))) c

@@ -12,7 +12,7 @@ use Rattle.syntax.specs.declared.Service.{Service}
 use Rattle.grammar.specs.Lists.{Snoc, nil, _▷_, _+++_, joined, list}
 use Rattle.grammar.specs.ListsLaws.{joined-join}
 use Rattle.grammar.specs.TestLaws.{passes}
-use Rattle.grammar.specs.Segments.{Unb, Unz, seg, text}
+use Rattle.grammar.specs.Segments.{Unb, Unz, seg, elementContent}
 use Rattle.grammar.specs.Interchange.{msg, done, idle, shown, showMessage}
 use Rattle.grammar.specs.Rules.{refH, refT}
 use Rattle.grammar.specs.Valid.{Interchange, interchange, openingIn}
@@ -92,7 +92,7 @@ scope2-printed s m r a b e =
 
 module _ (s : List ℕ) (a b : ℕ) where
   run-printed : (i : Interchange) (r : List ℕ) → verdictOf s ≡ accepted i → runIn i r ≡ some (run a b) → F01 s a b
-  run-printed (interchange n u ms z) r v e = by (same (text u 5 0) r) e
+  run-printed (interchange n u ms z) r v e = by (same (elementContent u 5 0) r) e
     where
       i : Interchange
       i = interchange n u ms z

@@ -12,7 +12,7 @@ use Rattle.syntax.specs.Refusals.{atZero}
 use Rattle.syntax.specs.TreeLaws.{and-left, and-right}
 use Rattle.grammar.specs.Lists.{Snoc}
 use Rattle.grammar.specs.Interchange.{Leaf, Header, Trailer, Body, msg, message}
-use Rattle.grammar.specs.Valid.{Interchange, interchange, print, syntaxIn, openingIn}
+use Rattle.grammar.specs.Valid.{Interchange, interchange, printInterchange, syntaxIn, openingIn}
 use Rattle.grammar.specs.Verdict.{accepted, verdictOf}
 use Rattle.grammar.specs.VerdictLaws.{verdict-exact}
 use Rattle.grammar.specs.Named.{Placed, placed}
@@ -45,7 +45,7 @@ pub record Succeeds (s m r : List ℕ) (f : ℕ) (v x : List ℕ) : Type 0 where
   pub may : T (maySeal (msg u hs b ts) r f)
   pub long : T (lengthRight f v)
   pub written : T (writable (syntaxIn i) (textBy f v))
-  pub printed : print (sealedBy i m r f v) ≡ x
+  pub printed : printInterchange (sealedBy i m r f v) ≡ x
 
 pub no-text : {A : Type 0} {f : Refusal} {x : List ℕ} → noText f ≡ text x → A
 no-text e = let z : _≡_ {A = ℕ} 0 1 = cc in absurd (omega arith)
@@ -55,10 +55,10 @@ answered-text (given y) e = ap given e
 answered-text (refusedAs f) e = no-text e
 
 module _ (s m r : List ℕ) (f : ℕ) (v x : List ℕ) where
-  written-so : (i : Interchange) → orUnwritten i m r f (textBy f v) ≡ text x → T (writable (syntaxIn i) (textBy f v)) × (print (sealedBy i m r f v) ≡ x)
+  written-so : (i : Interchange) → orUnwritten i m r f (textBy f v) ≡ text x → T (writable (syntaxIn i) (textBy f v)) × (printInterchange (sealedBy i m r f v) ≡ x)
   written-so i e = by (writable (syntaxIn i) (textBy f v)) e
     where
-      by : (c : Bool) → cond c (text (sealedText i m r f (textBy f v))) (noText (atZero 14)) ≡ text x → T c × (print (sealedBy i m r f v) ≡ x)
+      by : (c : Bool) → cond c (text (sealedText i m r f (textBy f v))) (noText (atZero 14)) ≡ text x → T c × (printInterchange (sealedBy i m r f v) ≡ x)
       by true e = (tt, cc)
       by false e = no-text e
 

@@ -20,7 +20,7 @@ use Rattle.syntax.specs.declared.Version.{Version}
 use Rattle.grammar.specs.Lists.{Snoc, nil, _▷_, _+++_, joined, Rule, holds, every}
 use Rattle.grammar.specs.Segments.{Unh, Unt, Ush, Usa, Usr, Ust, seg, asked, number}
 use Rattle.grammar.specs.Elements as table
-use Rattle.grammar.specs.Elements.{closed, anyLength, formedAs, formedRow, formed}
+use Rattle.grammar.specs.Elements.{simple, anyLength, formedAs, formedRow, formed}
 use Rattle.grammar.specs.Interchange.{Leaf, Header, Trailer, Body, msg, message, showHeader, showTrailer, showBody, showMessage}
 use Rattle.grammar.specs.Rules.{insideS, formedS, amountS}
 use Rattle.writing.specs.Decimal.{decimalOf}
@@ -123,8 +123,8 @@ unt-formed v n l h = by n (number n 1 + 4) (first (number n 1 + 4) l) h
     by [] k f h = absurd h
     by (e ∷ n) k f h =
         and-both (allDigits (contentIn (plains (decimalOf k))) && within 1 6 (length (contentIn (plains (decimalOf k)))) && true && true)
-        (formedRow (closed (table.text 1 anyLength ∷ []) ∷ []) (asked (seg Unt (e ∷ n))) 2) f
-        (and-right (formedAs (closed (table.digits 1 6 ∷ [])) (asked (seg Unt (e ∷ n))) 1) (formedRow (closed (table.text 1 anyLength ∷ []) ∷ []) (asked (seg Unt (e ∷ n))) 2) h)
+        (formedRow (simple (table.anyText 1 anyLength ∷ []) ∷ []) (asked (seg Unt (e ∷ n))) 2) f
+        (and-right (formedAs (simple (table.digits 1 6 ∷ [])) (asked (seg Unt (e ∷ n))) 1) (formedRow (simple (table.anyText 1 anyLength ∷ []) ∷ []) (asked (seg Unt (e ∷ n))) 2) h)
 
 -- ---- the text of VALUE has 512 octets at most
 
@@ -137,7 +137,7 @@ text-short f v h = by (eqb f 2) h
 
 -- ---- all of them
 
-filter-digits : (f : ℕ) → T (filterRight f) → T (octets.every tagOctet (decimalOf f))
+filter-digits : (f : ℕ) → T (filterRight f) → T (octets.allPass tagOctet (decimalOf f))
 filter-digits f h = digits-tag (decimalOf f) (passes (allDigits (decimalOf f)) (decimal-digits f (by (eqb f 2) refl (eqb f 7) refl h)))
   where
     by : (a : Bool) → eqb f 2 ≡ a → (c : Bool) → eqb f 7 ≡ c → T (a || c) → f < 18446744073709551616
@@ -145,15 +145,15 @@ filter-digits f h = digits-tag (decimalOf f) (passes (allDigits (decimalOf f)) (
     by false d true e k = omega (arith, eqb-true f 7 e)
     by false d false e k = absurd k
 
-module _ (y : Syntax) (fits : T (fit (y .service))) (r : List ℕ) (f : ℕ) (t : List ℕ) (n : Leaf) (ref : T (refRight r)) (filter : T (filterRight f)) (may : T (octets.every (mayWrite y) t))
+module _ (y : Syntax) (fits : T (fit (y .service))) (r : List ℕ) (f : ℕ) (t : List ℕ) (n : Leaf) (ref : T (refRight r)) (filter : T (filterRight f)) (may : T (octets.allPass (mayWrite y) t))
     (short : length t ≤ 512) (small : number n 1 + 4 < 1000000) where
-  letters : T (octets.every tagOctet r)
-  letters = and-right (within 1 14 (length r)) (octets.every tagOctet r) ref
+  letters : T (octets.allPass tagOctet r)
+  letters = and-right (within 1 14 (length r)) (octets.allPass tagOctet r) ref
 
   long : T (within 1 14 (length r))
-  long = and-left (within 1 14 (length r)) (octets.every tagOctet r) ref
+  long = and-left (within 1 14 (length r)) (octets.allPass tagOctet r) ref
 
-  number-digits : T (octets.every tagOctet (decimalOf (number n 1 + 4)))
+  number-digits : T (octets.allPass tagOctet (decimalOf (number n 1 + 4)))
   number-digits = digits-tag (decimalOf (number n 1 + 4)) (passes (allDigits (decimalOf (number n 1 + 4))) (decimal-digits (number n 1 + 4) (omega (arith, small))))
 
   pub takes-well : Takes (wellS (y .service)) r f (y .service) t n

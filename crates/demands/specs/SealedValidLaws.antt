@@ -18,7 +18,7 @@ use Rattle.grammar.specs.Lists.{Snoc, nil, _▷_, _+++_, joined, list, size, Ru
 use Rattle.grammar.specs.Segments.{Unb, seg, number}
 use Rattle.grammar.specs.Interchange.{Leaf, Header, Trailer, Body, msg, Message, message, idle, done, shown, showMessage}
 use Rattle.grammar.specs.Rules.{insideS, formedS, amountS, okMessage, refM, refsMessage, countsMessage, scopesMessage}
-use Rattle.grammar.specs.Valid.{Una, Interchange, interchange, Valid, print, printUna, inForce, syntaxIn, openingIn}
+use Rattle.grammar.specs.Valid.{Una, Interchange, interchange, Valid, printInterchange, printUna, inForce, syntaxIn, openingIn}
 use Rattle.grammar.specs.StartLaws.{fit-in-force}
 use Rattle.grammar.specs.Places.{wide}
 use Rattle.grammar.specs.PlacesLaws.{wide-list}
@@ -39,7 +39,7 @@ wide-size : (σ : Service) (gs : Snoc Segment) → 4 * size gs ≤ wide σ gs
 wide-size σ nil = omega arith
 wide-size σ (gs ▷ g) = omega (arith, wide-size σ gs, long-print σ g)
 
-print-size : (n : Option Una) (u : Leaf) (ms : Snoc Message) (z : Leaf) → 4 * (2 + size (joined showMessage ms)) ≤ length (print (interchange n u ms z))
+print-size : (n : Option Una) (u : Leaf) (ms : Snoc Message) (z : Leaf) → 4 * (2 + size (joined showMessage ms)) ≤ length (printInterchange (interchange n u ms z))
 print-size n u ms z =
     let σ : Service = inForce (syntaxIn (interchange n u ms z)) in
     omega (
@@ -79,7 +79,7 @@ module _ (k : Option Una) (u : Leaf) (ms : Snoc Message) (z : Leaf) (v : Valid (
           eqb→eq (number n 1) (size (showMessage (message (msg w hs b ts) n))) (c .0),
           placed-size σ p u m ms e,
           print-size k u ms z,
-          leb→le (length (print (interchange k u ms z))) 65535 (and-right (leb 1 (length (print (interchange k u ms z)))) (leb (length (print (interchange k u ms z))) 65535) (v .octetsRight)),
+          leb→le (length (printInterchange (interchange k u ms z))) 65535 (and-right (leb 1 (length (printInterchange (interchange k u ms z)))) (leb (length (printInterchange (interchange k u ms z))) 65535) (v .octetsRight)),
         )
 
     all-take : (rule : Segment → Rule) → Takes rule r f (v .y .service) t n → holds (every rule (shown (done u ms z))) → holds (every rule (shown (done u after z)))
@@ -92,7 +92,7 @@ module _ (k : Option Una) (u : Leaf) (ms : Snoc Message) (z : Leaf) (v : Valid (
           h .1,
         )
 
-    pub valid-at : May w hs r f → T (octets.every (mayWrite (v .y)) t) → length t ≤ 512 → length (print (interchange k u after z)) ≤ 65535 → Valid (interchange k u after z)
+    pub valid-at : May w hs r f → T (octets.allPass (mayWrite (v .y)) t) → length t ≤ 512 → length (printInterchange (interchange k u after z)) ≤ 65535 → Valid (interchange k u after z)
     valid-at y a s l =
         let fits = fit-in-force (interchange k u ms z) v in
         let d : number n 1 + 4 < 1000000 = small in
@@ -102,8 +102,8 @@ module _ (k : Option Una) (u : Leaf) (ms : Snoc Message) (z : Leaf) (v : Valid (
         let σ′ : Service = v .y .service in
         record {
           octetsRight =
-              and-both (leb 1 (length (print (interchange k u after z)))) (leb (length (print (interchange k u after z))) 65535)
-              (le→leb 1 (length (print (interchange k u after z))) (omega (arith, print-size k u after z))) (le→leb (length (print (interchange k u after z))) 65535 l);
+              and-both (leb 1 (length (printInterchange (interchange k u after z)))) (leb (length (printInterchange (interchange k u after z))) 65535)
+              (le→leb 1 (length (printInterchange (interchange k u after z))) (omega (arith, print-size k u after z))) (le→leb (length (printInterchange (interchange k u after z))) 65535 l);
           serviceRight = v .serviceRight;
           y = v .y;
           named = v .named;
@@ -131,10 +131,10 @@ module _ (k : Option Una) (u : Leaf) (ms : Snoc Message) (z : Leaf) (v : Valid (
 -- the message that is named may be sealed, VALUE's text may be written, and the result is not too long
 pub sealed-valid : (i : Interchange) → Valid i → (m r : List ℕ) (f : ℕ) (t : List ℕ) (w : Leaf) (hs : Snoc Header) (b : Body) (ts : Snoc Trailer) (n : Leaf) {q : ℕ}
     → messageIn i m ≡ some (placed (message (msg w hs b ts) n) q) → T (maySeal (msg w hs b ts) r f) → T (writable (syntaxIn i) t) → length t ≤ 512
-    → length (print (sealed i m (newHeader r f) (newTrailer (serviceIn i) r t))) ≤ 65535 → Valid (sealed i m (newHeader r f) (newTrailer (serviceIn i) r t))
+    → length (printInterchange (sealed i m (newHeader r f) (newTrailer (serviceIn i) r t))) ≤ 65535 → Valid (sealed i m (newHeader r f) (newTrailer (serviceIn i) r t))
 sealed-valid (interchange k u ms z) v m r f t w hs b ts n {q} e a c s l =
     let σ : Service = serviceIn (interchange k u ms z) in
     let d : serviceIn (interchange k u ms z) ≡ v .y .service = ap inForce (v .named) in
     subst (λ (x : Service). Valid (sealed (interchange k u ms z) m (newHeader r f) (newTrailer x r t))) (sym d)
     (valid-at k u ms z v m r f t σ (openingIn k .at) w hs b ts n q e (may w hs b ts r f a) (subst (λ (x : Option Syntax). T (writable x t)) (v .named) c) s
-    (subst (λ (x : Service). length (print (sealed (interchange k u ms z) m (newHeader r f) (newTrailer x r t))) ≤ 65535) d l))
+    (subst (λ (x : Service). length (printInterchange (sealed (interchange k u ms z) m (newHeader r f) (newTrailer x r t))) ≤ 65535) d l))

@@ -4,7 +4,7 @@ use mathlib.Core.Path.{_≡_, refl, ap, _∙_, sym, subst}
 use mathlib.Core.List.{List, [], _∷_}
 use mathlib.Core.Bool.{Bool, true, false, not, cond, _&&_}
 use lib.Dec.{T, eqb}
-use Rattle.syntax.specs.Octets.{octets, digit, capital, every}
+use Rattle.syntax.specs.Octets.{octets, digit, capital, allPass}
 use Rattle.syntax.specs.Service.{kindOf, serves, fit}
 use Rattle.syntax.specs.Repertoire.{tagOctet, inside, outside}
 use Rattle.syntax.specs.Opening.{isThere}
@@ -28,7 +28,7 @@ use Rattle.demands.specs.SealedSymbolLaws.{Passes, every-append, every-l
 
 -- ---- letters and digits
 
-pub digits-tag : (t : List ℕ) → T (allDigits t) → T (every tagOctet t)
+pub digits-tag : (t : List ℕ) → T (allDigits t) → T (allPass tagOctet t)
 digits-tag t h = every-as digit tagOctet (λ b k. or-left (digit b) (capital b) k) t h
 
 -- ---- the two tests of a symbol
@@ -38,7 +38,7 @@ abbrev pub clear : Syntax → ℕ → Bool
 clear y b = not (outside y b)
 
 abbrev pub clearS : Syntax → Symbol → Bool
-clearS y x = every (clear y) (spell (y .service) x)
+clearS y x = allPass (clear y) (spell (y .service) x)
 
 module _ (y : Syntax) (f : T (fit (y .service))) where
   -- a service character is
@@ -84,57 +84,57 @@ module _ (y : Syntax) (f : T (fit (y .service))) where
 
       by : (c : Bool) → T (not (c && eqb (y .service .release) 32)) → T (clearS y (tok (cond c (syntax.freed b) (syntax.plain b))))
       by true k =
-          let q : T (every (ok (y .service)) (tok (syntax.freed b) ∷ [])) = and-both (not (eqb (y .service .release) 32)) true k tt in
+          let q : T (allPass (ok (y .service)) (tok (syntax.freed b) ∷ [])) = and-both (not (eqb (y .service .release) 32)) true k tt in
           and-both (clear y (y .service .release)) (clear y b && true)
           (serving (y .service .release) 0 (every-reads (y .service) f (tok (syntax.freed b) ∷ []) q .0) refl) (and-both (clear y b) true here tt)
       by false k = and-both (clear y b) true here tt
 
-  pub value-ok : (t : List ℕ) → T (every (mayWrite y) t) → T (every (ok (y .service)) (flatC (released (y .service) t)))
+  pub value-ok : (t : List ℕ) → T (allPass (mayWrite y) t) → T (allPass (ok (y .service)) (flatC (released (y .service) t)))
   value-ok [] h = tt
   value-ok (b ∷ t) h =
-      and-both (ok (y .service) (tok (releasedOctet (y .service) b))) (every (ok (y .service)) (flatC (released (y .service) t)))
-      (released-ok b (and-left (mayWrite y b) (every (mayWrite y) t) h)) (value-ok t (and-right (mayWrite y b) (every (mayWrite y) t) h))
+      and-both (ok (y .service) (tok (releasedOctet (y .service) b))) (allPass (ok (y .service)) (flatC (released (y .service) t)))
+      (released-ok b (and-left (mayWrite y b) (allPass (mayWrite y) t) h)) (value-ok t (and-right (mayWrite y b) (allPass (mayWrite y) t) h))
 
-  pub value-clear : (t : List ℕ) → T (every (mayWrite y) t) → T (every (clearS y) (flatC (released (y .service) t)))
+  pub value-clear : (t : List ℕ) → T (allPass (mayWrite y) t) → T (allPass (clearS y) (flatC (released (y .service) t)))
   value-clear [] h = tt
   value-clear (b ∷ t) h =
-      and-both (clearS y (tok (releasedOctet (y .service) b))) (every (clearS y) (flatC (released (y .service) t)))
-      (released-clear b (and-left (mayWrite y b) (every (mayWrite y) t) h)) (value-clear t (and-right (mayWrite y b) (every (mayWrite y) t) h))
+      and-both (clearS y (tok (releasedOctet (y .service) b))) (allPass (clearS y) (flatC (released (y .service) t)))
+      (released-clear b (and-left (mayWrite y b) (allPass (mayWrite y) t) h)) (value-clear t (and-right (mayWrite y b) (allPass (mayWrite y) t) h))
 
 -- ---- the rules on a segment, by its symbols
 
-pub inside-clear : (y : Syntax) (l : List ℕ) (i : ℕ) → T (every (clear y) l) → T (not (isThere (firstOutside y l i)))
+pub inside-clear : (y : Syntax) (l : List ℕ) (i : ℕ) → T (allPass (clear y) l) → T (not (isThere (firstOutside y l i)))
 inside-clear y [] i h = tt
-inside-clear y (b ∷ l) i h = by (outside y b) (and-left (clear y b) (every (clear y) l) h) (inside-clear y l (suc i) (and-right (clear y b) (every (clear y) l) h))
+inside-clear y (b ∷ l) i h = by (outside y b) (and-left (clear y b) (allPass (clear y) l) h) (inside-clear y l (suc i) (and-right (clear y b) (allPass (clear y) l) h))
   where
     by : (c : Bool) → T (not c) → T (not (isThere (firstOutside y l (suc i)))) → T (not (isThere (cond c (At i) (firstOutside y l (suc i)))))
     by true h k = absurd h
     by false h k = k
 
-clear-inside : (y : Syntax) (l : List ℕ) (i : ℕ) → T (not (isThere (firstOutside y l i))) → T (every (clear y) l)
+clear-inside : (y : Syntax) (l : List ℕ) (i : ℕ) → T (not (isThere (firstOutside y l i))) → T (allPass (clear y) l)
 clear-inside y [] i h = tt
 clear-inside y (b ∷ l) i h = by (outside y b) h (clear-inside y l (suc i))
   where
-    by : (c : Bool) → T (not (isThere (cond c (At i) (firstOutside y l (suc i))))) → (T (not (isThere (firstOutside y l (suc i)))) → T (every (clear y) l)) → T (not c && every (clear y) l)
+    by : (c : Bool) → T (not (isThere (cond c (At i) (firstOutside y l (suc i))))) → (T (not (isThere (firstOutside y l (suc i)))) → T (allPass (clear y) l)) → T (not c && allPass (clear y) l)
     by true h k = absurd h
     by false h k = k h
 
 module _ (y : Syntax) where
-  spells-clear : (xs : List Symbol) → T (every (clearS y) xs) → T (every (clear y) (spells (y .service) xs))
+  spells-clear : (xs : List Symbol) → T (allPass (clearS y) xs) → T (allPass (clear y) (spells (y .service) xs))
   spells-clear [] h = tt
   spells-clear (x ∷ xs) h =
-      every-append (clear y) (spell (y .service) x) (spells (y .service) xs) (and-left (clearS y x) (every (clearS y) xs) h) (spells-clear xs (and-right (clearS y x) (every (clearS y) xs) h))
+      every-append (clear y) (spell (y .service) x) (spells (y .service) xs) (and-left (clearS y x) (allPass (clearS y) xs) h) (spells-clear xs (and-right (clearS y x) (allPass (clearS y) xs) h))
 
-  clear-spells : (xs : List Symbol) → T (every (clear y) (spells (y .service) xs)) → T (every (clearS y) xs)
+  clear-spells : (xs : List Symbol) → T (allPass (clear y) (spells (y .service) xs)) → T (allPass (clearS y) xs)
   clear-spells [] h = tt
   clear-spells (x ∷ xs) h =
-      and-both (clearS y x) (every (clearS y) xs) (every-left (clear y) (spell (y .service) x) (spells (y .service) xs) h)
+      and-both (clearS y x) (allPass (clearS y) xs) (every-left (clear y) (spell (y .service) x) (spells (y .service) xs) h)
       (clear-spells xs (every-right (clear y) (spell (y .service) x) (spells (y .service) xs) h))
 
-  pub symbols-inside : (g : Segment) → T (every (clearS y) (flatS g)) → holds (insideS y g)
+  pub symbols-inside : (g : Segment) → T (allPass (clearS y) (flatS g)) → holds (insideS y g)
   symbols-inside g h = inside-clear y (printS (y .service) g) 0 (spells-clear (flatS g) h)
 
-  pub inside-symbols : (g : Segment) → holds (insideS y g) → T (every (clearS y) (flatS g))
+  pub inside-symbols : (g : Segment) → holds (insideS y g) → T (allPass (clearS y) (flatS g))
   inside-symbols g h = clear-spells (flatS g) (clear-inside y (printS (y .service) g) 0 h)
 
 -- well-formed, as a rule on single segments
@@ -142,11 +142,11 @@ abbrev pub wellS : Service → Segment → Rule
 wellS σ g = test (well σ (g ∷ []))
 
 module _ (σ : Service) where
-  pub symbols-well : (g : Segment) → T (okTag g) → T (every (ok σ) (flatS g)) → holds (wellS σ g)
-  symbols-well g t h = and-both (okTag g && true) (every (ok σ) (flat (g ∷ []))) (and-both (okTag g) true t tt) (every-append (ok σ) (flatS g) [] h tt)
+  pub symbols-well : (g : Segment) → T (okTag g) → T (allPass (ok σ) (flatS g)) → holds (wellS σ g)
+  symbols-well g t h = and-both (okTag g && true) (allPass (ok σ) (flat (g ∷ []))) (and-both (okTag g) true t tt) (every-append (ok σ) (flatS g) [] h tt)
 
-  pub well-symbols : (g : Segment) → holds (wellS σ g) → T (every (ok σ) (flatS g))
-  well-symbols g h = every-left (ok σ) (flatS g) [] (and-right (okTag g && true) (every (ok σ) (flat (g ∷ []))) h)
+  pub well-symbols : (g : Segment) → holds (wellS σ g) → T (allPass (ok σ) (flatS g))
+  well-symbols g h = every-left (ok σ) (flatS g) [] (and-right (okTag g && true) (allPass (ok σ) (flat (g ∷ []))) h)
 
   -- of a list of them
   pub list-well : (gs : Snoc Segment) → holds (lists.every (wellS σ) gs) → T (well σ (list gs))

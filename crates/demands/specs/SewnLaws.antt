@@ -15,7 +15,7 @@ use Rattle.syntax.specs.declared.Service.{Service}
 use Rattle.syntax.specs.declared.Syntax.{Syntax}
 use Rattle.grammar.specs.Lists as grammar
 use Rattle.grammar.specs.Lists.{Snoc, nil, _▷_, _+++_, list}
-use Rattle.grammar.specs.Segments.{Unb, Unh, Unt, Unz, seg, text, number}
+use Rattle.grammar.specs.Segments.{Unb, Unh, Unt, Unz, seg, elementContent, number}
 use Rattle.grammar.specs.Interchange.{Leaf, Header, Trailer, Body, Open, msg, Message, message, idle, done, shown, showHeader, showTrailer, showBody, showOpen, showMessage}
 use Rattle.grammar.specs.Valid as valid
 use Rattle.grammar.specs.Valid.{Interchange, interchange, inForce, openingIn, printUna, segments}
@@ -24,7 +24,7 @@ use Rattle.grammar.specs.VerdictLaws.{verdict-exact}
 use Rattle.grammar.specs.PlacesLaws.{wide-list}
 use Rattle.grammar.specs.Named.{placed}
 use Rattle.writing.specs.Decimal.{decimalOf}
-use Rattle.writing.specs.Laid.{joined}
+use Rattle.writing.specs.Laid.{together}
 use Rattle.groups.specs.StandLaws.{list-join, print-append}
 use Rattle.groups.specs.Calls.{serviceIn, messageIn}
 use Rattle.weaving.specs.Seals.{newHeader, newTrailer, grown, sealedMessage}
@@ -141,7 +141,7 @@ put-back : (H T N : List ℕ) {a a′ b b′ c c′ d d′ x : List ℕ} → x �
 put-back H T N e i j k l = cc
 
 module _ (s m r : List ℕ) (f : ℕ) (v x : List ℕ) where
-  sewn-by : (i : Interchange) (o : Open) (k : Leaf) (q : ℕ) → verdictOf s ≡ accepted i → messageIn i m ≡ some (placed (message o k) q) → valid.print (sealedBy i m r f v) ≡ x → Sewn s m r f v x
+  sewn-by : (i : Interchange) (o : Open) (k : Leaf) (q : ℕ) → verdictOf s ≡ accepted i → messageIn i m ≡ some (placed (message o k) q) → valid.printInterchange (sealedBy i m r f v) ≡ x → Sewn s m r f v x
   sewn-by i o [] q e named px = absurd (false≢true (unt-digits s m i o [] q e named))
   sewn-by (interchange n u ms z) (msg a hs b ts) (x0 ∷ es) q e named px =
       let i : Interchange = interchange n u ms z in
@@ -168,7 +168,7 @@ module _ (s m r : List ℕ) (f : ℕ) (v x : List ℕ) where
       ∙ ap (λ (l : List ℕ). P ++ l) (whole-print σ u (y .before) M (y .after) z)
       ∙ ap (λ (l : List ℕ). P ++ (I ++ (l ++ D))) (message-print σ a hs b ts (x0 ∷ es) ∙ ap (λ (l : List ℕ). W ++ (B ++ l)) (unt-print σ s 0 fits x0 es))
       ∙ old-parts P I W B U E R D in
-      let out : valid.print (sealedBy i m r f v) ≡ P ++ (I ++ W) ++ (H ++ (B ++ (G ++ (U ++ (N ++ (R ++ D)))))) =
+      let out : valid.printInterchange (sealedBy i m r f v) ≡ P ++ (I ++ W) ++ (H ++ (B ++ (G ++ (U ++ (N ++ (R ++ D)))))) =
       ap (λ (l : Snoc Message). P ++ print σ (list (shown (done u l z)))) (y .becomes)
       ∙ ap (λ (l : List ℕ). P ++ l) (whole-print σ u (y .before) (sealedMessage h g M) (y .after) z)
       ∙ ap (λ (l : List ℕ). P ++ (I ++ (l ++ D))) (sealed-print σ h g a hs b ts (x0 ∷ es) ∙ ap (λ (l : List ℕ). W ++ (H ++ (B ++ (G ++ l)))) (grown-print σ s 0 fits x0 es N))

@@ -1,8 +1,8 @@
 // The demands, in the users' words and document 01's. Each is the promise of a function that does nothing, so that the gate holds it.
-// The definitions are those that the calls promise: of the crate `grammar` `Interchange` and `print` (Valid.antt, Interchange.antt), `Valid`
+// The definitions are those that the calls promise: of the crate `grammar` `Interchange` and `printInterchange` (Valid.antt, Interchange.antt), `Valid`
 // (Valid.antt, with the rules of Rules.antt, Elements.antt and Loads.antt), `verdictOf` and `totalsOf` (Verdict.antt), `countedIn` (Counted.antt);
 // of `ranges` `scope1Of`, `scope2Of` (Ranges.antt), of `f01` `f01Of` (F01.antt); of `values` `valueOf` (Values.antt); of `sealing` `sealOf`,
-// `sealOctetsOf` and `sealed` (Sealing.antt); of `register` `registerOf`, `checkNumbers`, `told` (Register.antt); of `writing` `Writes`
+// `sealOctetsOf` and `sealed` (Sealing.antt); of `register` `registerOf`, `checkNumbers`, `toldCheck` (Register.antt); of `writing` `Writes`
 // (Written.antt); and here `Printed.antt`, `Sealed.antt`, `Range.antt` (the grammars of what is sealed) and `Read.antt`.
 ghost use Prim.Native.Nat.{ℕ, _≤_};
 ghost use mathlib.Core.Path.{_≡_};
@@ -17,7 +17,7 @@ ghost use Rattle.syntax.specs.declared.Refusal.{Refusal};
 ghost use Rattle.syntax.specs.declared.Service.{Service};
 ghost use Rattle.grammar.specs.Lists.{Snoc, size};
 ghost use Rattle.grammar.specs.Interchange.{Message};
-ghost use Rattle.grammar.specs.Valid.{Interchange, print, Valid};
+ghost use Rattle.grammar.specs.Valid.{Interchange, printInterchange, Valid};
 ghost use Rattle.grammar.specs.Verdict.{verdictOf, accepted, refusedWith, totalsOf, totalsIn};
 ghost use Rattle.grammar.specs.Counted.{countedIn, messagesIn};
 ghost use Rattle.groups.specs.Calls.{given};
@@ -28,7 +28,7 @@ ghost use Rattle.writing.specs.Written.{Text, text, Writes};
 ghost use Rattle.writing.specs.declared.Written.the-variants.{Length, Refused};
 ghost use Rattle.values.specs.Values.{valueOf};
 ghost use Rattle.sealing.specs.Sealing.{sealOctetsOf, sealOf};
-ghost use Rattle.register.specs.Register.{registerOf, checkNumbers, told};
+ghost use Rattle.register.specs.Register.{registerOf, checkNumbers, toldCheck};
 ghost use Rattle.register.specs.declared.forms.Form.the-variants.{Old};
 ghost use Rattle.register.specs.declared.register.Checked.the-variants.{Same};
 ghost use Rattle.listing.specs.Listing.{Lists};
@@ -62,28 +62,28 @@ pub fn exported_refusal_writes_nothing()
 // D2a. "An interchange is accepted exactly when it meets ISO 9735 parts 1, 2, 5 and 6 as the rules paper narrows or relaxes them": the verdict on
 // the octets s is accepted if and only if some valid interchange prints s.
 pub fn accepted_exactly()
-    ensures { λ _. ⌜ ((s : List ℕ) → ((t : Interchange) × (verdictOf s ≡ accepted t)) ↔ ((t : Interchange) × Valid t × (print t ≡ s))) ⌝ }
+    ensures { λ _. ⌜ ((s : List ℕ) → ((t : Interchange) × (verdictOf s ≡ accepted t)) ↔ ((t : Interchange) × Valid t × (printInterchange t ≡ s))) ⌝ }
 {}
 
 // D2b. Two valid interchanges that print the same octets are equal: the same UNA, the same everything.
 pub fn one_reading()
-    ensures { λ _. ⌜ ((t v : Interchange) → Valid t → Valid v → print t ≡ print v → t ≡ v) ⌝ }
+    ensures { λ _. ⌜ ((t v : Interchange) → Valid t → Valid v → printInterchange t ≡ printInterchange v → t ≡ v) ⌝ }
 {}
 
 // The reading is what is counted: where s is accepted, a valid interchange that prints s is the verdict's reading; its messages in order have
 // the verdict's 0062, type, count of segments, loads and total.
 pub fn reading_is_counted()
-    ensures { λ _. ⌜ ((s : List ℕ) (t v : Interchange) → verdictOf s ≡ accepted t → Valid v → print v ≡ s → (v ≡ t) × (countedIn v ≡ countedIn t)) ⌝ }
+    ensures { λ _. ⌜ ((s : List ℕ) (t v : Interchange) → verdictOf s ≡ accepted t → Valid v → printInterchange v ≡ s → (v ≡ t) × (countedIn v ≡ countedIn t)) ⌝ }
 {}
 
 // .. and the totals that are given back for a 0062 are those of that reading's message.
 pub fn totals_are_read()
-    ensures { λ _. ⌜ ((s : List ℕ) (v : Interchange) (r : List ℕ) → Valid v → print v ≡ s → totalsOf s r ≡ totalsIn (messagesIn v) r) ⌝ }
+    ensures { λ _. ⌜ ((s : List ℕ) (v : Interchange) (r : List ℕ) → Valid v → printInterchange v ≡ s → totalsOf s r ≡ totalsIn (messagesIn v) r) ⌝ }
 {}
 
 // A refused input is the printing of no valid interchange.
 pub fn refused_is_none()
-    ensures { λ _. ⌜ ((s : List ℕ) (f : Refusal) → verdictOf s ≡ refusedWith f → (t : Interchange) → Valid t → print t ≡ s → ⊥) ⌝ }
+    ensures { λ _. ⌜ ((s : List ℕ) (f : Refusal) → verdictOf s ≡ refusedWith f → (t : Interchange) → Valid t → printInterchange t ≡ s → ⊥) ⌝ }
 {}
 
 // The verdict's refusals are the numbers 1 to 12: never 0, which the accepted case has, nor 13 and up, which the calls add.
@@ -196,7 +196,7 @@ pub fn sealed_keeps_ranges()
 // A register longer than 65,535 octets (more than 3,276 messages) is not written (15), and the check accepts none there: it answers 13.
 // `Old` is document 01's form of a register, the one that there is.
 pub fn check_accepts_written()
-    ensures { λ _. ⌜ ((s g out : List ℕ) → length g ≤ length out → (told Same ≡ checkNumbers (registerOf Old s) g) ↔ Writes (registerOf Old s) out (Length (length g)) (g ++ drop (length g) out)) ⌝ }
+    ensures { λ _. ⌜ ((s g out : List ℕ) → length g ≤ length out → (toldCheck Same ≡ checkNumbers (registerOf Old s) g) ↔ Writes (registerOf Old s) out (Length (length g)) (g ++ drop (length g) out)) ⌝ }
 {}
 
 // D3. "If their sealed octets are equal, they hold the same segments, element by element". Scope 1: the header group, then the body, joined. Octets have at most one reading under the

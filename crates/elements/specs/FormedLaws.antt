@@ -20,10 +20,10 @@ use Rattle.syntax.specs.declared.Version.{Version}
 use Rattle.grammar.specs.Segments as named
 use Rattle.grammar.specs.Segments.{Named, Free, Asked, kindIn, tags}
 use Rattle.grammar.specs.Loads.{Shape, shape, amountRight, grams, unit, threePart, controlUnit, controlBy}
-use Rattle.grammar.specs.Elements.{Range, text, digits, closed, composite, inRange, formedAs, formed, formedKind}
+use Rattle.grammar.specs.Elements.{Range, anyText, digits, simple, composite, inRange, formedAs, formed, formedKind}
 use Rattle.grammar.specs.PlacingLaws.{same-eq}
 use Rattle.elements.specs.Octets.{textAt, partsAt, repeatedAt, askedAt}
-use Rattle.elements.specs.Kinds.{ofKind, kindOf}
+use Rattle.elements.specs.Kinds.{ofKind, tagKind}
 use Rattle.elements.specs.Fields.{Fields}
 use Rattle.elements.specs.Amounts.{amountIs, unitIs}
 use Rattle.elements.specs.AmountsLaws.{amount-grams, amount-bad, unit-of, unit-unknown, unit-fits}
@@ -86,14 +86,14 @@ module _ (a : Asked) (p : ℕ) where
 
   -- a single component, which is looked at last
   module _ (k : Range) {r : Bool} (e : r ≡ a .repeated p) where
-    pub closed-repeats : r ≡ true → false ≡ formedAs (closed (k ∷ [])) a p
+    pub closed-repeats : r ≡ true → false ≡ formedAs (simple (k ∷ [])) a p
     closed-repeats t = rw (← e, t)
 
     module _ {n : ℕ} (d : n ≡ a .parts p) where
-      pub closed-many : 1 < n → false ≡ formedAs (closed (k ∷ [])) a p
+      pub closed-many : 1 < n → false ≡ formedAs (simple (k ∷ [])) a p
       closed-many h = rw (← d, lt-leb n 1 h) (closed-no (not (a .repeated p)) (inRange k (a .text p 0)))
 
-      pub closed-go : r ≡ false → n ≤ 1 → {q : Bool} → q ≡ inRange k (a .text p 0) → q ≡ formedAs (closed (k ∷ [])) a p
+      pub closed-go : r ≡ false → n ≤ 1 → {q : Bool} → q ≡ inRange k (a .text p 0) → q ≡ formedAs (simple (k ∷ [])) a p
       closed-go f h g = g ∙ rw (← e, f, ← d, le-leb n 1 h) (closed-so (inRange k (a .text p 0)))
 
 -- ---- what is asked at a position from 1 on
@@ -154,20 +154,20 @@ filled-one ρ (b ∷ x) h e = pick (eqb b 32) (eqb b ρ) e
 
 module _ (ρ : ℕ) (x : List ℕ) (least most : ℕ) where
   module _ (h : length x ≤ most) where
-    sized-by : least ≤ length (content ρ x) → true ≡ inRange (text least most) (content ρ x)
+    sized-by : least ≤ length (content ρ x) → true ≡ inRange (anyText least most) (content ρ x)
     sized-by l = let w = content-most ρ false x in rw (le-leb least (length (content ρ x)) l, le-leb (length (content ρ x)) most (omega arith))
 
-    pub sized-none : least ≡ 0 → true ≡ inRange (text least most) (content ρ x)
+    pub sized-none : least ≡ 0 → true ≡ inRange (anyText least most) (content ρ x)
     sized-none e = sized-by (omega arith)
 
-    pub sized-some : least ≡ 1 → 1 ≤ length (content ρ x) → true ≡ inRange (text least most) (content ρ x)
+    pub sized-some : least ≡ 1 → 1 ≤ length (content ρ x) → true ≡ inRange (anyText least most) (content ρ x)
     sized-some e l = sized-by (omega arith)
 
   module _ {n : ℕ} (q : n ≡ length (content ρ x)) where
-    pub sized-few : n < least → false ≡ inRange (text least most) (content ρ x)
+    pub sized-few : n < least → false ≡ inRange (anyText least most) (content ρ x)
     sized-few h = sym (ap (within least most) (sym q) ∙ rw (lt-leb least n h))
 
-    pub sized-fits : least ≤ n → leb n most ≡ inRange (text least most) (content ρ x)
+    pub sized-fits : least ≤ n → leb n most ≡ inRange (anyText least most) (content ρ x)
     sized-fits h = sym (ap (within least most) (sym q) ∙ rw (le-leb least n h))
 
 -- digits and their number in one pass: n of them before i
@@ -295,11 +295,11 @@ kind-by v (Named named.Usy) a = refl
 kind-by v named.Reserved a = refl
 kind-by v Free a = counted-kind v a (same (a .tag) (octets "QTY")) (same (a .tag) (octets "CNT")) refl refl
 
-pub formed-by : (v : Version) (a : Asked) → formed v a ≡ formedBy v (kindOf (a .tag)) a
+pub formed-by : (v : Version) (a : Asked) → formed v a ≡ formedBy v (tagKind (a .tag)) a
 formed-by v a = kind-by v (kindIn tags (a .tag)) a
 
 -- an arm of a match on the kind
-pub formed-at : (v : Version) (a : Asked) {k : Kind} → k ≡ kindOf (a .tag) → (j : Kind) → k ≡ j → {r : Bool} → r ≡ formedBy v j a → r ≡ formed v a
+pub formed-at : (v : Version) (a : Asked) {k : Kind} → k ≡ tagKind (a .tag) → (j : Kind) → k ≡ j → {r : Bool} → r ≡ formedBy v j a → r ≡ formed v a
 formed-at v a e j f g = g ∙ ap (λ (x : Kind). formedBy v x a) (sym f ∙ e) ∙ sym (formed-by v a)
 
 -- nothing is checked of a segment of another kind
@@ -321,5 +321,5 @@ free-by v Qty a h = absurd (false≢true (sym h))
 free-by v Cnt a h = absurd (false≢true (sym h))
 free-by v Other a h = refl
 
-pub formed-free : (v : Version) (a : Asked) {k : Kind} → k ≡ kindOf (a .tag) → looked k ≡ false → formed v a ≡ true
+pub formed-free : (v : Version) (a : Asked) {k : Kind} → k ≡ tagKind (a .tag) → looked k ≡ false → formed v a ≡ true
 formed-free v a {k} e h = formed-by v a ∙ ap (λ (x : Kind). formedBy v x a) (sym e) ∙ free-by v k a h

@@ -28,5 +28,5 @@ ofKind named.Reserved t = Reserved
 ofKind Free t = cond (same t (octets "QTY")) Qty (cond (same t (octets "CNT")) Cnt Other)
 
 -- by the grammar's table of tags; of the others QTY and CNT have rules of their own
-abbrev pub kindOf : List ℕ → Kind
-kindOf t = ofKind (kindIn tags t) t
+abbrev pub tagKind : List ℕ → Kind
+tagKind t = ofKind (kindIn tags t) t

@@ -28,7 +28,7 @@ ghost use Rattle.grammar.specs.Loads.{controlUnit, controlBy};
 ghost use Rattle.grammar.specs.Elements as checked;
 ghost use Rattle.grammar.specs.Elements.{inRange, formedAs, formedRow, row, valueRow, formed, dateDigits};
 ghost use Rattle.elements.specs.Octets.{textAt, askedAt};
-ghost use Rattle.elements.specs.Kinds.{kindOf};
+ghost use Rattle.elements.specs.Kinds.{tagKind};
 ghost use Rattle.elements.specs.Fields.{Marked, Fields};
 ghost use Rattle.elements.specs.Formed.{controlOf, looked};
 
@@ -48,7 +48,7 @@ fn filled(x: &[u8], release: u8) -> bool
 
 // Whether the content has so many octets: no more than `x`. They are counted only where a glance does not settle it.
 fn sized(x: &[u8], release: u8, least: usize, most: usize) -> bool
-    ensures { λ r. ⌜ r ≡ inRange (checked.text least most) (content release (now (x .entry))) ⌝ }
+    ensures { λ r. ⌜ r ≡ inRange (checked.anyText least most) (content release (now (x .entry))) ⌝ }
 {
     if x.len() <= most {
         if least == 0 {
@@ -145,7 +145,7 @@ fn composite(
 ) -> bool
     requires { ⌜ Marked (y .service) (now s) at (now marks) ⌝ }
     requires { ⌜ (1 ≤ p) × (p ≤ 5) ⌝ }
-    ensures { λ r. ⌜ r ≡ formedAs (checked.composite (checked.text least most ∷ [])) (askedAt (y .service) (now (s .entry)) at) p ⌝ }
+    ensures { λ r. ⌜ r ≡ formedAs (checked.composite (checked.anyText least most ∷ [])) (askedAt (y .service) (now (s .entry)) at) p ⌝ }
 {
     if repeated(s, at, y, marks, p) {
         return false;
@@ -165,7 +165,7 @@ fn single(
 ) -> bool
     requires { ⌜ Marked (y .service) (now s) at (now marks) ⌝ }
     requires { ⌜ (1 ≤ p) × (p ≤ 5) ⌝ }
-    ensures { λ r. ⌜ r ≡ formedAs (checked.closed (checked.text least most ∷ [])) (askedAt (y .service) (now (s .entry)) at) p ⌝ }
+    ensures { λ r. ⌜ r ≡ formedAs (checked.simple (checked.anyText least most ∷ [])) (askedAt (y .service) (now (s .entry)) at) p ⌝ }
 {
     if composite(s, at, y, marks, p, least, most) {
         return parts(s, at, y, marks, p) <= 1;
@@ -184,7 +184,7 @@ fn single_digits(
 ) -> bool
     requires { ⌜ Marked (y .service) (now s) at (now marks) ⌝ }
     requires { ⌜ (1 ≤ p) × (p ≤ 5) ⌝ }
-    ensures { λ r. ⌜ r ≡ formedAs (checked.closed (checked.digits least most ∷ [])) (askedAt (y .service) (now (s .entry)) at) p ⌝ }
+    ensures { λ r. ⌜ r ≡ formedAs (checked.simple (checked.digits least most ∷ [])) (askedAt (y .service) (now (s .entry)) at) p ⌝ }
 {
     if repeated(s, at, y, marks, p) {
         return false;
@@ -210,7 +210,7 @@ fn value_formed(s: &[u8], at: usize, y: Syntax, marks: &[usize], p: usize) -> bo
 // 0001 1.. : 0002 1..
 fn syntax_formed(s: &[u8], at: usize, y: Syntax, marks: &[usize]) -> bool
     requires { ⌜ Marked (y .service) (now s) at (now marks) ⌝ }
-    ensures { λ r. ⌜ r ≡ formedAs (checked.composite (checked.text 1 65535 ∷ checked.text 1 65535 ∷ [])) (askedAt (y .service) (now (s .entry)) at) 1 ⌝ }
+    ensures { λ r. ⌜ r ≡ formedAs (checked.composite (checked.anyText 1 65535 ∷ checked.anyText 1 65535 ∷ [])) (askedAt (y .service) (now (s .entry)) at) 1 ⌝ }
 {
     if composite(s, at, y, marks, 1, 1, 65535) {
         return text(s, at, y, marks, 1, 1, 1, 65535);
@@ -361,7 +361,7 @@ fn cnt_formed(s: &[u8], at: usize, y: Syntax, marks: &[usize], f: Shape) -> bool
 // Whether the checked elements of a segment of kind `k` are there and well formed. Of a kind that is not looked into the fields need not be noted.
 pub fn is_formed(s: &[u8], at: usize, y: Syntax, marks: &[usize], f: Shape, k: Kind) -> bool
     requires { ⌜ (looked k ≡ true → Fields (y .service) (now s) at (f .size) (f .repeats) (now marks)) ⌝ }
-    requires { ⌜ k ≡ kindOf (slice at (at + 3) (now s)) ⌝ }
+    requires { ⌜ k ≡ tagKind (slice at (at + 3) (now s)) ⌝ }
     ensures { λ r. ⌜ r ≡ formed (y .version) (askedAt (y .service) (now (s .entry)) at) ⌝ }
 {
     match k {

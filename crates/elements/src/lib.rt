@@ -5,7 +5,7 @@ pub mod formed;
 
 ghost use mathlib.Core.Path.{_≡_};
 ghost use mathlib.Core.List.{[], _∷_};
-ghost use Rattle.elements.specs.Kinds.{kindOf};
+ghost use Rattle.elements.specs.Kinds.{tagKind};
 
 // What a segment is, by its tag.
 pub enum Kind {
@@ -28,7 +28,7 @@ pub enum Kind {
 }
 
 fn service_kind(b: u8, c: u8) -> Kind
-    ensures { λ r. ⌜ r ≡ kindOf (85 ∷ b ∷ c ∷ []) ⌝ }
+    ensures { λ r. ⌜ r ≡ tagKind (85 ∷ b ∷ c ∷ []) ⌝ }
 {
     if b == 78 {
         return interchange_kind(c);
@@ -40,7 +40,7 @@ fn service_kind(b: u8, c: u8) -> Kind
 }
 
 fn interchange_kind(c: u8) -> Kind
-    ensures { λ r. ⌜ r ≡ kindOf (85 ∷ 78 ∷ c ∷ []) ⌝ }
+    ensures { λ r. ⌜ r ≡ tagKind (85 ∷ 78 ∷ c ∷ []) ⌝ }
 {
     if c == 72 {
         return Kind::Unh;
@@ -73,7 +73,7 @@ fn interchange_kind(c: u8) -> Kind
 }
 
 fn security_kind(c: u8) -> Kind
-    ensures { λ r. ⌜ r ≡ kindOf (85 ∷ 83 ∷ c ∷ []) ⌝ }
+    ensures { λ r. ⌜ r ≡ tagKind (85 ∷ 83 ∷ c ∷ []) ⌝ }
 {
     if c == 72 {
         return Kind::Ush;
@@ -110,7 +110,7 @@ fn security_kind(c: u8) -> Kind
 
 // The kind of a segment, from its tag: the one place where tags are told apart.
 pub fn kind_of(a: u8, b: u8, c: u8) -> Kind
-    ensures { λ r. ⌜ r ≡ kindOf (a ∷ b ∷ c ∷ []) ⌝ }
+    ensures { λ r. ⌜ r ≡ tagKind (a ∷ b ∷ c ∷ []) ⌝ }
 {
     if a == 85 {
         return service_kind(b, c);

@@ -23,7 +23,7 @@ use Rattle.syntax.specs.declared.opening.Start.{Start}
 use Rattle.syntax.specs.declared.opening.Begun.{Begun}
 use Rattle.syntax.specs.declared.opening.Begun.the-variants.{Ready as Begins, Refused as Refuses}
 use Rattle.grammar.specs.Lists.{Snoc, nil, _▷_, joined, list}
-use Rattle.grammar.specs.Segments.{Unb, Unz, Usx, seg, text, Asked, usx0020}
+use Rattle.grammar.specs.Segments.{Unb, Unz, Usx, seg, elementContent, Asked, usx0020}
 use Rattle.grammar.specs.Interchange.{Leaf, Header, Message, done, idle, shown, showHeader, showMessage, showBody}
 use Rattle.grammar.specs.Valid.{Interchange, interchange, openingIn}
 use Rattle.grammar.specs.Verdict.{Verdict, accepted, verdictOf, verdictBy, unaAt, read}
@@ -169,7 +169,7 @@ module _ (s : List ℕ) (o : Option (List ℕ)) where
             let v : verdictOf s ≡ accepted i = verdict-by s e d a in
             let b = begins s i x (sym e ∙ d) v in
             let f = stand-front (x .syntax .service) s (x .at) (nil ▷ seg Unb u) (joined showMessage ms) (stand-front (x .syntax .service) s (x .at) (shown (idle u ms)) (nil ▷ seg Unz l) (b .stands)) in
-            let n : text u 5 0 ≡ nameAt (x .syntax .service) s (x .at) 5 = sym (ap (λ (q : Asked). q .text 5 0) (stand-asked (x .syntax .service) s (x .at) (b .fits) (seg Unb u) f)) in
+            let n : elementContent u 5 0 ≡ nameAt (x .syntax .service) s (x .at) 5 = sym (ap (λ (q : Asked). q .text 5 0) (stand-asked (x .syntax .service) s (x .at) (b .fits) (seg Unb u) f)) in
             record {
               i = i;
               read = v;

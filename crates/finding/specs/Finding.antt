@@ -14,7 +14,7 @@ use Rattle.grammar.specs.Interchange.{Leaf, Open, Message, message, Reading, do
 use Rattle.grammar.specs.Named.{placed, placedAt}
 use Rattle.grammar.specs.Verdict.{read, refused}
 use Rattle.walk.specs.Runs.{answerFrom}
-use Rattle.walk.specs.Sections.{Laid}
+use Rattle.walk.specs.Sections.{PartsLie}
 use Rattle.walk.specs.declared.sections.Layout.{Layout}
 use Rattle.finding.specs.declared.Found.{Found}
 use Rattle.finding.specs.declared.Found.the-variants.{Message as Here, Missing, Refused as NotRead}
@@ -26,7 +26,7 @@ namedBy ρ s true c r = same (compared (content ρ (slice (c .reference .start) 
 
 -- of what was read, in the octets s from p on: the message with the 0062 r, where it stands and its layout; or none
 abbrev pub SeeksBy : Found → Service → List ℕ → ℕ → Reading → List ℕ → List ℕ → Type 0
-SeeksBy (Here c) σ s p z r rows = (o : Open) × (t : Leaf) × (q : ℕ) × ((placedAt σ p z r ≡ some (placed (message o t) q)) × Laid σ s q o t c rows)
+SeeksBy (Here c) σ s p z r rows = (o : Open) × (t : Leaf) × (q : ℕ) × ((placedAt σ p z r ≡ some (placed (message o t) q)) × PartsLie σ s q o t c rows)
 SeeksBy Missing σ s p z r rows = placedAt σ p z r ≡ none
 SeeksBy (NotRead f) σ s p z r rows = ⊥
 

@@ -13,11 +13,11 @@ use Rattle.grammar.specs.Loads.{controlRight}
 
 -- a component's length, least and most: of any text, of digits, of a reference
 pub data Range : Type 0 where
-  text digits reference : ℕ → ℕ → Range
+  anyText digits reference : ℕ → ℕ → Range
 
 -- an element: its first components; whether further ones may follow. "one range for a composite means its first component"
 pub data Checked : Type 0 where
-  closed composite : List Range → Checked
+  simple composite : List Range → Checked
 
 -- no length is printed: 0074's and 0036's neighbours, 0001 and 0002. An interchange has no more octets
 abbrev pub anyLength : ℕ
@@ -30,40 +30,40 @@ dateDigits Four = 8
 
 -- 0563 1..3 : 0560 0..512, in USR and in USY
 abbrev pub valueRow : Version → Checked
-valueRow v = composite (text 1 3 ∷ text 0 512 ∷ [])
+valueRow v = composite (anyText 1 3 ∷ anyText 0 512 ∷ [])
 
 -- | segment | elements |, from the first position on: each row of the paper, then the same as a list.
 -- "Of these elements only S002, S003, 0065's composite and those shown with `:` may hold further components."
 abbrev pub row : Version → Name → List Checked
 -- | UNB | 0001 : 0002; S002 1..35; S003 1..35; date : time, digits 6 : 4 (version 3) or 8 : 4 (version 4); 0020 1..14 |
 row v Unb =
-    composite (text 1 anyLength ∷ text 1 anyLength ∷ []) ∷ composite (text 1 35 ∷ []) ∷ composite (text 1 35 ∷ [])
-    ∷ composite (digits (dateDigits v) (dateDigits v) ∷ digits 4 4 ∷ []) ∷ closed (reference 1 14 ∷ []) ∷ []
+    composite (anyText 1 anyLength ∷ anyText 1 anyLength ∷ []) ∷ composite (anyText 1 35 ∷ []) ∷ composite (anyText 1 35 ∷ [])
+    ∷ composite (digits (dateDigits v) (dateDigits v) ∷ digits 4 4 ∷ []) ∷ simple (reference 1 14 ∷ []) ∷ []
 -- | UNH | 0062 1..14; 0065 1..6 |
-row v Unh = closed (reference 1 14 ∷ []) ∷ composite (text 1 6 ∷ []) ∷ []
+row v Unh = simple (reference 1 14 ∷ []) ∷ composite (anyText 1 6 ∷ []) ∷ []
 -- | UNT | 0074 1..6 digits; 0062 |
-row v Unt = closed (digits 1 6 ∷ []) ∷ closed (reference 1 anyLength ∷ []) ∷ []
+row v Unt = simple (digits 1 6 ∷ []) ∷ simple (reference 1 anyLength ∷ []) ∷ []
 -- | UNZ | 0036 1..6 digits; 0020 |
-row v Unz = closed (digits 1 6 ∷ []) ∷ closed (reference 1 anyLength ∷ []) ∷ []
+row v Unz = simple (digits 1 6 ∷ []) ∷ simple (reference 1 anyLength ∷ []) ∷ []
 -- | USH | 0501 1..3; 0534 1..14; 0541 1..3; 0503 0..3; 0505 0..3 |
-row v Ush = closed (text 1 3 ∷ []) ∷ closed (reference 1 14 ∷ []) ∷ closed (text 1 3 ∷ []) ∷ closed (text 0 3 ∷ []) ∷ closed (text 0 3 ∷ []) ∷ []
+row v Ush = simple (anyText 1 3 ∷ []) ∷ simple (reference 1 14 ∷ []) ∷ simple (anyText 1 3 ∷ []) ∷ simple (anyText 0 3 ∷ []) ∷ simple (anyText 0 3 ∷ []) ∷ []
 -- USA and USC have no row: "the rest is only read as octets"
 row v Usa = []
 row v Usc = []
 -- | USR | 0563 1..3 : 0560 0..512 |
 row v Usr = valueRow v ∷ []
 -- | UST | 0534 1..14; 0588 1..6 digits |
-row v Ust = closed (reference 1 14 ∷ []) ∷ closed (digits 1 6 ∷ []) ∷ []
+row v Ust = simple (reference 1 14 ∷ []) ∷ simple (digits 1 6 ∷ []) ∷ []
 -- | USB | 0503 1..3 |
-row v Usb = closed (text 1 3 ∷ []) ∷ []
+row v Usb = simple (anyText 1 3 ∷ []) ∷ []
 -- | USX | 0020 1..14 |
-row v Usx = closed (reference 1 14 ∷ []) ∷ []
+row v Usx = simple (reference 1 14 ∷ []) ∷ []
 -- | USY | 0534 1..14; 0563 1..3 : 0560 0..512 |
-row v Usy = closed (reference 1 14 ∷ []) ∷ valueRow v ∷ []
+row v Usy = simple (reference 1 14 ∷ []) ∷ valueRow v ∷ []
 
 -- "lengths of content"; absent is empty
 abbrev pub inRange : Range → List ℕ → Bool
-inRange (text a e) s = within a e (length s)
+inRange (anyText a e) s = within a e (length s)
 inRange (reference a e) s = within a e (length s)
 inRange (digits a e) s = allDigits s && within a e (length s)
 
@@ -74,7 +74,7 @@ inRanges (r ∷ rs) a p c = inRange r (a .text p c) && inRanges rs a p (suc c)
 
 -- "Only here, and in QTY and CNT, may nothing repeat."
 abbrev pub formedAs : Checked → Asked → ℕ → Bool
-formedAs (closed rs) a p = not (a .repeated p) && inRanges rs a p 0 && leb (a .parts p) (length rs)
+formedAs (simple rs) a p = not (a .repeated p) && inRanges rs a p 0 && leb (a .parts p) (length rs)
 formedAs (composite rs) a p = not (a .repeated p) && inRanges rs a p 0
 
 -- the elements from position p on; behind the row's, "the rest is only read as octets"

@@ -18,7 +18,7 @@ use Rattle.grammar.specs.Segments.{withTag}
 use Rattle.grammar.specs.Interchange.{Leaf, plain, msg, message}
 use Rattle.grammar.specs.Rules as rules
 use Rattle.grammar.specs.RuleLaws.{check-holds}
-use Rattle.grammar.specs.Valid.{Interchange, interchange, reading, print, Valid}
+use Rattle.grammar.specs.Valid.{Interchange, interchange, reading, printInterchange, Valid}
 
 -- ---- elements from quoted texts, in which nothing is released
 
@@ -72,7 +72,7 @@ abbrev pub syntax-P : Syntax
 syntax-P = record { version = Four; level = C; service = standard }
 
 -- the octets of the tree are P
-pub tree-prints : print tree-P ≡ P
+pub tree-prints : printInterchange tree-P ≡ P
 tree-prints = refl
 
 -- the tree is valid

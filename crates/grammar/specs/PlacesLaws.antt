@@ -10,7 +10,7 @@ use Rattle.syntax.specs.Tree.{Segment, printS, print}
 use Rattle.syntax.specs.TreeLaws.{print-cons}
 use Rattle.syntax.specs.declared.Service.{Service}
 use Rattle.grammar.specs.Lists.{Snoc, nil, _▷_, map, _+++_, list}
-use Rattle.grammar.specs.Segments.{Name, Unb, Unh, Unt, Unz, Ush, Usa, Usc, Usr, Ust, Usb, Usx, Usy, Kind, Named, Reserved, Free, elementsOf, kindOf, seg}
+use Rattle.grammar.specs.Segments.{Name, Unb, Unh, Unt, Unz, Ush, Usa, Usc, Usr, Ust, Usb, Usx, Usy, Kind, Named, Reserved, Free, elementsOf, segmentKind, seg}
 use Rattle.grammar.specs.Interchange.{Leaf, certificate, Header, header, trailer, link, Body, plain, ack, Open, msg, Message, Reading, start, idle, busy, done, showHeader, showBody}
 use Rattle.grammar.specs.Placing.{usaH, uscH, usrH, lastly, inHeaders, inBody, usbB, usxB, usyB, itemB, usrO, ustO, inOpen, growNamed, grow, place}
 use Rattle.grammar.specs.PlacingLaws.{kind-named}
@@ -162,7 +162,7 @@ named-goes Usb g x = in-open (in-body (usb-b g)) x
 named-goes Usx g x = in-open (in-body (usx-b g)) x
 named-goes Usy g x = in-open (in-body (usy-b g)) x
 
-kind-goes : (k : Kind) (g : Segment) (x : Reading) → kindOf g ≡ k → MayGo g x (grow k g x)
+kind-goes : (k : Kind) (g : Segment) (x : Reading) → segmentKind g ≡ k → MayGo g x (grow k g x)
 kind-goes (Named n) g x e = subst (λ (f : Segment). MayGo f x (growNamed n (elementsOf g) x)) (sym (kind-named g n e)) (named-goes n (elementsOf g) x)
 kind-goes Reserved g x e = nothing
 kind-goes Free g x e = in-open (in-body (item-b g)) x
@@ -173,7 +173,7 @@ goes-to {z = z} (goes {z = w} k) e = let h : w ≡ z = cc in rw h at k
 
 -- a segment that is placed goes one of these ways, and no other
 pub goes-placed : (x : Reading) (g : Segment) {z : Reading} → place x g ≡ some z → Goes g x z
-goes-placed x g e = goes-to (kind-goes (kindOf g) g x refl) e
+goes-placed x g e = goes-to (kind-goes (segmentKind g) g x refl) e
 
 module _ {g : Segment} where
   leads-goes : {x z : Reading} → Goes g x z → T (leads x z)

@@ -3,7 +3,7 @@ use mathlib.Core.List.{List}
 use mathlib.Core.Option.{Option, none, some}
 use Rattle.syntax.specs.Tree.{Segment}
 use Rattle.grammar.specs.Lists.{Snoc, nil, _▷_, map}
-use Rattle.grammar.specs.Segments.{Name, Unb, Unh, Unt, Unz, Ush, Usa, Usc, Usr, Ust, Usb, Usx, Usy, Kind, Named, Reserved, Free, kindOf, elementsOf}
+use Rattle.grammar.specs.Segments.{Name, Unb, Unh, Unt, Unz, Ush, Usa, Usc, Usr, Ust, Usb, Usx, Usy, Kind, Named, Reserved, Free, segmentKind, elementsOf}
 use Rattle.grammar.specs.Interchange.{Leaf, Certificate, certificate, Header, header, Trailer, trailer, Link, link, Body, plain, ack, Open, msg, Message, message, Reading, start, idle, busy, done}
 
 -- "USC, 0 to 3 USA, 0 or 1 USR": no USA after the USR, and no second USR
@@ -134,4 +134,4 @@ grow Reserved g x = none
 grow Free g x = inOpen (inBody (itemB g)) x
 
 abbrev pub place : Reading → Segment → Option Reading
-place x g = grow (kindOf g) g x
+place x g = grow (segmentKind g) g x

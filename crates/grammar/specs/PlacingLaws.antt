@@ -12,7 +12,7 @@ use Rattle.syntax.specs.Tree.{Segment, segment}
 use Rattle.syntax.specs.TreeLaws.{and-left, and-right}
 use Rattle.syntax.specs.declared.Version.{Version}
 use Rattle.grammar.specs.Lists.{Snoc, nil, _▷_, map, _+++_, joined, size, Rule, holds, every}
-use Rattle.grammar.specs.Segments.{Name, Unb, Unh, Unt, Unz, Ush, Usa, Usc, Usr, Ust, Usb, Usx, Usy, Kind, Named, Reserved, Free, Entry, entry, tags, kindIn, elementsOf, kindOf, textOf, withTag, seg}
+use Rattle.grammar.specs.Segments.{Name, Unb, Unh, Unt, Unz, Ush, Usa, Usc, Usr, Ust, Usb, Usx, Usy, Kind, Named, Reserved, Free, Entry, entry, tags, kindIn, elementsOf, segmentKind, textOf, withTag, seg}
 use Rattle.grammar.specs.Interchange.{Leaf, Certificate, certificate, Header, header, Trailer, trailer, Link, link, Body, plain, ack, Open, msg, Message, message, Reading, start, idle, busy, done, showCertificate, showHeader, showTrailer, showLink, showBody, showOpen, showMessage, shown}
 use Rattle.grammar.specs.Rules.{order, refs, counts, scopes, autack, isFree, okItem, okBody, okTrailers, whole, filled, firm}
 use Rattle.grammar.specs.Placing.{usaC, usrC, usaH, uscH, usrH, lastly, usrT, usyL, inHeaders, inBody, usbB, usxB, usyB, itemB, usrO, ustO, inOpen, begun, opened, closed, ended, growNamed, grow, place}
@@ -36,7 +36,7 @@ tagRight (entry u (Named n)) = same u (textOf n)
 tagRight (entry u Reserved) = true
 tagRight (entry u Free) = true
 
-tags-right : T (octets.every tagRight tags)
+tags-right : T (octets.allPass tagRight tags)
 tags-right = tt
 
 named-entry : (u t : List ℕ) (n : Name) (k : Kind) → T (tagRight (entry u k)) → t ≡ u → k ≡ Named n → t ≡ textOf n
@@ -44,10 +44,10 @@ named-entry u t n (Named m) h e q = let d : m ≡ n = cc in e ∙ same-eq u (tex
 named-entry u t n Reserved h e q = cc
 named-entry u t n Free h e q = cc
 
-kind-in : (l : List Entry) (t : List ℕ) (n : Name) → T (octets.every tagRight l) → kindIn l t ≡ Named n → t ≡ textOf n
+kind-in : (l : List Entry) (t : List ℕ) (n : Name) → T (octets.allPass tagRight l) → kindIn l t ≡ Named n → t ≡ textOf n
 kind-in [] t n h e = cc
 kind-in (entry u k ∷ r) t n h e =
-    by (same t u) (same-eq t u) (and-left (tagRight (entry u k)) (octets.every tagRight r) h) (kind-in r t n (and-right (tagRight (entry u k)) (octets.every tagRight r) h)) e
+    by (same t u) (same-eq t u) (and-left (tagRight (entry u k)) (octets.allPass tagRight r) h) (kind-in r t n (and-right (tagRight (entry u k)) (octets.allPass tagRight r) h)) e
   where
     by : (b : Bool) → (T b → t ≡ u) → T (tagRight (entry u k)) → (kindIn r t ≡ Named n → t ≡ textOf n) → cond b k (kindIn r t) ≡ Named n → t ≡ textOf n
     by true f h ih e = named-entry u t n k h (f tt) e
@@ -58,7 +58,7 @@ pub tag-named : (t : List ℕ) (n : Name) → kindIn tags t ≡ Named n → t �
 tag-named t n e = kind-in tags t n tags-right e
 
 -- a segment of a name is its elements behind that name's tag
-pub kind-named : (g : Segment) (n : Name) → kindOf g ≡ Named n → g ≡ seg n (elementsOf g)
+pub kind-named : (g : Segment) (n : Name) → segmentKind g ≡ Named n → g ≡ seg n (elementsOf g)
 kind-named (segment a b c es) n e = ap (λ (t : List ℕ). withTag t es) (kind-in tags (a ∷ b ∷ c ∷ []) n tags-right e)
 
 -- ---- what is placed is shown last: where a part may grow to r, it then shows one segment more
@@ -187,7 +187,7 @@ placed-named Usy g x = in-open (in-body (usy-b g)) x
 placed-named Unt g x = closed-x g x
 placed-named Unz g x = ended-x g x
 
-placed-as : (k : Kind) (g : Segment) (x : Reading) → kindOf g ≡ k → Adds shown (shown x) g (grow k g x)
+placed-as : (k : Kind) (g : Segment) (x : Reading) → segmentKind g ≡ k → Adds shown (shown x) g (grow k g x)
 placed-as (Named n) g x e =
     subst (λ (f : Segment). Adds shown (shown x) f (growNamed n (elementsOf g) x)) (sym (kind-named g n e)) (placed-named n (elementsOf g) x)
 placed-as Reserved g x e = nothing
@@ -199,7 +199,7 @@ adds-eq {z = z} (adds {a = a} q) e = let h : a ≡ z = cc in rw h at q
 
 -- a segment that is placed is shown last
 pub shows : (x : Reading) (g : Segment) {z : Reading} → place x g ≡ some z → shown z ≡ shown x ▷ g
-shows x g e = adds-eq (placed-as (kindOf g) g x refl) e
+shows x g e = adds-eq (placed-as (segmentKind g) g x refl) e
 
 -- ---- the last segment taken off again
 
@@ -212,7 +212,7 @@ abbrev pub LastFree : Reading → Type 0
 LastFree start = Unit {0}
 LastFree (idle u ms) = Unit {0}
 LastFree (busy u ms (msg h hs (plain nil) nil)) = Unit {0}
-LastFree (busy u ms (msg h hs (plain (b ▷ i)) nil)) = T (isFree (kindOf i))
+LastFree (busy u ms (msg h hs (plain (b ▷ i)) nil)) = T (isFree (segmentKind i))
 LastFree (busy u ms (msg h hs (ack c ls) nil)) = Unit {0}
 LastFree (busy u ms (msg h hs b (ts ▷ t))) = Unit {0}
 LastFree (done u ms z) = Unit {0}
@@ -233,9 +233,9 @@ free-kind Reserved h = absurd h
 free-kind Free h = refl
 
 -- a segment that may stand in a body is put last in it
-pub placed-item : (u : Leaf) (ms : Snoc Message) (h : Leaf) (hs : Snoc Header) (b : Snoc Segment) (i : Segment) → T (isFree (kindOf i))
+pub placed-item : (u : Leaf) (ms : Snoc Message) (h : Leaf) (hs : Snoc Header) (b : Snoc Segment) (i : Segment) → T (isFree (segmentKind i))
     → place (busy u ms (msg h hs (plain b) nil)) i ≡ some (busy u ms (msg h hs (plain (b ▷ i)) nil))
-placed-item u ms h hs b i f = ap (λ (k : Kind). grow k i (busy u ms (msg h hs (plain b) nil))) (free-kind (kindOf i) f)
+placed-item u ms h hs b i f = ap (λ (k : Kind). grow k i (busy u ms (msg h hs (plain b) nil))) (free-kind (segmentKind i) f)
 
 -- each reading but the first is what placing its last segment gives
 abbrev pub back : (z : Reading) → LastFree z → Back z

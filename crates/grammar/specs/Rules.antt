@@ -16,7 +16,7 @@ use Rattle.grammar.specs.declared.Subset.{Subset}
 use Rattle.grammar.specs.declared.Subset.the-variants.{None, F01}
 use Rattle.grammar.specs.Lists.{Snoc, nil, _▷_, each, joined, size, any, among, Rule, always, test, _and_, every, few, distinct}
 use Rattle.grammar.specs.Grams.{Grams, sameGrams, sum}
-use Rattle.grammar.specs.Segments.{Kind, Named, Reserved, Free, kindOf, asked, unb0020, unh0062, unh0065, unt0074, unt0062, unz0036, unz0020, ush0534, ush0541, ust0534, ust0588, usy0534}
+use Rattle.grammar.specs.Segments.{Kind, Named, Reserved, Free, segmentKind, asked, unb0020, unh0062, unh0065, unt0074, unt0062, unz0036, unz0020, ush0534, ush0541, ust0534, ust0588, usy0534}
 use Rattle.grammar.specs.Interchange.{Leaf, Certificate, certificate, Header, header, Trailer, trailer, Link, link, Body, plain, ack, Open, msg, Message, message, Reading, start, idle, busy, done, showHeader, showTrailer, showMessage, shown}
 use Rattle.grammar.specs.Elements.{inRange, digits, formed}
 use Rattle.grammar.specs.Loads.{loads, controls, loadRight}
@@ -68,7 +68,7 @@ isFree Reserved = false
 isFree Free = true
 
 abbrev pub okItem : Segment → Rule
-okItem g = test (isFree (kindOf g))
+okItem g = test (isFree (segmentKind g))
 
 -- "A message of type AUTACK has at least one header; its body is USB, then one or more times (USX, one or more USY)."
 abbrev pub okBody : Bool → Snoc Header → Body → Rule

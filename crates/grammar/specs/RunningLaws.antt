@@ -5,7 +5,7 @@ use mathlib.Core.Path.{_≡_, refl, ap, _∙_, sym, subst}
 use Rattle.syntax.specs.Tree.{Segment}
 use Rattle.syntax.specs.declared.Syntax.{Syntax}
 use Rattle.grammar.specs.Lists.{Snoc, nil, _▷_, list, Rule, holds, every}
-use Rattle.grammar.specs.Segments.{Name, Unb, Unh, Unt, Unz, Ush, Usa, Usc, Usr, Ust, Usb, Usx, Usy, Kind, Named, Reserved, Free, kindOf, elementsOf}
+use Rattle.grammar.specs.Segments.{Name, Unb, Unh, Unt, Unz, Ush, Usa, Usc, Usr, Ust, Usb, Usx, Usy, Kind, Named, Reserved, Free, segmentKind, elementsOf}
 use Rattle.grammar.specs.Interchange.{Leaf, Message, Reading, start, done, shown}
 use Rattle.grammar.specs.Rules.{insideS, inside, order, formedS, wellFormed, refs, counts, scopes, amountS, amounts}
 use Rattle.grammar.specs.Placing.{growNamed, grow, place}
@@ -126,7 +126,7 @@ runs-one y r s = runs-same r s
 
 -- a whole interchange takes no further segment
 pub done-stops : (u : Leaf) (ms : Snoc Message) (z : Leaf) (g : Segment) → place (done u ms z) g ≡ none
-done-stops u ms z g = by (kindOf g)
+done-stops u ms z g = by (segmentKind g)
   where
     named : (n : Name) → growNamed n (elementsOf g) (done u ms z) ≡ none
     named Unb = refl

@@ -41,8 +41,8 @@ tagText (segment a b c es) = a ∷ b ∷ c ∷ []
 abbrev pub elementsOf : Segment → List Element
 elementsOf (segment a b c es) = es
 
-abbrev pub kindOf : Segment → Kind
-kindOf g = kindIn tags (tagText g)
+abbrev pub segmentKind : Segment → Kind
+segmentKind g = kindIn tags (tagText g)
 
 -- the tag of a name, and a segment so tagged
 abbrev pub textOf : Name → List ℕ
@@ -74,84 +74,84 @@ abbrev pub elementAt : List Element → ℕ → Option Element
 elementAt es zero = none
 elementAt es (suc p) = getElem? es p
 
-abbrev pub text : List Element → ℕ → ℕ → List ℕ
-text es p c = contentOf (componentOf (elementAt es p) c)
+abbrev pub elementContent : List Element → ℕ → ℕ → List ℕ
+elementContent es p c = contentOf (componentOf (elementAt es p) c)
 
 -- the number that an element's digits give
 abbrev pub number : List Element → ℕ → ℕ
-number es p = valueFrom 0 (text es p 0)
+number es p = valueFrom 0 (elementContent es p 0)
 
 -- ---- elements by their numbers. A reference, 0020, 0062 or 0534, is given as it is compared; as it is written, for what is printed, it ends in `Text`
 
 -- UNB
 abbrev pub unb0001 : List Element → List ℕ
-unb0001 es = text es 1 0
+unb0001 es = elementContent es 1 0
 
 abbrev pub unb0002 : List Element → List ℕ
-unb0002 es = text es 1 1
+unb0002 es = elementContent es 1 1
 
 abbrev pub unb0020Text : List Element → List ℕ
-unb0020Text es = text es 5 0
+unb0020Text es = elementContent es 5 0
 
 abbrev pub unb0020 : List Element → List ℕ
 unb0020 es = compared (unb0020Text es)
 
 -- UNH
 abbrev pub unh0062Text : List Element → List ℕ
-unh0062Text es = text es 1 0
+unh0062Text es = elementContent es 1 0
 
 abbrev pub unh0062 : List Element → List ℕ
 unh0062 es = compared (unh0062Text es)
 
 abbrev pub unh0065 : List Element → List ℕ
-unh0065 es = text es 2 0
+unh0065 es = elementContent es 2 0
 
 -- UNT
 abbrev pub unt0074 : List Element → ℕ
 unt0074 es = number es 1
 
 abbrev pub unt0062 : List Element → List ℕ
-unt0062 es = compared (text es 2 0)
+unt0062 es = compared (elementContent es 2 0)
 
 -- UNZ
 abbrev pub unz0036 : List Element → ℕ
 unz0036 es = number es 1
 
 abbrev pub unz0020 : List Element → List ℕ
-unz0020 es = compared (text es 2 0)
+unz0020 es = compared (elementContent es 2 0)
 
 -- USH
 abbrev pub ush0534Text : List Element → List ℕ
-ush0534Text es = text es 2 0
+ush0534Text es = elementContent es 2 0
 
 abbrev pub ush0534 : List Element → List ℕ
 ush0534 es = compared (ush0534Text es)
 
 abbrev pub ush0541 : List Element → List ℕ
-ush0541 es = text es 3 0
+ush0541 es = elementContent es 3 0
 
 abbrev pub ush0505 : List Element → List ℕ
-ush0505 es = text es 5 0
+ush0505 es = elementContent es 5 0
 
 -- UST
 abbrev pub ust0534 : List Element → List ℕ
-ust0534 es = compared (text es 1 0)
+ust0534 es = compared (elementContent es 1 0)
 
 abbrev pub ust0588 : List Element → List ℕ
-ust0588 es = text es 2 0
+ust0588 es = elementContent es 2 0
 
 -- USR, USX, USY
 abbrev pub usr0560 : List Element → List ℕ
-usr0560 es = text es 1 1
+usr0560 es = elementContent es 1 1
 
 abbrev pub usx0020 : List Element → List ℕ
-usx0020 es = compared (text es 1 0)
+usx0020 es = compared (elementContent es 1 0)
 
 abbrev pub usy0534 : List Element → List ℕ
-usy0534 es = compared (text es 1 0)
+usy0534 es = compared (elementContent es 1 0)
 
 abbrev pub usy0560 : List Element → List ℕ
-usy0560 es = text es 2 1
+usy0560 es = elementContent es 2 1
 
 -- ---- all that the rules on single segments ask of a segment: its tag, how many elements it has, and of the element at a position the content of a
 -- component, how many components there are, and whether it repeats; and whether anything repeats
@@ -168,7 +168,7 @@ abbrev pub asked : Segment → Asked
 asked g = record {
   tag = tagText g;
   size = length (elementsOf g);
-  text = text (elementsOf g);
+  text = elementContent (elementsOf g);
   parts = λ p. countOf (elementAt (elementsOf g) p);
   repeated = λ p. repeatsOf (elementAt (elementsOf g) p);
   anyRepeated = anyRepeatsIn (elementsOf g);

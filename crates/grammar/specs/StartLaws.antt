@@ -40,11 +40,11 @@ use Rattle.syntax.specs.declared.opening.Start.{Start}
 use Rattle.syntax.specs.declared.opening.Begun.{Begun}
 use Rattle.syntax.specs.declared.opening.Begun.the-variants.{Ready, Refused}
 use Rattle.grammar.specs.Lists.{Snoc, nil, _▷_, _+++_, joined, list, Rule, holds, every}
-use Rattle.grammar.specs.Segments.{asked, Unb, Unz, seg, elementAt, text}
+use Rattle.grammar.specs.Segments.{asked, Unb, Unz, seg, elementAt, elementContent}
 use Rattle.grammar.specs.Interchange.{Leaf, Message, done, shown, showMessage}
 use Rattle.grammar.specs.Elements.{formed}
 use Rattle.grammar.specs.Rules.{formedS}
-use Rattle.grammar.specs.Valid.{Una, una, Interchange, interchange, segments, openingIn, begunIn, readied, syntaxIn, printUna, unaOf, inForce, print, unaRight, Valid}
+use Rattle.grammar.specs.Valid.{Una, una, Interchange, interchange, segments, openingIn, begunIn, readied, syntaxIn, printUna, unaOf, inForce, printInterchange, unaRight, Valid}
 use Rattle.grammar.specs.Verdict.{unaAt}
 use Rattle.grammar.specs.TestLaws.{is-true, passes}
 
@@ -137,7 +137,7 @@ first-same σ s a h k c = component-same c (element-same (pieces-same σ (drop a
 
 -- 0001 and 0002 of a printed UNB, read with no repetition in force, are those of the tree
 pub names-same : (σ : Service) → T (fit σ) → (s : List ℕ) (a : ℕ) (u : Leaf) (r : List ℕ) → T (well σ (seg Unb u ∷ [])) → drop a s ≡ printS σ (seg Unb u) ++ r →
-    repeatsOf (elementAt u 1) ≡ false → (c : ℕ) → content (σ .release) (partOf s (componentAt (withoutRepetition σ) s a 1 c)) ≡ text u 1 c
+    repeatsOf (elementAt u 1) ≡ false → (c : ℕ) → content (σ .release) (partOf s (componentAt (withoutRepetition σ) s a 1 c)) ≡ elementContent u 1 c
 names-same σ f s a u r w d e c =
     let b : Agrees σ s a (seg Unb u) = bridge σ f s a (seg Unb u) r w d in
     ap (λ (x : Span). content (σ .release) (partOf s x)) (first-same σ s a (b .element-repeats 0) (b .element-repeats 1 ∙ e) c)
@@ -230,13 +230,13 @@ abbrev nameAt : Service → List ℕ → ℕ → ℕ → List ℕ
 nameAt σ s a c = content (σ .release) (partOf s (componentAt σ s a 1 c))
 
 names-alike : (σ τ : Service) → withoutRepetition σ ≡ withoutRepetition τ → T (fit σ) → (s : List ℕ) (a : ℕ) (u : Leaf) (r : List ℕ) → T (well σ (seg Unb u ∷ [])) →
-    drop a s ≡ printS σ (seg Unb u) ++ r → repeatsOf (elementAt u 1) ≡ false → (c : ℕ) → nameAt (withoutRepetition τ) s a c ≡ text u 1 c
+    drop a s ≡ printS σ (seg Unb u) ++ r → repeatsOf (elementAt u 1) ≡ false → (c : ℕ) → nameAt (withoutRepetition τ) s a c ≡ elementContent u 1 c
 names-alike σ τ q f s a u r w d e c = ap (λ (x : Service). nameAt x s a c) (sym q) ∙ names-same σ f s a u r w d e c
 
 -- σ is in force, o is what was known before UNB
 begun-print : (s : List ℕ) (o : Opening) (σ : Service) → withoutRepetition σ ≡ withoutRepetition (o .service) → T (fit σ) → (u : Leaf) (r : List ℕ) →
     T (well σ (seg Unb u ∷ [])) → drop (o .at) s ≡ printS σ (seg Unb u) ++ r → repeatsOf (elementAt u 1) ≡ false →
-    begunAt s o ≡ bothNamed o (levelNamed (text u 1 0)) (versionNamed (text u 1 1))
+    begunAt s o ≡ bothNamed o (levelNamed (elementContent u 1 0)) (versionNamed (elementContent u 1 1))
 begun-print s o σ q f u r w d e =
     let b : Agrees σ s (o .at) (seg Unb u) = bridge σ f s (o .at) (seg Unb u) r w d in
     let h : endAt (withoutRepetition (o .service)) s (o .at) ≡ At (o .at + (length (printS σ (seg Unb u)) - 1)) =
@@ -269,15 +269,15 @@ module _ (n : Option Una) (u : Leaf) (ms : Snoc Message) (z : Leaf) (v : Valid (
   ready : begunIn (interchange n u ms z) ≡ Ready (record { syntax = v .y; at = openingIn n .at })
   ready =
       let w = settles in
-      w .1 ∙ ap₂ (λ (a : Syntax) (b : ℕ). Ready (record { syntax = a; at = b })) (w .2) (settled-by (openingIn n) (levelNamed (text u 1 0)) (versionNamed (text u 1 1)) (w .0) (w .1) .place)
+      w .1 ∙ ap₂ (λ (a : Syntax) (b : ℕ). Ready (record { syntax = a; at = b })) (w .2) (settled-by (openingIn n) (levelNamed (elementContent u 1 0)) (versionNamed (elementContent u 1 1)) (w .0) (w .1) .place)
 
   settles-so : Settled (openingIn n) (record { syntax = v .y; at = openingIn n .at })
-  settles-so = settled-by (openingIn n) (levelNamed (text u 1 0)) (versionNamed (text u 1 1)) (record { syntax = v .y; at = openingIn n .at }) ready
+  settles-so = settled-by (openingIn n) (levelNamed (elementContent u 1 0)) (versionNamed (elementContent u 1 1)) (record { syntax = v .y; at = openingIn n .at }) ready
 
   in-force : T (fit (v .y .service))
   in-force = settles-so .fits (fit-opening n (v .serviceRight))
 
-  printed : print (interchange n u ms z) ≡ printUna n ++ syntax.print (v .y .service) (segments (interchange n u ms z))
+  printed : printInterchange (interchange n u ms z) ≡ printUna n ++ syntax.print (v .y .service) (segments (interchange n u ms z))
   printed = ap (λ (y : Option Syntax). printUna n ++ syntax.print (inForce y) (segments (interchange n u ms z))) (v .named)
 
   -- UNB's octets, and what follows them
@@ -297,12 +297,12 @@ pub fit-in-force : (t : Interchange) (v : Valid t) → T (fit (v .y .service))
 fit-in-force (interchange n u ms z) v = in-force n u ms z v
 
 -- the UNA of what is printed, or that there is none
-pub una-printed : (t : Interchange) (v : Valid t) → unaAt (print t) ≡ unaOf t
+pub una-printed : (t : Interchange) (v : Valid t) → unaAt (printInterchange t) ≡ unaOf t
 una-printed (interchange none u ms z) v = ap unaAt (printed none u ms z v ∙ first-print none u ms z v)
 una-printed (interchange (some (una σ m)) u ms z) v = refl
 
 -- behind it stand the segments, printed under the service characters in force
-pub rest-printed : (t : Interchange) (v : Valid t) → drop (openingIn (unaOf t) .at) (print t) ≡ syntax.print (v .y .service) (segments t)
+pub rest-printed : (t : Interchange) (v : Valid t) → drop (openingIn (unaOf t) .at) (printInterchange t) ≡ syntax.print (v .y .service) (segments t)
 rest-printed (interchange none u ms z) v = printed none u ms z v
 rest-printed (interchange (some (una σ m)) u ms z) v = ap (drop 9) (printed (some (una σ m)) u ms z v)
 
@@ -310,19 +310,19 @@ readies : (σ : Service) (m : ℕ) (r : List ℕ) → T (fit σ) → readUna (pr
 readies σ m r h = rw (le-ltb (length (printUna (some (una σ m)) ++ r)) 9 (omega arith), is-true (fit σ) h)
 
 -- what is known before UNB is what the tree says
-pub opening-printed : (t : Interchange) (v : Valid t) → openingOf (print t) ≡ Known (openingIn (unaOf t))
+pub opening-printed : (t : Interchange) (v : Valid t) → openingOf (printInterchange t) ≡ Known (openingIn (unaOf t))
 opening-printed (interchange none u ms z) v =
-    openings (print (interchange none u ms z)) (v .octetsRight)
+    openings (printInterchange (interchange none u ms z)) (v .octetsRight)
     ∙ ap (λ (s : List ℕ). cond (startsUna s) (readUna s) (Known (openingIn none))) (printed none u ms z v ∙ first-print none u ms z v)
 opening-printed (interchange (some (una σ m)) u ms z) v =
-    openings (print (interchange (some (una σ m)) u ms z)) (v .octetsRight)
+    openings (printInterchange (interchange (some (una σ m)) u ms z)) (v .octetsRight)
     ∙ readies σ m (syntax.print (inForce (syntaxIn (interchange (some (una σ m)) u ms z))) (segments (interchange (some (una σ m)) u ms z))) (v .serviceRight)
 
 -- the start of what is printed is read as the tree's syntax, and the place behind UNA
-pub start-printed : (t : Interchange) (v : Valid t) → begunOf (print t) ≡ Ready (record { syntax = v .y; at = openingIn (unaOf t) .at })
+pub start-printed : (t : Interchange) (v : Valid t) → begunOf (printInterchange t) ≡ Ready (record { syntax = v .y; at = openingIn (unaOf t) .at })
 start-printed (interchange n u ms z) v =
-    ap (begunBy (print (interchange n u ms z))) (opening-printed (interchange n u ms z) v)
-    ∙ begun-print (print (interchange n u ms z)) (openingIn n) (v .y .service) (settles-so n u ms z v .same) (in-force n u ms z v) u
+    ap (begunBy (printInterchange (interchange n u ms z))) (opening-printed (interchange n u ms z) v)
+    ∙ begun-print (printInterchange (interchange n u ms z)) (openingIn n) (v .y .service) (settles-so n u ms z v .same) (in-force n u ms z v) u
     (syntax.print (v .y .service) (behind ms z)) (first-well n u ms z v) (rest-printed (interchange n u ms z) v ∙ first-print n u ms z v) (first-once n u ms z v)
     ∙ ready n u ms z v
 
@@ -479,6 +479,6 @@ pub syntax-read : (s : List ℕ) (x : Start) → begunOf s ≡ Ready x → (u : 
     syntaxIn (interchange (unaAt s) u ms z) ≡ some (x .syntax)
 syntax-read s x e u r w d h ms z =
     let a : StartRead s x = start-read s x e in
-    let n : (c : ℕ) → text u 1 c ≡ nameIn s (x .at) c =
+    let n : (c : ℕ) → elementContent u 1 c ≡ nameIn s (x .at) c =
     λ c. sym (names-alike (x .syntax .service) (openingIn (unaAt s) .service) (a .service) (a .fits) s (x .at) u r w d h c) in
     ap readied (ap₂ (bothNamed (openingIn (unaAt s))) (ap levelNamed (n 0)) (ap versionNamed (n 1)) ∙ a .named)

@@ -67,8 +67,8 @@ abbrev pub inForce : Option Syntax → Service
 inForce none = standard
 inForce (some y) = y .service
 
-abbrev pub print : Interchange → List ℕ
-print t = printUna (unaOf t) ++ syntax.print (inForce (syntaxIn t)) (segments t)
+abbrev pub printInterchange : Interchange → List ℕ
+printInterchange t = printUna (unaOf t) ++ syntax.print (inForce (syntaxIn t)) (segments t)
 
 -- ---- "An interchange is accepted exactly when it meets .."
 
@@ -78,7 +78,7 @@ unaRight (some (una σ m)) = fit σ
 
 pub record Valid (t : Interchange) : Type 0 where
   -- "An interchange has 1 to 65,535 octets."
-  pub octetsRight : T (within 1 65535 (length (print t)))
+  pub octetsRight : T (within 1 65535 (length (printInterchange t)))
   -- UNA: "Each of these except the decimal mark is a printable octet .., and those in force differ"
   pub serviceRight : T (unaRight (unaOf t))
   -- 0001 and 0002 are known, and "In version 3 a UNA repetition octet must be a space."

@@ -14,7 +14,7 @@ use Rattle.syntax.specs.Reader.{Chain, over, left, open′, chain, cut, before,
 use Rattle.syntax.specs.ReaderLaws.{chain-print, read-back}
 use Rattle.syntax.specs.declared.Syntax.{Syntax}
 use Rattle.grammar.specs.Lists.{Snoc, Rule, check}
-use Rattle.grammar.specs.Segments.{Unb, Unh, Unt, Unz, Ush, Usa, Usc, Usr, Ust, Usb, Usx, Usy, Kind, Named, Reserved, Free, kindOf}
+use Rattle.grammar.specs.Segments.{Unb, Unh, Unt, Unz, Ush, Usa, Usc, Usr, Ust, Usb, Usx, Usy, Kind, Named, Reserved, Free, segmentKind}
 use Rattle.grammar.specs.Interchange.{Leaf, Message, Reading, start, idle, busy, done}
 use Rattle.grammar.specs.Rules.{insideS, order, formedS, refs, counts, scopes, amountS}
 use Rattle.grammar.specs.RuleLaws.{check-holds, holds-check}

@@ -20,7 +20,7 @@ use Rattle.grammar.specs.Interchange.{Leaf, Header, header, Open, msg, Message,
 use Rattle.grammar.specs.Valid.{Interchange, interchange, syntaxIn, inForce, openingIn}
 use Rattle.grammar.specs.Verdict.{Verdict, accepted, refusedWith, verdictOf}
 use Rattle.grammar.specs.Named.{Placed, placed, placedIn}
-use Rattle.walk.specs.Sections.{Laid}
+use Rattle.walk.specs.Sections.{PartsLie}
 use Rattle.walk.specs.declared.sections.Layout.{Layout}
 use Rattle.groups.specs.Stand.{Stand}
 use Rattle.groups.specs.declared.calls.Opened.{Opened}
@@ -66,7 +66,7 @@ pub record Holds (s m : List ℕ) (y : Syntax) (c : Layout) (rows : List ℕ) : 
   pub service : serviceIn i ≡ y .service
   pub fits : T (fit (y .service))
   pub named : messageIn i m ≡ some (placed (message o t) q)
-  pub laid : Laid (y .service) s q o t c rows
+  pub laid : PartsLie (y .service) s q o t c rows
   pub stands : Stand (y .service) s q (showMessage (message o t))
   pub ordered : holds (okMessage (message o t))
   pub few : (c .headers ≤ 9) × (c .trailers ≤ 9) × (length rows ≡ 18)

@@ -16,7 +16,7 @@ use Rattle.grammar.specs.Lists.{Snoc, nil, _▷_, _+++_, each, joined, size, am
 use Rattle.grammar.specs.ListsLaws.{last-of, first-of, joined-join}
 use Rattle.grammar.specs.TestLaws.{passes}
 use Rattle.grammar.specs.PlacingLaws.{same-eq}
-use Rattle.grammar.specs.Segments.{Ush, Usa, Usr, Ust, seg, text, Asked}
+use Rattle.grammar.specs.Segments.{Ush, Usa, Usr, Ust, seg, elementContent, Asked}
 use Rattle.grammar.specs.Interchange.{Header, header, Trailer, trailer, showOption, showCertificate, showHeader, showTrailer}
 use Rattle.grammar.specs.Rules.{refH, refT}
 use Rattle.grammar.specs.Places.{wide, startsOf}
@@ -160,7 +160,7 @@ module _ (σ : Service) (fits : T (fit σ)) (s : List ℕ) (q : ℕ) where
   header-named (header c us cs) x = ap (λ (a : Asked). a .text 2 0) (stand-asked σ s q fits (seg Ush c) (header-stands (header c us cs) x c us cs refl))
 
   -- its scope code
-  pub header-scope : (c : _) (us : _) (cs : _) → Stand σ s q (showHeader (header c us cs)) → nameAt σ s q 3 ≡ text c 3 0
+  pub header-scope : (c : _) (us : _) (cs : _) → Stand σ s q (showHeader (header c us cs)) → nameAt σ s q 3 ≡ elementContent c 3 0
   header-scope c us cs x = ap (λ (a : Asked). a .text 3 0) (stand-asked σ s q fits (seg Ush c) (header-stands (header c us cs) x c us cs refl))
 
   pub trailer-named : (t : Trailer) → Stand σ s q (showTrailer t) → nameAt σ s q 1 ≡ refT t

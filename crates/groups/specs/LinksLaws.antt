@@ -20,7 +20,7 @@ use Rattle.syntax.specs.declared.Service.{Service}
 use Rattle.syntax.specs.declared.Found.{Found}
 use Rattle.syntax.specs.declared.Found.the-variants.{At as EndsAt, Nothing}
 use Rattle.grammar.specs.Lists.{Snoc, nil, _▷_, _+++_, each, joined, list, holds, every}
-use Rattle.grammar.specs.Segments.{Usb, Usx, Usy, seg, tags, kindIn, kindOf, tagText, elementsOf, asked, Asked, usy0534}
+use Rattle.grammar.specs.Segments.{Usb, Usx, Usy, seg, tags, kindIn, segmentKind, tagText, elementsOf, asked, Asked, usy0534}
 use Rattle.grammar.specs.Rules.{isFree, okItem, okBody}
 use Rattle.grammar.specs.PlacingLaws.{same-eq}
 use Rattle.grammar.specs.Interchange.{Leaf, Header, Link, link, Body, plain, ack, showLink, showBody}
@@ -245,7 +245,7 @@ ends-in σ s i {e} a b = let k = stop-in σ 5 s (lit≤ tt) i e (sym a ∙ b) in
 
 -- ---- a body that is no AUTACK's has no link
 
-free-untagged : (g : Segment) → T (isFree (kindOf g)) → isTagged g (octets "USY") ≡ false
+free-untagged : (g : Segment) → T (isFree (segmentKind g)) → isTagged g (octets "USY") ≡ false
 free-untagged g f = by (isTagged g (octets "USY")) (λ e. same-eq (tagText g) (octets "USY") (subst T (sym e) tt))
   where
     by : (b : Bool) → (b ≡ true → tagText g ≡ octets "USY") → b ≡ false

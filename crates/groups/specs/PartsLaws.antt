@@ -22,7 +22,7 @@ use Rattle.grammar.specs.PlacesLaws.{wide-join}
 use Rattle.grammar.specs.Named.{Placed, placed}
 use Rattle.message.specs.Heads.{upto}
 use Rattle.walk.specs.Layout.{headsAt, bodyAt, tailAt}
-use Rattle.walk.specs.Sections.{Laid}
+use Rattle.walk.specs.Sections.{PartsLie}
 use Rattle.walk.specs.declared.sections.Layout.{Layout}
 use Rattle.groups.specs.Stand.{Row, Stand}
 use Rattle.groups.specs.StandLaws.{stand-front, stand-back, stand-row}
@@ -93,7 +93,7 @@ module _ (σ : Service) (s : List ℕ) (q : ℕ) (h : Leaf) (hs : Snoc Header) (
 -- ---- the header and the trailer that the code finds, of a message that stands at q and has the layout c
 
 module _ (σ : Service) (fits : T (fit σ)) (s : List ℕ) (q : ℕ) (h : Leaf) (hs : Snoc Header) (b : Body) (ts : Snoc Trailer) (t : Leaf) {c : Layout} {rows : List ℕ}
-    (l : Laid σ s q (msg h hs b ts) t c rows) (w : Stand σ s q (showMessage (message (msg h hs b ts) t))) (r : List ℕ) where
+    (l : PartsLie σ s q (msg h hs b ts) t c rows) (w : Stand σ s q (showMessage (message (msg h hs b ts) t))) (r : List ℕ) where
   pub header-sought : soughtIn σ s rows 0 2 r (c .headers) (c .body) ≡ rangeOf showHeader σ (headsAt σ q (msg h hs b ts)) (chosenBy refH hs r)
   header-sought =
       ap (λ (n : ℕ). soughtIn σ s rows 0 2 r n (c .body)) (l .headers)
@@ -115,14 +115,14 @@ module _ {s m : List ℕ} {y : Syntax} {c : Layout} {rows : List ℕ} (h : Holds
   pub header-found : soughtIn (y .service) s rows 0 2 r (c .headers) (c .body) ≡ rangeOf showHeader (y .service) (headsAt (y .service) (h .q) (h .o)) (headerNamed (h .o) r)
   header-found = by (h .o) (h .laid) (h .stands)
     where
-      by : (o : Open) → Laid (y .service) s (h .q) o (h .t) c rows → Stand (y .service) s (h .q) (showMessage (message o (h .t)))
+      by : (o : Open) → PartsLie (y .service) s (h .q) o (h .t) c rows → Stand (y .service) s (h .q) (showMessage (message o (h .t)))
           → soughtIn (y .service) s rows 0 2 r (c .headers) (c .body) ≡ rangeOf showHeader (y .service) (headsAt (y .service) (h .q) o) (headerNamed o r)
       by (msg u hs b ts) l w = header-sought (y .service) (h .fits) s (h .q) u hs b ts (h .t) l w r
 
   pub trailer-found : soughtIn (y .service) s rows 9 1 r (c .trailers) (c .unt) ≡ rangeOf showTrailer (y .service) (tailAt (y .service) (h .q) (h .o)) (trailerNamed (h .o) r)
   trailer-found = by (h .o) (h .laid) (h .stands)
     where
-      by : (o : Open) → Laid (y .service) s (h .q) o (h .t) c rows → Stand (y .service) s (h .q) (showMessage (message o (h .t)))
+      by : (o : Open) → PartsLie (y .service) s (h .q) o (h .t) c rows → Stand (y .service) s (h .q) (showMessage (message o (h .t)))
           → soughtIn (y .service) s rows 9 1 r (c .trailers) (c .unt) ≡ rangeOf showTrailer (y .service) (tailAt (y .service) (h .q) o) (trailerNamed o r)
       by (msg u hs b ts) l w = trailer-sought (y .service) (h .fits) s (h .q) u hs b ts (h .t) l w r
 
@@ -148,7 +148,7 @@ module _ {s m : List ℕ} {y : Syntax} {c : Layout} {rows : List ℕ} (h : Holds
   pub body-row : Row (y .service) s (c .body) (list (showBody (bodyIn (h .o)))) (c .tail)
   body-row = by (h .o) (h .laid) (h .stands)
     where
-      by : (o : Open) → Laid (y .service) s (h .q) o (h .t) c rows → Stand (y .service) s (h .q) (showMessage (message o (h .t)))
+      by : (o : Open) → PartsLie (y .service) s (h .q) o (h .t) c rows → Stand (y .service) s (h .q) (showMessage (message o (h .t)))
           → Row (y .service) s (c .body) (list (showBody (bodyIn o))) (c .tail)
       by (msg u hs b ts) l w =
           subst (λ (i : ℕ). Row (y .service) s (c .body) (list (showBody b)) i) (sym (l .tail))
@@ -158,7 +158,7 @@ module _ {s m : List ℕ} {y : Syntax} {c : Layout} {rows : List ℕ} (h : Holds
   pub body-tied : TieAt (y .service) s (tieIn (bodyIn (h .o)) r) (linkFrom (y .service) (c .body) (c .body) (list (showBody (bodyIn (h .o)))) r)
   body-tied = by (h .o) (h .laid) (h .stands) (h .ordered)
     where
-      by : (o : Open) → Laid (y .service) s (h .q) o (h .t) c rows → Stand (y .service) s (h .q) (showMessage (message o (h .t))) → holds (okMessage (message o (h .t)))
+      by : (o : Open) → PartsLie (y .service) s (h .q) o (h .t) c rows → Stand (y .service) s (h .q) (showMessage (message o (h .t))) → holds (okMessage (message o (h .t)))
           → TieAt (y .service) s (tieIn (bodyIn o) r) (linkFrom (y .service) (c .body) (c .body) (list (showBody (bodyIn o))) r)
       by (msg u hs b ts) l w k =
           subst (λ (i : ℕ). TieAt (y .service) s (tieIn b r) (linkFrom (y .service) i i (list (showBody b)) r)) (sym (l .body))

@@ -4,7 +4,7 @@
 // anything.
 ghost use mathlib.Core.Path.{_≡_};
 ghost use Rattle.grammar.specs.Verdict.{verdictOf, numbers, totalsOf, totalNumbers};
-ghost use Rattle.judge.specs.Told.{told};
+ghost use Rattle.judge.specs.Told.{toldVerdict};
 ghost use Rattle.judge.specs.Totals.{toldTotals};
 ghost use Rattle.ranges.specs.Ranges.{scope1Of, scope2Of};
 ghost use Rattle.f01.specs.F01.{f01Of};
@@ -12,7 +12,7 @@ ghost use Rattle.ranges.specs.Told.{partNumbers, toldParts, runNumbers, toldRun
 ghost use Rattle.writing.specs.Written.{toldWritten};
 ghost use Rattle.values.specs.Values.{valueOf};
 ghost use Rattle.sealing.specs.Sealing.{sealOctetsOf, sealOf};
-ghost use Rattle.register.specs.Register.{registerOf, checkNumbers, told as toldChecked};
+ghost use Rattle.register.specs.Register.{registerOf, checkNumbers, toldCheck};
 ghost use Rattle.register.specs.declared.forms.Form.the-variants.{Old};
 ghost use Rattle.gurandepi.specs.Answers.{answerFields, totalsFields, partsFields, rangeFields, Gives, writtenFields};
 use f01::f01_places;
@@ -71,7 +71,7 @@ pub struct Written {
 }
 
 fn verdict_answer(v: Verdict) -> Answer
-    ensures { λ r. ⌜ answerFields r ≡ told v ⌝ }
+    ensures { λ r. ⌜ answerFields r ≡ toldVerdict v ⌝ }
 {
     match v {
         Verdict::Accepted => Answer {
@@ -164,7 +164,7 @@ fn written_answer(w: writing::Written) -> Written
 }
 
 fn checked_answer(c: Checked) -> Answer
-    ensures { λ r. ⌜ answerFields r ≡ toldChecked c ⌝ }
+    ensures { λ r. ⌜ answerFields r ≡ toldCheck c ⌝ }
 {
     match c {
         Checked::Same => Answer {

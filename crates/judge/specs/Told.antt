@@ -16,6 +16,6 @@ abbrev pub walkedAs : List ℕ → Answer → Verdict
 walkedAs s a = verdictAs (concluded s none a)
 
 -- the paper's number and place, 0 where there is none
-abbrev pub told : Verdict → List ℕ
-told Accepted = 0 ∷ 0 ∷ []
-told (Refused f) = f .number ∷ f .place ∷ []
+abbrev pub toldVerdict : Verdict → List ℕ
+toldVerdict Accepted = 0 ∷ 0 ∷ []
+toldVerdict (Refused f) = f .number ∷ f .place ∷ []

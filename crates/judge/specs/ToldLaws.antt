@@ -16,7 +16,7 @@ use Rattle.grammar.specs.Valid.{Una}
 use Rattle.grammar.specs.Verdict.{Answer, read, refused, Verdict as Judged, accepted, refusedWith, concluded, verdictBy, verdictOf, unaAt, numbers}
 use Rattle.walk.specs.RunLaws.{verdict-by}
 use Rattle.walk.specs.Runs.{answerFrom}
-use Rattle.judge.specs.Told.{verdictAs, walkedAs, told}
+use Rattle.judge.specs.Told.{verdictAs, walkedAs, toldVerdict}
 use Rattle.judge.specs.declared.run.Verdict.{Verdict}
 use Rattle.judge.specs.declared.run.Verdict.the-variants.{Accepted, Refused}
 
@@ -35,21 +35,21 @@ unmarked s n (read (busy u ms o)) = refl
 unmarked s n (read (done u ms z)) = refl
 unmarked s n (refused number place) = refl
 
-told-as : (v : Judged) → told (verdictAs v) ≡ numbers v
+told-as : (v : Judged) → toldVerdict (verdictAs v) ≡ numbers v
 told-as (accepted t) = refl
 told-as (refusedWith f) = refl
 
 -- what the call promises: the answer, and with it the numbers
-promised : {r : Verdict} (v : Judged) → r ≡ verdictAs v → (r ≡ verdictAs v) × (told r ≡ numbers v)
-promised v e = (e, ap told e ∙ told-as v)
+promised : {r : Verdict} (v : Judged) → r ≡ verdictAs v → (r ≡ verdictAs v) × (toldVerdict r ≡ numbers v)
+promised v e = (e, ap toldVerdict e ∙ told-as v)
 
 module _ (s : List ℕ) {g : Begun} (e : g ≡ begunOf s) where
   pub judged-unbegun : {f : Breach} {r : Refusal} → g ≡ Refuses f → r ≡ refusalAt s (f .number) (f .place)
-      → (Refused r ≡ verdictAs (verdictOf s)) × (told (Refused r) ≡ numbers (verdictOf s))
+      → (Refused r ≡ verdictAs (verdictOf s)) × (toldVerdict (Refused r) ≡ numbers (verdictOf s))
   judged-unbegun d k = promised (verdictOf s) (ap Refused k ∙ ap (λ (b : Begun). verdictAs (verdictBy s b)) (sym d ∙ e))
 
   pub judged-walked : {b : Opening} {r : Verdict} → g ≡ Begins b → r ≡ walkedAs s (answerFrom (b .syntax) s (b .at))
-      → (r ≡ verdictAs (verdictOf s)) × (told r ≡ numbers (verdictOf s))
+      → (r ≡ verdictAs (verdictOf s)) × (toldVerdict r ≡ numbers (verdictOf s))
   judged-walked {b} d q =
       promised (verdictOf s)
       (q ∙ sym (unmarked s (unaAt s) (answerFrom (b .syntax) s (b .at))) ∙ sym (ap verdictAs (verdict-by s e d refl)))

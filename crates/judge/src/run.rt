@@ -9,7 +9,7 @@ ghost use Rattle.syntax.specs.Classes.{Table};
 ghost use Rattle.syntax.specs.Reader.{chain};
 ghost use Rattle.grammar.specs.Interchange.{start};
 ghost use Rattle.grammar.specs.Verdict.{verdictOf, numbers, walk};
-ghost use Rattle.judge.specs.Told.{verdictAs, walkedAs, told};
+ghost use Rattle.judge.specs.Told.{verdictAs, walkedAs, toldVerdict};
 ghost use Rattle.walk.specs.Runs.{Fresh};
 use beginning::begin;
 use refusals::refusal;
@@ -106,7 +106,7 @@ fn run_large(s: &[u8], from: usize, t: &[u8; 256], y: Syntax) -> Verdict
 // The verdict on one interchange in lent octets: any octets of any length.
 pub fn judge(s: &[u8]) -> Verdict
     ensures { λ r. ⌜ r ≡ verdictAs (verdictOf (now (s .entry))) ⌝ }
-    ensures { λ r. ⌜ told r ≡ numbers (verdictOf (now (s .entry))) ⌝ }
+    ensures { λ r. ⌜ toldVerdict r ≡ numbers (verdictOf (now (s .entry))) ⌝ }
 {
     match begin(s) {
         Begun::Refused(f) => Verdict::Refused(refusal(s, f)),

@@ -5,36 +5,36 @@ use mathlib.Core.List.{List, [], _∷_}
 use Rattle.syntax.specs.Octets.{octets, same}
 use Rattle.syntax.specs.declared.Refusal.{Refusal}
 use Rattle.writing.specs.Decimal.{decimalOf}
-use Rattle.writing.specs.Laid.{joined}
+use Rattle.writing.specs.Laid.{together}
 
 -- "a line feed after each"
 abbrev pub feed : List ℕ
 feed = 10 ∷ []
 
 abbrev pub refusalLine : Refusal → List ℕ
-refusalLine f = joined (octets "refused " ∷ decimalOf (f .number) ∷ octets " at " ∷ decimalOf (f .place) ∷ feed ∷ [])
+refusalLine f = together (octets "refused " ∷ decimalOf (f .number) ∷ octets " at " ∷ decimalOf (f .place) ∷ feed ∷ [])
 
 abbrev pub acceptedLine : List ℕ → List ℕ
-acceptedLine reference = joined (octets "accepted " ∷ reference ∷ feed ∷ [])
+acceptedLine reference = together (octets "accepted " ∷ reference ∷ feed ∷ [])
 
 abbrev pub messageWords : List ℕ → List ℕ → List ℕ
-messageWords reference type = joined (octets "message " ∷ reference ∷ octets " " ∷ type ∷ [])
+messageWords reference type = together (octets "message " ∷ reference ∷ octets " " ∷ type ∷ [])
 
 abbrev pub loadsWords : ℕ → ℕ → List ℕ
-loadsWords loads grams = joined (octets " loads " ∷ decimalOf loads ∷ octets " grams " ∷ decimalOf grams ∷ feed ∷ [])
+loadsWords loads grams = together (octets " loads " ∷ decimalOf loads ∷ octets " grams " ∷ decimalOf grams ∷ feed ∷ [])
 
 abbrev pub messageLine : List ℕ → List ℕ → ℕ → ℕ → List ℕ
-messageLine reference type loads grams = joined (messageWords reference type ∷ loadsWords loads grams ∷ [])
+messageLine reference type loads grams = together (messageWords reference type ∷ loadsWords loads grams ∷ [])
 
 abbrev pub sealWords : List ℕ → List ℕ → List ℕ
-sealWords reference scope = joined (octets "seal " ∷ reference ∷ octets " scope " ∷ scope ∷ [])
+sealWords reference scope = together (octets "seal " ∷ reference ∷ octets " scope " ∷ scope ∷ [])
 
 abbrev pub octetsWords : ℕ → List ℕ
-octetsWords n = joined (octets " octets " ∷ decimalOf n ∷ [])
+octetsWords n = together (octets " octets " ∷ decimalOf n ∷ [])
 
 -- what a seal covers: so many octets in scope 1, so many in scope 2; "its seal lines end after F01"
 abbrev pub coveredWords : List ℕ → ℕ → ℕ → List ℕ
 coveredWords scope one two = cond (same scope (octets "1")) (octetsWords one) (cond (same scope (octets "2")) (octetsWords two) [])
 
 abbrev pub sealLine : List ℕ → List ℕ → ℕ → ℕ → List ℕ
-sealLine reference scope one two = joined (sealWords reference scope ∷ coveredWords scope one two ∷ feed ∷ [])
+sealLine reference scope one two = together (sealWords reference scope ∷ coveredWords scope one two ∷ feed ∷ [])

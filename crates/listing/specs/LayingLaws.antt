@@ -12,7 +12,7 @@ use Rattle.syntax.specs.Service.{fit}
 use Rattle.syntax.specs.declared.Service.{Service}
 use Rattle.grammar.specs.Lists.{Snoc, nil, _▷_, _+++_, joined, size, holds}
 use Rattle.grammar.specs.Grams.{sum}
-use Rattle.grammar.specs.Segments.{Unh, Unt, seg, text, Asked}
+use Rattle.grammar.specs.Segments.{Unh, Unt, seg, elementContent, Asked}
 use Rattle.grammar.specs.Interchange.{Leaf, Header, header, Trailer, Body, Open, msg, message, showHeader, showTrailer, showBody, showOpen, showMessage}
 use Rattle.grammar.specs.Rules.{refH, refO, okMessage, refsMessage}
 use Rattle.grammar.specs.Verdict.{loadsM}
@@ -22,7 +22,7 @@ use Rattle.grammar.specs.ListsLaws.{last-of, first-of}
 use Rattle.grammar.specs.PairLaws.{few-headers, few-tails}
 use Rattle.message.specs.Heads.{upto}
 use Rattle.walk.specs.Layout.{headsAt, bodyAt, tailAt}
-use Rattle.walk.specs.Sections.{Laid}
+use Rattle.walk.specs.Sections.{PartsLie}
 use Rattle.walk.specs.declared.sections.Layout.{Layout}
 use Rattle.groups.specs.Stand.{Stand}
 use Rattle.groups.specs.StandLaws.{stand-front, stand-back, stand-asked}
@@ -31,7 +31,7 @@ use Rattle.groups.specs.GroupsLaws.{header-named, header-scope}
 use Rattle.groups.specs.Parts.{trailerNamed, scopeH}
 use Rattle.groups.specs.PartsLaws.{headers-stand, trailer-sought}
 use Rattle.lines.specs.Words.{messageLine, sealLine}
-use Rattle.listing.specs.Listing.{typeO, toTrailer, sealOf, sealsOf, messageOf}
+use Rattle.listing.specs.Listing.{typeO, toTrailer, sealLineOf, sealsOf, messageOf}
 use Rattle.lines.specs.Seals.{Near, upTo, oneAt, twoAt, sealAt, sealsAt}
 use Rattle.listing.specs.Laying.{sectionAt}
 
@@ -65,7 +65,7 @@ module _ (σ : Service) (s : List ℕ) (q : ℕ) (c : Layout) (rows : List ℕ) 
   heads-within : (o : Open) → headsAt σ q o + wide σ (joined showHeader (headersIn o)) ≡ bodyAt σ q o
   heads-within (msg h hs b ts) = refl
 
-  pub near-laid : {o : Open} {t : Leaf} → Laid σ s q o t c rows → holds (okMessage (message o t)) → holds (refsMessage (message o t)) → Near c rows
+  pub near-laid : {o : Open} {t : Leaf} → PartsLie σ s q o t c rows → holds (okMessage (message o t)) → holds (refsMessage (message o t)) → Near c rows
   near-laid {o} {t} l k r =
       let h : size (headersIn o) ≤ 9 = few-headers o t k in
       let j : size (trailersIn o) ≤ size (headersIn o) = few-tails o t r in
@@ -91,7 +91,7 @@ module _ (σ : Service) (s : List ℕ) (q : ℕ) (c : Layout) (rows : List ℕ) 
 -- ---- the lines of a message that stands at q
 
 module _ (σ : Service) (fits : T (fit σ)) (s : List ℕ) (q : ℕ) (h : Leaf) (hs : Snoc Header) (b : Body) (ts : Snoc Trailer) (t : Leaf) (c : Layout) (rows : List ℕ)
-    (l : Laid σ s q (msg h hs b ts) t c rows) (w : Stand σ s q (showMessage (message (msg h hs b ts) t))) where
+    (l : PartsLie σ s q (msg h hs b ts) t c rows) (w : Stand σ s q (showMessage (message (msg h hs b ts) t))) where
   abbrev o : Open
   o = msg h hs b ts
 
@@ -104,7 +104,7 @@ module _ (σ : Service) (fits : T (fit σ)) (s : List ℕ) (q : ℕ) (h : Leaf) 
   scope-named p (header d us cs) x = header-scope σ fits s p d us cs x
 
   seal-so : (gs : Snoc Header) (g : Header) (start end : ℕ) → start ≡ headsAt σ q o + wide σ (joined showHeader gs) → end ≡ start + wide σ (showHeader g) → Stand σ s start (showHeader g)
-      → sealAt σ s rows c start end ≡ sealOf σ q o gs g
+      → sealAt σ s rows c start end ≡ sealLineOf σ q o gs g
   seal-so gs g start end e d x =
       let n : nameAt σ s start 2 ≡ refH g = header-named σ fits s start g x in
       let f : nameAt σ s start 3 ≡ scopeH g = scope-named start g x in
@@ -134,9 +134,9 @@ module _ (σ : Service) (fits : T (fit σ)) (s : List ℕ) (q : ℕ) (h : Leaf) 
       (stand-front σ s q (nil ▷ seg Unh h +++ joined showHeader hs +++ showBody b) (joined showTrailer ts)
       (stand-front σ s q (showOpen o) (nil ▷ seg Unt t) w)))
 
-  unh-named : (e : ℕ) → nameAt σ s (c .unh) (suc e) ≡ text h (suc e) 0
+  unh-named : (e : ℕ) → nameAt σ s (c .unh) (suc e) ≡ elementContent h (suc e) 0
   unh-named e =
-      let a : nameAt σ s q (suc e) ≡ text h (suc e) 0 = ap (λ (a : Asked). a .text (suc e) 0) (stand-asked σ s q fits (seg Unh h) unh-stands) in
+      let a : nameAt σ s q (suc e) ≡ elementContent h (suc e) 0 = ap (λ (a : Asked). a .text (suc e) 0) (stand-asked σ s q fits (seg Unh h) unh-stands) in
       ap (λ (i : ℕ). nameAt σ s i (suc e)) (l .unh) ∙ a
 
   lines-so : sectionAt σ s rows c true ≡ messageOf σ q (message o t)
@@ -148,6 +148,6 @@ module _ (σ : Service) (fits : T (fit σ)) (s : List ℕ) (q : ℕ) (h : Leaf) 
       ap (λ (v : List ℕ). v ++ sealsAt σ s rows c (c .headers) (c .body)) m
       ∙ ap (λ (v : List ℕ). messageLine (refO o) (typeO o) (size (loadsM (message o t))) (sum (loadsM (message o t))) ++ v) n
 
-pub section-lines : (σ : Service) → T (fit σ) → (s : List ℕ) (q : ℕ) (o : Open) (t : Leaf) (c : Layout) (rows : List ℕ) → Laid σ s q o t c rows → Stand σ s q (showMessage (message o t))
+pub section-lines : (σ : Service) → T (fit σ) → (s : List ℕ) (q : ℕ) (o : Open) (t : Leaf) (c : Layout) (rows : List ℕ) → PartsLie σ s q o t c rows → Stand σ s q (showMessage (message o t))
     → sectionAt σ s rows c true ≡ messageOf σ q (message o t)
 section-lines σ f s q (msg h hs b ts) t c rows l w = lines-so σ f s q h hs b ts t c rows l w

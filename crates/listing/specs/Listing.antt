@@ -42,14 +42,14 @@ abbrev pub toTrailer : Service → ℕ → Open → Chosen Header → Option (Ch
 toTrailer σ q o h none = 0
 toTrailer σ q o h (some t) = trailerAt σ q o t - headerAt σ q o h
 
-abbrev pub sealOf : Service → ℕ → Open → Snoc Header → Header → List ℕ
-sealOf σ q o hs h =
+abbrev pub sealLineOf : Service → ℕ → Open → Snoc Header → Header → List ℕ
+sealLineOf σ q o hs h =
     sealLine (writtenH h) (scopeH h) (wide σ (showHeader h) + wide σ (showBody (bodyIn o))) (toTrailer σ q o (chosen hs h) (trailerNamed o (refH h)))
 
 -- "Seals follow their message in header order"
 abbrev pub sealsOf : Service → ℕ → Open → Snoc Header → List ℕ
 sealsOf σ q o nil = []
-sealsOf σ q o (hs ▷ h) = sealsOf σ q o hs ++ sealOf σ q o hs h
+sealsOf σ q o (hs ▷ h) = sealsOf σ q o hs ++ sealLineOf σ q o hs h
 
 abbrev pub messageOf : Service → ℕ → Message → List ℕ
 messageOf σ q (message o t) =

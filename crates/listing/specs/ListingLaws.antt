@@ -19,7 +19,7 @@ use Rattle.syntax.specs.declared.opening.Start.{Start}
 use Rattle.syntax.specs.declared.opening.Begun.{Begun}
 use Rattle.syntax.specs.declared.opening.Begun.the-variants.{Ready as Begins, Refused as Refuses}
 use Rattle.grammar.specs.Lists.{Snoc, nil, _▷_, _+++_, joined}
-use Rattle.grammar.specs.Segments.{Unb, Unz, seg, text, Asked}
+use Rattle.grammar.specs.Segments.{Unb, Unz, seg, elementContent, Asked}
 use Rattle.grammar.specs.Interchange.{Leaf, Message, message, Reading, idle, done, shown, showOpen, showMessage}
 use Rattle.grammar.specs.Places.{wide}
 use Rattle.grammar.specs.PlacingLaws.{regroup}
@@ -145,7 +145,7 @@ reporting-on g f v n a d e k = record {
 -- ---- the end of the walk
 
 -- the reference of the UNB that stands at p
-unb-named : (σ : Service) → T (fit σ) → (s : List ℕ) (p : ℕ) (u : Leaf) (ms : Snoc Message) (z : Leaf) → Stand σ s p (shown (done u ms z)) → nameAt σ s p 5 ≡ text u 5 0
+unb-named : (σ : Service) → T (fit σ) → (s : List ℕ) (p : ℕ) (u : Leaf) (ms : Snoc Message) (z : Leaf) → Stand σ s p (shown (done u ms z)) → nameAt σ s p 5 ≡ elementContent u 5 0
 unb-named σ f s p u ms z w =
     ap (λ (a : Asked). a .text 5 0)
     (stand-asked σ s p f (seg Unb u) (stand-front σ s p (nil ▷ seg Unb u) (joined showMessage ms) (stand-front σ s p (shown (idle u ms)) (nil ▷ seg Unz z) w)))
@@ -165,7 +165,7 @@ lays-told {y} {s} {from} g k f a =
         λ w.
             laid-same
             (ap (λ (r : List ℕ). acceptedLine r ++ messagesRead (y .service) from (g .looping .walks .tree)) (unb-named (y .service) f s from (t .0) (t .1) (t .2) w)
-            ∙ ap (λ (r : Reading). acceptedLine (text (t .0) 5 0) ++ messagesRead (y .service) from r) e)
+            ∙ ap (λ (r : Reading). acceptedLine (elementContent (t .0) 5 0) ++ messagesRead (y .service) from r) e)
             (laid-more k (g .laid (subst (λ (r : Reading). Stand (y .service) s from (shown r)) (sym e) w))),
       ),
     )

@@ -13,7 +13,7 @@ use Rattle.grammar.specs.Loads.{Shape, shape, amountRight, grams, unit, loadUni
 use Rattle.syntax.specs.Content.{content}
 use Rattle.syntax.specs.Segment.{piecesAt, atElement, components, elements, componentAt, partOf}
 use Rattle.syntax.specs.declared.Service.{Service}
-use Rattle.elements.specs.Kinds.{kindOf, ofKind}
+use Rattle.elements.specs.Kinds.{tagKind, ofKind}
 use Rattle.elements.specs.Octets.{askedAt}
 use Rattle.elements.specs.Amounts.{amountIs, unitIs}
 use Rattle.elements.specs.AmountsLaws.{unit-unknown, unitless, weighs, weighs-not, weighs-below}
@@ -86,10 +86,10 @@ cnt-of (Named named.Usy) t e = cc
 cnt-of named.Reserved t e = cc
 cnt-of Free t e = cnt-free (same t (octets "QTY")) (same t (octets "CNT")) e
 
-pub qty-tag : (t : List ℕ) → kindOf t ≡ Qty → same t (octets "QTY") ≡ true
+pub qty-tag : (t : List ℕ) → tagKind t ≡ Qty → same t (octets "QTY") ≡ true
 qty-tag t e = qty-of (kindIn tags t) t e
 
-pub cnt-tag : (t : List ℕ) → kindOf t ≡ Cnt → same t (octets "CNT") ≡ true
+pub cnt-tag : (t : List ℕ) → tagKind t ≡ Cnt → same t (octets "CNT") ≡ true
 cnt-tag t e = cnt-of (kindIn tags t) t e
 
 -- ---- one segment more
@@ -156,7 +156,7 @@ module _ (a : Asked) where
       by-test true = h
       by-test false = refl
 
-  shape-load : kindOf (a .tag) ≡ Qty → a .size ≡ 1 → a .parts 1 ≡ 3 → loadShape a ≡ loadUnit (a .text 1 2)
+  shape-load : tagKind (a .tag) ≡ Qty → a .size ≡ 1 → a .parts 1 ≡ 3 → loadShape a ≡ loadUnit (a .text 1 2)
   shape-load k n p = rw (qty-tag (a .tag) k, n, p)
 
 module _ (σ : Service) (s : List ℕ) (at : ℕ) (m : Message) where
@@ -177,7 +177,7 @@ module _ (σ : Service) (s : List ℕ) (at : ℕ) (m : Message) where
         (shape-unknown (askedAt σ s at) (ap (λ (z : List ℕ). loadUnit (content (σ .release) z)) (sym e) ∙ unit-unknown (content (σ .release) x) 9 6 d f)) t
 
   -- a load: its one element has three components, the third a unit
-  module _ (kind : kindOf (askedAt σ s at .tag) ≡ Qty) {n : ℕ} (size : n ≡ elements (piecesAt σ s at)) (one : n ≡ 1)
+  module _ (kind : tagKind (askedAt σ s at .tag) ≡ Qty) {n : ℕ} (size : n ≡ elements (piecesAt σ s at)) (one : n ≡ 1)
       {p : ℕ} (parts : p ≡ components (atElement 1 (piecesAt σ s at))) (three : p ≡ 3)
       {x : List ℕ} {q : amounts.Unit} (third : x ≡ partOf s (componentAt σ s at 1 2))
       (d : q ≡ unitIs (unit (content (σ .release) x) (shape 9 3) (shape 6 6))) {g : Form} (o : q ≡ Of g)
@@ -253,7 +253,7 @@ module _ (σ : Service) (s : List ℕ) (at : ℕ) (m : Message) {b : Bool} {l : 
   cnt-plain e t = cnt-none (σ .release) s m (askedAt σ s at) (rw (first-here, not-true b e, and-false)) t
 
   -- a control total
-  module _ (kind : (kindOf (askedAt σ s at .tag) ≡ Cnt) × (controlRight (askedAt σ s at) ≡ true)) (holds : not b ≡ false)
+  module _ (kind : (tagKind (askedAt σ s at .tag) ≡ Cnt) × (controlRight (askedAt σ s at) ≡ true)) (holds : not b ≡ false)
       {x : List ℕ} {q : amounts.Unit} (third : x ≡ partOf s (componentAt σ s at 1 2))
       (d : q ≡ unitIs (unit (content (σ .release) x) (shape 12 3) (shape 9 6))) where
     control-is : isControl (askedAt σ s at) ≡ true

@@ -25,7 +25,7 @@ use Rattle.grammar.specs.declared.Subset.{Subset}
 use Rattle.grammar.specs.declared.Subset.the-variants.{None, F01}
 use Rattle.grammar.specs.Rules.{claimed, scopeCode}
 use Rattle.grammar.specs.Segments.{Unt, Unz, Ust, Asked}
-use Rattle.grammar.specs.Elements.{Range, text, digits, closed, anyLength, row, inRange, formedAs, formedRow}
+use Rattle.grammar.specs.Elements.{Range, anyText, digits, simple, anyLength, row, inRange, formedAs, formedRow}
 use Rattle.elements.specs.AmountsLaws.{digits-below, tens-below}
 use Rattle.elements.specs.Octets.{textAt, askedAt}
 use Rattle.elements.specs.Fields.{Marked, startIn, endIn}
@@ -137,7 +137,7 @@ module _ (s : List ℕ) {b : Bool} (d : b ≡ inRange (digits 1 6) s) where
 pub ush-room : (m : Message) → mayCome Ush m ≡ true → m .headers < 9
 ush-room m e = ltb-true (m .headers) 9 (and-r (atHeads (m .group)) (ltb (m .headers) 9) e)
 
-pub closed-range : (r : Range) (a : Asked) (p : ℕ) → formedAs (closed (r ∷ [])) a p ≡ true → inRange r (a .text p 0) ≡ true
+pub closed-range : (r : Range) (a : Asked) (p : ℕ) → formedAs (simple (r ∷ [])) a p ≡ true → inRange r (a .text p 0) ≡ true
 closed-range r a p e = at (a .repeated p) (inRange r (a .text p 0)) (leb (a .parts p) 1) e
   where
     at : (b c d : Bool) → (not b && (c && true) && d) ≡ true → c ≡ true
@@ -146,7 +146,7 @@ closed-range r a p e = at (a .repeated p) (inRange r (a .text p 0)) (leb (a .par
     at false false d h = h
 
 pub unt-digits : (v : Version) (a : Asked) → formedRow (row v Unt) a 1 ≡ true → inRange (digits 1 6) (a .text 1 0) ≡ true
-unt-digits v a e = closed-range (digits 1 6) a 1 (and-l (formedAs (closed (digits 1 6 ∷ [])) a 1) (formedRow (closed (text 1 anyLength ∷ []) ∷ []) a 2) e)
+unt-digits v a e = closed-range (digits 1 6) a 1 (and-l (formedAs (simple (digits 1 6 ∷ [])) a 1) (formedRow (simple (anyText 1 anyLength ∷ []) ∷ []) a 2) e)
 
 pub unz-digits : (v : Version) (a : Asked) → formedRow (row v Unz) a 1 ≡ true → inRange (digits 1 6) (a .text 1 0) ≡ true
 unz-digits v a e = unt-digits v a e

@@ -17,7 +17,7 @@ use Rattle.grammar.specs.Loads.{loads, controls, loadIn, controlIn, loadRight}
 use Rattle.grammar.specs.Elements.{formed}
 use Rattle.grammar.specs.Rules.{isAutack, subset, subsetOf, refH, refT, refM, sizeAt, claimed, counted, scopeCode}
 use Rattle.grammar.specs.Verdict.{Test, tested, Answer, read, refused}
-use Rattle.elements.specs.Kinds.{kindOf}
+use Rattle.elements.specs.Kinds.{tagKind}
 use Rattle.elements.specs.declared.Kind.{Kind}
 use Rattle.elements.specs.declared.Kind.the-variants.{Unb, Unh, Unt, Unz, Ush, Usa, Usc, Usr, Ust, Usb, Usx, Usy, Reserved, Qty, Cnt, Other}
 use Rattle.message.specs.declared.Group.{Group}
@@ -313,13 +313,13 @@ abbrev pub totalRight : Sums → Bool
 totalRight s = s .agree && (not (s .controlled) || eqb (s .control) (s .grams))
 
 -- the number that the element at position p gives
-abbrev pub numberIn : Asked → ℕ → ℕ
-numberIn a p = valueFrom 0 (a .text p 0)
+abbrev pub numberAt : Asked → ℕ → ℕ
+numberAt a p = valueFrom 0 (a .text p 0)
 
 abbrev pub countsK : Version → StateS → Kind → Asked → Bool
 countsK v startS k a = true
-countsK v (idleS u rs) k a = atIdle true (eqb (numberIn a 1) (size rs)) true k
-countsK v (busyS u rs S) k a = atBusy true true true (eqb (numberIn a 1) (suc (S .m .segments)) && (pairsRight (S .m .pair) && totalRight (S .m .sums))) true k
+countsK v (idleS u rs) k a = atIdle true (eqb (numberAt a 1) (size rs)) true k
+countsK v (busyS u rs S) k a = atBusy true true true (eqb (numberAt a 1) (suc (S .m .segments)) && (pairsRight (S .m .pair) && totalRight (S .m .sums))) true k
 countsK v doneS k a = true
 
 -- ---- 11
@@ -483,19 +483,19 @@ nextK doneS k a = doneS
 -- ---- the same, of a segment's view
 
 abbrev pub orderS : StateS → Asked → Bool
-orderS x a = orderK x (kindOf (a .tag))
+orderS x a = orderK x (tagKind (a .tag))
 
 abbrev pub refsS : StateS → Asked → Bool
-refsS x a = refsK x (kindOf (a .tag)) a
+refsS x a = refsK x (tagKind (a .tag)) a
 
 abbrev pub countsS : Version → StateS → Asked → Bool
-countsS v x a = countsK v x (kindOf (a .tag)) a
+countsS v x a = countsK v x (tagKind (a .tag)) a
 
 abbrev pub scopeS : StateS → Asked → Bool
-scopeS x a = scopeK x (kindOf (a .tag)) a
+scopeS x a = scopeK x (tagKind (a .tag)) a
 
 abbrev pub nextS : StateS → Asked → StateS
-nextS x a = nextK x (kindOf (a .tag)) a
+nextS x a = nextK x (tagKind (a .tag)) a
 
 -- ---- the answer on a segment
 
@@ -520,9 +520,9 @@ decidedS [] x = readS x
 decidedS (tested n p b ∷ ts) x = cond b (decidedS ts x) (refusedS n p)
 
 -- the judge's answer, in what the code keeps
-abbrev pub told : Answer → AnswerS
-told (read x) = readS (stateOf x)
-told (refused n p) = refusedS n p
+abbrev pub answerOf : Answer → AnswerS
+answerOf (read x) = readS (stateOf x)
+answerOf (refused n p) = refusedS n p
 
 -- the state of a message just begun
 abbrev pub fresh : Subset → Kept

@@ -4,7 +4,7 @@ ghost use mathlib.Core.Bool.{true};
 ghost use mathlib.Core.List.{List};
 ghost use Prim.Native.Nat.{ℕ, _*_, _≤_, _<_};
 ghost use Rattle.grammar.specs.Loads.{controlIn, controlRight};
-ghost use Rattle.elements.specs.Kinds.{kindOf};
+ghost use Rattle.elements.specs.Kinds.{tagKind};
 ghost use Rattle.elements.specs.declared.Kind.the-variants.{Qty, Cnt};
 ghost use Rattle.message.specs.declared.steps.Moved.the-variants.{To};
 ghost use Rattle.elements.specs.Octets.{askedAt};
@@ -49,7 +49,7 @@ fn with_sums(m: Message, g: Group, u: Sums) -> Moved
 // QTY: a load, if its one element has three components and the third is a unit; its amount (12).
 pub fn on_qty(s: &[u8], at: usize, y: Syntax, m: Message, f: Shape, marks: &[usize]) -> Moved
     requires { ⌜ Fields (y .service) (now s) at (f .size) (f .repeats) (now marks) ⌝ }
-    requires { ⌜ kindOf (askedAt (y .service) (now s) at .tag) ≡ Qty ⌝ }
+    requires { ⌜ tagKind (askedAt (y .service) (now s) at .tag) ≡ Qty ⌝ }
     requires { ⌜ (m .segments < 65535) × (m .sums .loads ≤ m .segments) × (m .sums .grams ≤ m .segments * 1000000000000) ⌝ }
     ensures { λ r. ⌜
         ((u w : ℕ) (h : List ℕ) → Roomy m h →
@@ -75,7 +75,7 @@ pub fn on_qty(s: &[u8], at: usize, y: Syntax, m: Message, f: Shape, marks: &[usi
 // CNT: with qualifier 1 a control total, which is well formed (8).
 pub fn on_cnt(s: &[u8], at: usize, y: Syntax, m: Message, marks: &[usize]) -> Moved
     requires { ⌜ Marked (y .service) (now s) at (now marks) ⌝ }
-    requires { ⌜ (kindOf (askedAt (y .service) (now s) at .tag) ≡ Cnt) × (controlRight (askedAt (y .service) (now s) at) ≡ true) ⌝ }
+    requires { ⌜ (tagKind (askedAt (y .service) (now s) at .tag) ≡ Cnt) × (controlRight (askedAt (y .service) (now s) at) ≡ true) ⌝ }
     requires { ⌜ m .segments < 65535 ⌝ }
     ensures { λ r. ⌜
         ((u w : ℕ) (h : List ℕ) → Roomy m h →

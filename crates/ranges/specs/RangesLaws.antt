@@ -26,7 +26,7 @@ use Rattle.grammar.specs.PlacesLaws.{wide-join}
 use Rattle.grammar.specs.Named.{Placed, placed}
 use Rattle.message.specs.Heads.{upto}
 use Rattle.walk.specs.Layout.{headsAt, bodyAt, tailAt, Rows}
-use Rattle.walk.specs.Sections.{Laid}
+use Rattle.walk.specs.Sections.{PartsLie}
 use Rattle.walk.specs.declared.sections.Layout.{Layout}
 use Rattle.groups.specs.Stand.{Stand}
 use Rattle.groups.specs.Groups.{Chosen, chosen, chosenBy, nameAt, soughtIn, rangeOf, headersAs}

@@ -79,9 +79,9 @@ checkedAs (noText f) r = Differs f
 checkedAs (text t) r = cond (ltb 65535 (length t)) (Differs (atZero 13)) (cond (same t r) Same (Differs (atZero 13)))
 
 -- the paper's number and place for each case, 0 where there is none
-abbrev pub told : Checked → List ℕ
-told Same = 0 ∷ 0 ∷ []
-told (Differs f) = f .number ∷ f .place ∷ []
+abbrev pub toldCheck : Checked → List ℕ
+toldCheck Same = 0 ∷ 0 ∷ []
+toldCheck (Differs f) = f .number ∷ f .place ∷ []
 
 abbrev pub checkNumbers : Text → List ℕ → List ℕ
-checkNumbers x r = told (checkedAs x r)
+checkNumbers x r = toldCheck (checkedAs x r)

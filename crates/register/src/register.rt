@@ -6,7 +6,7 @@ ghost use Rattle.syntax.specs.Refusals.{atZero};
 ghost use Rattle.syntax.specs.Classes.{Table};
 ghost use Rattle.walk.specs.Runs.{Fresh};
 ghost use Rattle.writing.specs.Written.{Writes};
-ghost use Rattle.register.specs.Register.{registerOf, checkedAs, told, checkNumbers};
+ghost use Rattle.register.specs.Register.{registerOf, checkedAs, toldCheck, checkNumbers};
 ghost use Rattle.register.specs.Laying.{BeginsAt, LaysAll, Measured, MeasuredAs, Lays};
 ghost use Rattle.register.specs.declared.forms.Form.the-variants.{Old};
 use crate::entries::Extent;
@@ -289,7 +289,7 @@ fn check_from(
 // Whether `register` is the register of the interchange: equal octets, or 13.
 pub fn register_check(s: &[u8], register: &[u8]) -> Checked
     ensures { λ r. ⌜ r ≡ checkedAs (registerOf Old (now (s .entry))) (now (register .entry)) ⌝ }
-    ensures { λ r. ⌜ told r ≡ checkNumbers (registerOf Old (now (s .entry))) (now (register .entry)) ⌝ }
+    ensures { λ r. ⌜ toldCheck r ≡ checkNumbers (registerOf Old (now (s .entry))) (now (register .entry)) ⌝ }
 {
     match begin(s) {
         Begun::Refused(f) => Checked::Refused(refusal(s, f)),

@@ -10,7 +10,7 @@ use lib.ListN.{length}
 use lib.Seq.{slice}
 use borrow.Author.Tests.{leb-true}
 use Rattle.syntax.specs.Refusals.{atZero}
-use Rattle.syntax.specs.Octets.{every, within}
+use Rattle.syntax.specs.Octets.{allPass, within}
 use Rattle.syntax.specs.RepertoireLaws.{and-l, and-r}
 use Rattle.syntax.specs.CuttingLaws.{slice-take}
 use Rattle.syntax.specs.declared.Refusal.{Refusal}
@@ -20,7 +20,7 @@ use Rattle.grammar.specs.Valid.{Interchange, syntaxIn}
 use Rattle.grammar.specs.Verdict.{accepted, refusedWith, verdictOf}
 use Rattle.grammar.specs.Named.{Placed, placed}
 use Rattle.walk.specs.declared.sections.Layout.{Layout}
-use Rattle.writing.specs.Laid.{Laid, joined}
+use Rattle.writing.specs.Laid.{Laid, together}
 use Rattle.writing.specs.LaidLaws.{laid-part, laid-all}
 use Rattle.writing.specs.Written.{Text, text, noText, Writes}
 use Rattle.filters.specs.Hex.{hexText}
@@ -66,15 +66,15 @@ text-laid t {out} {n} {out′} g l h e =
 
 -- ---- 14
 
-module _ (y : Syntax) (s : List ℕ) (c : Layout) (r : List ℕ) (f : ℕ) {t z : List ℕ} (d : z ≡ t) {b : Bool} (e : b ≡ every (mayWrite y) z) {out left : List ℕ} {a : _} where
-  pub woven-writes : b ≡ true → Writes (text (joined (sealedPieces (y .service) s c r f z))) out a left → Writes (wovenOr y s c r f t) out a left
+module _ (y : Syntax) (s : List ℕ) (c : Layout) (r : List ℕ) (f : ℕ) {t z : List ℕ} (d : z ≡ t) {b : Bool} (e : b ≡ allPass (mayWrite y) z) {out left : List ℕ} {a : _} where
+  pub woven-writes : b ≡ true → Writes (text (together (sealedPieces (y .service) s c r f z))) out a left → Writes (wovenOr y s c r f t) out a left
   woven-writes k w =
       writes-as
-      (ap (λ (x : List ℕ). text (joined (sealedPieces (y .service) s c r f x))) d
-      ∙ ap (λ (x : Bool). cond x (text (joined (sealedPieces (y .service) s c r f t))) (noText (atZero 14))) (sym k ∙ e ∙ ap (every (mayWrite y)) d)) w
+      (ap (λ (x : List ℕ). text (together (sealedPieces (y .service) s c r f x))) d
+      ∙ ap (λ (x : Bool). cond x (text (together (sealedPieces (y .service) s c r f t))) (noText (atZero 14))) (sym k ∙ e ∙ ap (allPass (mayWrite y)) d)) w
 
   pub woven-barred : b ≡ false → Writes (noText (atZero 14)) out a left → Writes (wovenOr y s c r f t) out a left
-  woven-barred k w = writes-as (ap (λ (x : Bool). cond x (text (joined (sealedPieces (y .service) s c r f t))) (noText (atZero 14))) (sym k ∙ e ∙ ap (every (mayWrite y)) d)) w
+  woven-barred k w = writes-as (ap (λ (x : Bool). cond x (text (together (sealedPieces (y .service) s c r f t))) (noText (atZero 14))) (sym k ∙ e ∙ ap (allPass (mayWrite y)) d)) w
 
 -- ---- 16
 
@@ -82,7 +82,7 @@ module _ {s m : List ℕ} {y : Syntax} {c : Layout} {rows : List ℕ} (h : Holds
   pub octets-barred : b ≡ false → Writes (noText (atZero 16)) out a left → Writes (octetsAt (h .i) (placed (message (h .o) (h .t)) (h .q)) r f) out a left
   octets-barred d w = writes-as (sym (rw (← e, d))) w
 
-  pub octets-written : b ≡ true → Writes (text (joined (octetsPieces (y .service) s c r f))) out a left → Writes (octetsAt (h .i) (placed (message (h .o) (h .t)) (h .q)) r f) out a left
+  pub octets-written : b ≡ true → Writes (text (together (octetsPieces (y .service) s c r f))) out a left → Writes (octetsAt (h .i) (placed (message (h .o) (h .t)) (h .q)) r f) out a left
   octets-written d w = writes-as (ap text (signed h r f) ∙ sym (rw (← e, d))) w
 
   pub seal-barred : (v : List ℕ) → b ≡ false → Writes (noText (atZero 16)) out a left → Writes (sealAt (h .i) (placed (message (h .o) (h .t)) (h .q)) m r f v) out a left
@@ -92,7 +92,7 @@ module _ {s m : List ℕ} {y : Syntax} {c : Layout} {rows : List ℕ} (h : Holds
   seal-written v d w =
       writes-as
       (ap (λ (x : Text). cond (lengthRight f v) x (noText (atZero 16)))
-      (ap (λ (x : List ℕ). cond (every (mayWrite y) (textBy f v)) (text x) (noText (atZero 14))) (woven h r f (textBy f v))
+      (ap (λ (x : List ℕ). cond (allPass (mayWrite y) (textBy f v)) (text x) (noText (atZero 14))) (woven h r f (textBy f v))
       ∙ ap (λ (x : Option Syntax). cond (writable x (textBy f v)) (text (sealedText (h .i) m r f (textBy f v))) (noText (atZero 14))) (sym (h .settled)))
       ∙ ap (λ (x : Bool). cond (x && lengthRight f v) (orUnwritten (h .i) m r f (textBy f v)) (noText (atZero 16))) (sym d ∙ e)) w
 

@@ -7,7 +7,7 @@ ghost use lib.ListN.{length};
 ghost use Rattle.syntax.specs.Classes.{Table};
 ghost use Rattle.grammar.specs.Interchange.{message};
 ghost use Rattle.grammar.specs.Named.{placed};
-ghost use Rattle.writing.specs.Laid.{Laid, joined};
+ghost use Rattle.writing.specs.Laid.{Laid, together};
 ghost use Rattle.writing.specs.Written.{text, Writes};
 ghost use Rattle.groups.specs.Calls.{Holds};
 ghost use Rattle.weaving.specs.Seals.{lengthRight, textBy};
@@ -48,7 +48,7 @@ fn put_octets(
     filter: u64,
 ) -> usize
     requires { ⌜ (length (now s) ≤ 65535) × (length (now reference) ≤ 14) ⌝ }
-    ensures { λ r. ⌜ Laid (now (out .entry)) 0 (joined (octetsPieces v (now (s .entry)) c (now (reference .entry)) filter)) r (now (out .exit)) ⌝ }
+    ensures { λ r. ⌜ Laid (now (out .entry)) 0 (together (octetsPieces v (now (s .entry)) c (now (reference .entry)) filter)) r (now (out .exit)) ⌝ }
 {
     let p = put_header(&mut *out, 0, v, reference, filter);
     put(&mut *out, p, part(s, c.body, c.tail))
@@ -63,7 +63,7 @@ fn write_octets(
     out: &mut [u8],
 ) -> Written
     requires { ⌜ (length (now s) ≤ 65535) × (length (now reference) ≤ 14) ⌝ }
-    ensures { λ r. ⌜ Writes (text (joined (octetsPieces v (now (s .entry)) c (now (reference .entry)) filter))) (now (out .entry)) r (now (out .exit)) ⌝ }
+    ensures { λ r. ⌜ Writes (text (together (octetsPieces v (now (s .entry)) c (now (reference .entry)) filter))) (now (out .entry)) r (now (out .exit)) ⌝ }
 {
     let mut none = [0u8; 1];
     let m = put_octets(&mut none, s, v, c, reference, filter);
@@ -143,7 +143,7 @@ fn count_end(s: &[u8], t: &[u8; 256], y: Syntax, unt: usize) -> usize
 fn put_rest(out: &mut [u8], at: usize, s: &[u8], t: &[u8; 256], y: Syntax, unt: usize) -> usize
     requires { ⌜ Table y (now t) ⌝ }
     requires { ⌜ (at < 1073741824) × (length (now s) ≤ 65535) × (unt ≤ 65535) ⌝ }
-    ensures { λ r. ⌜ Laid (now (out .entry)) at (joined (restPieces (y .service) (now (s .entry)) unt)) r (now (out .exit)) ⌝ }
+    ensures { λ r. ⌜ Laid (now (out .entry)) at (together (restPieces (y .service) (now (s .entry)) unt)) r (now (out .exit)) ⌝ }
 {
     let p1 = put(&mut *out, at, part(s, unt, unt + 4));
     let p2 = put_number(&mut *out, p1, grown(s, t, y, unt));
@@ -162,7 +162,7 @@ fn put_sealed(
 ) -> usize
     requires { ⌜ Table y (now t) ⌝ }
     requires { ⌜ (length (now s) ≤ 65535) × (c .unt ≤ 65535) × (length (now reference) ≤ 14) × (length (now letters) ≤ 512) ⌝ }
-    ensures { λ r. ⌜ Laid (now (out .entry)) 0 (joined (sealedPieces (y .service) (now (s .entry)) c (now (reference .entry)) filter (now (letters .entry)))) r (now (out .exit)) ⌝ }
+    ensures { λ r. ⌜ Laid (now (out .entry)) 0 (together (sealedPieces (y .service) (now (s .entry)) c (now (reference .entry)) filter (now (letters .entry)))) r (now (out .exit)) ⌝ }
 {
     let p1 = put(&mut *out, 0, part(s, 0, c.heads));
     let p2 = put_header(&mut *out, p1, y.service, reference, filter);
@@ -183,7 +183,7 @@ fn write_sealed(
 ) -> Written
     requires { ⌜ Table y (now t) ⌝ }
     requires { ⌜ (length (now s) ≤ 65535) × (c .unt ≤ 65535) × (length (now reference) ≤ 14) × (length (now letters) ≤ 512) ⌝ }
-    ensures { λ r. ⌜ Writes (text (joined (sealedPieces (y .service) (now (s .entry)) c (now (reference .entry)) filter (now (letters .entry))))) (now (out .entry)) r (now (out .exit)) ⌝ }
+    ensures { λ r. ⌜ Writes (text (together (sealedPieces (y .service) (now (s .entry)) c (now (reference .entry)) filter (now (letters .entry))))) (now (out .entry)) r (now (out .exit)) ⌝ }
 {
     let mut none = [0u8; 1];
     let m = put_sealed(&mut none, s, t, y, c, reference, filter, letters);

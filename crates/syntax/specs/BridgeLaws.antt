@@ -9,14 +9,14 @@ use borrow.Author.Tests.{ne-eqb, le-leb}
 use lib.Dec.{T, eqb, lit<, lit≤}
 use lib.ListN.{length, getD, take, drop, getElem?}
 use lib.Seq.{slice, slice-empty, take-append-seam, drop-append-add, getD-append-seam, getD-drop, drop-drop}
-use Rattle.syntax.specs.Octets.{every}
+use Rattle.syntax.specs.Octets.{allPass}
 use Rattle.syntax.specs.Service.{fit, kindOf}
 use Rattle.syntax.specs.Cutting.{stopFrom, endAt, tagOf}
 use Rattle.syntax.specs.CuttingLaws.{slice-take}
 use Rattle.syntax.specs.Content.{content}
 use Rattle.syntax.specs.Segment.{Piece, piece, piecesAt, edgeOf, edgeAt, atElement, atComponent, componentAt, partOf, components, repeats, elements, anyRepeats}
 use Rattle.syntax.specs.SegmentLaws.{after, edge-steps}
-use Rattle.syntax.specs.Tree.{Octet, plain, freed, Ne, ne, Component, Repeat, Element, Segment, segment, Symbol, tok, comp, rep, elem, term, each, joined, flatC, flatR, flatE, tagElement, flatS, spell, spells, printS, contentIn, ok, okTag, well, elementsIn, firstRepeat, componentsIn, repeatsIn, componentOf, componentIn, contentOf, tagIn, countElements, countOf, repeatsOf, anyRepeatsIn}
+use Rattle.syntax.specs.Tree.{Octet, plain, freed, Ne, ne, Component, Repeat, Element, Segment, segment, Symbol, tok, comp, rep, elem, term, each, separated, flatC, flatR, flatE, tagElement, flatS, spell, spells, printS, contentIn, ok, okTag, well, elementsIn, firstRepeat, componentsIn, repeatsIn, componentOf, componentIn, contentOf, tagIn, countElements, countOf, repeatsOf, anyRepeatsIn}
 use Rattle.syntax.specs.TreeLaws.{and-right, symKind, Reads, All, ok-reads, every-reads, spells-append, all-append, all-left, all-right, allC, pass, segment-end, content-print, tag-print}
 use Rattle.syntax.specs.declared.Service.{Service}
 use Rattle.syntax.specs.declared.Found.{Found}
@@ -115,7 +115,7 @@ module _ (σ : Service) (s : List ℕ) where
         (cov x a o n (spells σ (flat z ++ each sep flat xs) ++ b ∷ r) (rows n row z xs k ++ cs) (all-left (Reads σ) (flat x) _ h) (kinds (m .0)) two (d ∙ q)
         (λ p f. rw (ne-eqb n 5 five) (covers-rows z xs p b k r cs (m .1) e l f rest)))
 
-    covers-ne : Covers (joined sep flat) (rowNe n row)
+    covers-ne : Covers (separated sep flat) (rowNe n row)
     unfolding Covers
     covers-ne (ne x xs) = covers-rows x xs
 
@@ -126,16 +126,16 @@ module _ (σ : Service) (s : List ℕ) where
   covers-e = covers-ne flatR rowR covers-r rep (σ .repetition) 3 refl (λ h. h) (lit≤ tt) (λ z. omega arith)
 
   -- the pieces of a printed segment lie on its row
-  pub pieces-lie : T (fit σ) → (g : Segment) → T (every (ok σ) (flatS g)) → (a : ℕ) (r : List ℕ) → drop a s ≡ printS σ g ++ r → Lies σ s (piecesAt σ s a) (rowS g)
+  pub pieces-lie : T (fit σ) → (g : Segment) → T (allPass (ok σ) (flatS g)) → (a : ℕ) (r : List ℕ) → drop a s ≡ printS σ g ++ r → Lies σ s (piecesAt σ s a) (rowS g)
   unfolding Covers
   pieces-lie f (segment x y z es) w a r d =
-      let h : All (Reads σ) (joined elem flatE (ne (tagElement x y z) es) ++ term ∷ []) = every-reads σ f (flatS (segment x y z es)) w in
-      let q : printS σ (segment x y z es) ++ r ≡ spells σ (joined elem flatE (ne (tagElement x y z) es)) ++ σ .terminator ∷ r =
-      ap (λ (u : List ℕ). u ++ r) (spells-append σ (joined elem flatE (ne (tagElement x y z) es)) (term ∷ []))
-      ∙ append-assoc (spells σ (joined elem flatE (ne (tagElement x y z) es))) (σ .terminator ∷ []) r in
+      let h : All (Reads σ) (separated elem flatE (ne (tagElement x y z) es) ++ term ∷ []) = every-reads σ f (flatS (segment x y z es)) w in
+      let q : printS σ (segment x y z es) ++ r ≡ spells σ (separated elem flatE (ne (tagElement x y z) es)) ++ σ .terminator ∷ r =
+      ap (λ (u : List ℕ). u ++ r) (spells-append σ (separated elem flatE (ne (tagElement x y z) es)) (term ∷ []))
+      ∙ append-assoc (spells σ (separated elem flatE (ne (tagElement x y z) es))) (σ .terminator ∷ []) r in
       rw append-nil at
       (covers-ne flatE rowE covers-e elem (σ .element) 4 refl (λ h. h) (lit≤ tt) (λ z. omega arith) (ne (tagElement x y z) es) a (σ .terminator) 5 r []
-      (all-left (Reads σ) (joined elem flatE (ne (tagElement x y z) es)) (term ∷ []) h) (ok-reads σ f term tt) (lit≤ tt) (d ∙ q) (λ p e. no-more))
+      (all-left (Reads σ) (separated elem flatE (ne (tagElement x y z) es)) (term ∷ []) h) (ok-reads σ f term tt) (lit≤ tt) (d ∙ q) (λ p e. no-more))
 
 -- ---- the accessors on cells
 
@@ -306,12 +306,12 @@ span-content σ s no-span = ap (content (σ .release)) (slice-empty 0 s)
 span-content σ s (that-span {c = c} h w) = ap (content (σ .release)) h ∙ content-print σ c w
 
 -- one segment's symbols may all be written
-pub alone : (σ : Service) (g : Segment) → T (well σ (g ∷ [])) → T (every (ok σ) (flatS g))
-alone σ g w = subst (λ (ys : List Symbol). T (every (ok σ) ys)) (append-nil (flatS g)) (and-right (every okTag (g ∷ [])) (every (ok σ) (flatS g ++ [])) w)
+pub alone : (σ : Service) (g : Segment) → T (well σ (g ∷ [])) → T (allPass (ok σ) (flatS g))
+alone σ g w = subst (λ (ys : List Symbol). T (allPass (ok σ) ys)) (append-nil (flatS g)) (and-right (allPass okTag (g ∷ [])) (allPass (ok σ) (flatS g ++ [])) w)
 
 pub bridge : (σ : Service) → T (fit σ) → (s : List ℕ) (a : ℕ) (g : Segment) (r : List ℕ) → T (well σ (g ∷ [])) → drop a s ≡ printS σ g ++ r → Agrees σ s a g
 bridge σ f s a (segment x y z es) r w d =
-    let o : T (every (ok σ) (flatS (segment x y z es))) = alone σ (segment x y z es) w in
+    let o : T (allPass (ok σ) (flatS (segment x y z es))) = alone σ (segment x y z es) w in
     let l : Lies σ s (piecesAt σ s a) (rowS (segment x y z es)) = pieces-lie σ s f (segment x y z es) o a r d in
     let part : (e c : ℕ) → SpanIs σ s (componentAt σ s a e c) (componentIn (segment x y z es) e c) =
     λ e c. rw (parts e c) at (lie-component σ s c (lie-element σ s e l)) in

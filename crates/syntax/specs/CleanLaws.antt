@@ -6,7 +6,7 @@ use mathlib.Core.Path.{_≡_, refl, ap, sym, subst, _∙_}
 use mathlib.Core.Bool.{Bool, true, false, _&&_, _||_}
 use lib.Dec.{T, eqb, leb, le→leb, leb→le}
 use lib.ListN.{length, getD, drop, length-drop}
-use Rattle.syntax.specs.Octets.{octets, within, digit, capital, small, among}
+use Rattle.syntax.specs.Octets.{octets, within, digit, capital, small, oneOf}
 use Rattle.syntax.specs.Service.{fit, kindOf}
 use Rattle.syntax.specs.Repertoire.{tagOctet, inside}
 use Rattle.syntax.specs.Classes.{endClass, outsideClass, classOf}
@@ -120,14 +120,14 @@ low-tag b h = by (digit b) refl h
 -- letters and digits are inside every repertoire
 pub tag-inside : (l : Level) (b : ℕ) → T (tagOctet b) → inside l b ≡ true
 unfolding inside
-tag-inside A b h = by (digit b) (capital b) (eqb b 32) (among (octets ".,-()/='+:?!\"%&*;<>") b) h
+tag-inside A b h = by (digit b) (capital b) (eqb b 32) (oneOf (octets ".,-()/='+:?!\"%&*;<>") b) h
   where
     by : (d c x y : Bool) → T (d || c) → (c || d || x || y) ≡ true
     by true true x y h = refl
     by true false x y h = refl
     by false true x y h = refl
     by false false x y h = absurd h
-tag-inside B b h = by (digit b) (capital b) (eqb b 32) (among (octets ".,-()/='+:?!\"%&*;<>") b) h
+tag-inside B b h = by (digit b) (capital b) (eqb b 32) (oneOf (octets ".,-()/='+:?!\"%&*;<>") b) h
   where
     by : (d c x y : Bool) → T (d || c) → ((c || d || x || y) || small b) ≡ true
     by true true x y h = refl

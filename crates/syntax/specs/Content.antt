@@ -3,7 +3,7 @@ use Prim.Native.Nat.{ℕ, _+_, _*_, _-_}
 use mathlib.Core.List.{List, [], _∷_}
 use mathlib.Core.Bool.{Bool, true, false, cond, not}
 use lib.Dec.{eqb}
-use Rattle.syntax.specs.Octets.{digit, every}
+use Rattle.syntax.specs.Octets.{digit, allPass}
 
 -- the release in force; 32, a space, is not in force
 abbrev pub releases : ℕ → ℕ → Bool
@@ -26,7 +26,7 @@ compared r = r
 
 -- digits, and the number they give
 abbrev pub allDigits : List ℕ → Bool
-allDigits s = every digit s
+allDigits s = allPass digit s
 
 abbrev pub valueFrom : ℕ → List ℕ → ℕ
 valueFrom v [] = v

@@ -52,9 +52,9 @@ numbered (Is n) = n ∷ []
 numbered Not = []
 
 -- the refusal as number and place; none where the start is good
-abbrev told : Begun → List ℕ
-told (Ready x) = []
-told (Refused f) = f .number ∷ f .place ∷ []
+abbrev toldBegun : Begun → List ℕ
+toldBegun (Ready x) = []
+toldBegun (Refused f) = f .number ∷ f .place ∷ []
 
 -- the repetition in force, where the start is good
 abbrev repetitionOf : Begun → List ℕ
@@ -112,17 +112,17 @@ pub example-table : T (
     && same (ends unreleased false (octets "FTX+a 'FTX+b?'") 0) (6 ∷ 13 ∷ [])
     && same (contentAt unreleased (octets "FTX+a b?c'") 0 1 0) (octets "a b?c")
     -- the start: 1, 2, 4, 5, 6 in their order
-    && same (told (begunOf P)) []
-    && same (told (begunOf [])) (1 ∷ 0 ∷ [])
-    && same (told (begunOf (octets "UNA:+.?*"))) (2 ∷ 0 ∷ [])
-    && same (told (begunOf (octets "UNA:+.:*'UNB+UNOC:4'"))) (2 ∷ 0 ∷ [])
-    && same (told (begunOf (octets "UNA:+.?*'"))) (5 ∷ 9 ∷ [])
-    && same (told (begunOf (octets "UNB+UNOC:4"))) (4 ∷ 0 ∷ [])
-    && same (told (begunOf (octets "UNb+UNOC:4'"))) (4 ∷ 0 ∷ [])
-    && same (told (begunOf (octets "UNH+M1'"))) (5 ∷ 0 ∷ [])
-    && same (told (begunOf (octets "UNB+UNOC:4*x'"))) (6 ∷ 0 ∷ [])
-    && same (told (begunOf (octets "UNB+UNO?C:4:x*y'"))) []
-    && same (told (begunOf (octets "UNA:+.?*'UNB+UNOA:3'"))) (6 ∷ 9 ∷ [])
+    && same (toldBegun (begunOf P)) []
+    && same (toldBegun (begunOf [])) (1 ∷ 0 ∷ [])
+    && same (toldBegun (begunOf (octets "UNA:+.?*"))) (2 ∷ 0 ∷ [])
+    && same (toldBegun (begunOf (octets "UNA:+.:*'UNB+UNOC:4'"))) (2 ∷ 0 ∷ [])
+    && same (toldBegun (begunOf (octets "UNA:+.?*'"))) (5 ∷ 9 ∷ [])
+    && same (toldBegun (begunOf (octets "UNB+UNOC:4"))) (4 ∷ 0 ∷ [])
+    && same (toldBegun (begunOf (octets "UNb+UNOC:4'"))) (4 ∷ 0 ∷ [])
+    && same (toldBegun (begunOf (octets "UNH+M1'"))) (5 ∷ 0 ∷ [])
+    && same (toldBegun (begunOf (octets "UNB+UNOC:4*x'"))) (6 ∷ 0 ∷ [])
+    && same (toldBegun (begunOf (octets "UNB+UNO?C:4:x*y'"))) []
+    && same (toldBegun (begunOf (octets "UNA:+.?*'UNB+UNOA:3'"))) (6 ∷ 9 ∷ [])
     && same (repetitionOf (begunOf (octets "UNA:+.? 'UNB+UNOA:3'"))) (32 ∷ [])
     && same (repetitionOf (begunOf (octets "UNB+UNOA:3'"))) (32 ∷ [])
     && same (repetitionOf (begunOf (octets "UNB+UNOA:4'"))) (42 ∷ [])

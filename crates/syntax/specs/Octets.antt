@@ -26,9 +26,9 @@ abbrev pub small : ℕ → Bool
 small b = within 97 122 b
 
 -- one of these octets
-abbrev pub among : List ℕ → ℕ → Bool
-among [] b = false
-among (x ∷ xs) b = eqb b x || among xs b
+abbrev pub oneOf : List ℕ → ℕ → Bool
+oneOf [] b = false
+oneOf (x ∷ xs) b = eqb b x || oneOf xs b
 
 -- the same octets
 abbrev pub same : List ℕ → List ℕ → Bool
@@ -44,6 +44,6 @@ starts (x ∷ xs) [] = false
 starts (x ∷ xs) (b ∷ s) = cond (eqb b x) (starts xs s) false
 
 -- each element of a list passes the test
-abbrev pub every : {A : Type 0} → (A → Bool) → List A → Bool
-every p [] = true
-every p (a ∷ r) = p a && every p r
+abbrev pub allPass : {A : Type 0} → (A → Bool) → List A → Bool
+allPass p [] = true
+allPass p (a ∷ r) = p a && allPass p r

@@ -9,7 +9,7 @@ use mathlib.Core.Bool.{Bool, true, false, cond, not, _&&_, _||_, false≢true, t
 use borrow.Author.Tests.{eqb-true, leb-true, leb-false}
 use lib.Dec.{T, eqb, leb, eqb·suc-zero, lit<}
 use lib.ListN.{length, take, drop, take-append-drop, drop-of-length-le}
-use Rattle.syntax.specs.Octets.{within, digit, capital, small, every}
+use Rattle.syntax.specs.Octets.{within, digit, capital, small, allPass}
 use Rattle.syntax.specs.Service.{servant, fit, kindOf, kind}
 use Rattle.syntax.specs.Repertoire.{tagOctet}
 use Rattle.syntax.specs.Cutting.{stopFrom, endAt, tagOf}
@@ -84,17 +84,17 @@ links-flat (segment a b c es ∷ gs) =
     ap (λ (r : Chain). push (tok (plain a)) (push (tok (plain b)) (push (tok (plain c)) r)))
     (ap links (append-assoc (each elem flatE es) (term ∷ []) (flat gs)) ∙ linkEs es _ (ap (push term) (links-flat gs) ∙ push-term (tree gs)))
 
-gathered-tree : (gs : List Segment) → T (every okTag gs) → gathered (tree gs) ≡ some gs
+gathered-tree : (gs : List Segment) → T (allPass okTag gs) → gathered (tree gs) ≡ some gs
 gathered-tree [] h = refl
 gathered-tree (segment a b c es ∷ gs) h =
-    let t : (tagOctet a && tagOctet b && tagOctet c) ≡ true = is-true (okTag (segment a b c es)) (and-left (okTag (segment a b c es)) (every okTag gs) h) in
-    rw (t, gathered-tree gs (and-right (okTag (segment a b c es)) (every okTag gs) h))
+    let t : (tagOctet a && tagOctet b && tagOctet c) ≡ true = is-true (okTag (segment a b c es)) (and-left (okTag (segment a b c es)) (allPass okTag gs) h) in
+    rw (t, gathered-tree gs (and-right (okTag (segment a b c es)) (allPass okTag gs) h))
 
 -- the reader reads the printing of well-formed segments as those segments
 pub chain-print : (σ : Service) → T (fit σ) → (gs : List Segment) → T (well σ gs) → segmentsOf σ (print σ gs) ≡ some gs
 chain-print σ d gs w =
     ap gathered (chain-spells σ (flat gs) (well-reads σ d gs w) ∙ links-flat gs)
-    ∙ gathered-tree gs (and-left (every okTag gs) (every (ok σ) (flat gs)) w)
+    ∙ gathered-tree gs (and-left (allPass okTag gs) (allPass (ok σ) (flat gs)) w)
 
 -- equal octets are equal segments: no input is the printing of two lists of well-formed segments
 pub print-injective : (σ : Service) → T (fit σ) → (gs hs : List Segment) → T (well σ gs) → T (well σ hs) → print σ gs ≡ print σ hs → gs ≡ hs
@@ -182,13 +182,13 @@ push-clean term (open′ c cs rs es n) h = (h, refl)
 
 -- a chain is well-formed and spelled by these octets
 abbrev Spelled : Service → Chain → List ℕ → Type 0
-Spelled σ x s = T (every (ok σ) (flatN x)) × (spells σ (flatN x) ≡ s)
+Spelled σ x s = T (allPass (ok σ) (flatN x)) × (spells σ (flatN x) ≡ s)
 
 push-back : (σ : Service) (y : Symbol) (x : Chain) (s : List ℕ) → T (ok σ y) → T (clean (push y x)) → (T (clean x) → Spelled σ x s) → Spelled σ (push y x) (spell σ y ++ s)
 push-back σ y x s o h k =
     let p = push-clean y x h in
     let q = k (p .0) in
-    (rw (p .1) (and-both (ok σ y) (every (ok σ) (flatN x)) o (q .0)), ap (spells σ) (p .1) ∙ ap (λ (l : List ℕ). spell σ y ++ l) (q .1))
+    (rw (p .1) (and-both (ok σ y) (allPass (ok σ) (flatN x)) o (q .0)), ap (spells σ) (p .1) ∙ ap (λ (l : List ℕ). spell σ y ++ l) (q .1))
 
 -- the octets, with the release before them where they start released
 abbrev behind : Service → Bool → List ℕ → List ℕ
@@ -235,7 +235,7 @@ cut-flat (t ∷ u ∷ v ∷ w ∷ r) [] [] es g e = absurd (Option·none-ne-some
 
 -- what is gathered from a chain is its symbols, and has good tags
 abbrev Gathers : Chain → List Segment → Type 0
-Gathers x gs = T (clean x) × (flatN x ≡ flat gs) × T (every okTag gs)
+Gathers x gs = T (clean x) × (flatN x ≡ flat gs) × T (allPass okTag gs)
 
 gather-back : (x : Chain) (gs : List Segment) → gathered x ≡ some gs → Gathers x gs
 gather-back over gs e = let h : [] ≡ gs = cc in subst (λ (l : List Segment). Gathers over l) h (tt, refl, tt)
@@ -253,14 +253,14 @@ gather-back (open′ c cs rs es n) gs e = by (cut c cs rs es) (gathered n) refl 
         let w : (flatC c ++ (each comp flatC cs ++ (each rep flatR rs ++ (each elem flatE es ++ term ∷ [])))) ++ flat hs ≡ flatS g ++ flat hs
         = ap (λ (l : List Symbol). l ++ flat hs) (k .1) in
         subst (λ (l : List Segment). Gathers (open′ c cs rs es n) l) l
-        (r .0, rw (r .1) (simp append-assoc at w), and-both (okTag g) (every okTag hs) (k .0) (r .2))
+        (r .0, rw (r .1) (simp append-assoc at w), and-both (okTag g) (allPass okTag hs) (k .0) (r .2))
 
 -- what the reader reads is well-formed, and its printing is the input
 pub read-back : (σ : Service) → T (fit σ) → (s : List ℕ) (gs : List Segment) → segmentsOf σ s ≡ some gs → T (well σ gs) × (print σ gs ≡ s)
 read-back σ d s gs e =
     let g = gather-back (chain σ false s) gs e in
     let k = chain-back σ false s (λ q. absurd (false≢true q)) (g .0) in
-    (and-both (every okTag gs) (every (ok σ) (flat gs)) (g .2) (subst (λ (l : List Symbol). T (every (ok σ) l)) (g .1) (k .0)), sym (ap (spells σ) (g .1)) ∙ k .1)
+    (and-both (allPass okTag gs) (allPass (ok σ) (flat gs)) (g .2) (subst (λ (l : List Symbol). T (allPass (ok σ) l)) (g .1) (k .0)), sym (ap (spells σ) (g .1)) ∙ k .1)
 
 -- an input is read as these segments just where they are well-formed and their printing is the input
 pub segments-exact : (σ : Service) → T (fit σ) → (s : List ℕ) (gs : List Segment) → (segmentsOf σ s ≡ some gs) ↔ (T (well σ gs) × (print σ gs ≡ s))
@@ -495,19 +495,19 @@ pub data Cuts (σ : Service) : List ℕ → Type 0 where
   cut-over : Cuts σ []
   cut-on : {s : List ℕ} {e a b c : ℕ} → endAt σ s 0 ≡ At e → tagOf σ s ≡ Is a b c → Cuts σ (drop (suc e) s) → Cuts σ s
 
-every-append : (σ : Service) (xs ys : List Symbol) → T (every (ok σ) xs) → T (every (ok σ) ys) → T (every (ok σ) (xs ++ ys))
+every-append : (σ : Service) (xs ys : List Symbol) → T (allPass (ok σ) xs) → T (allPass (ok σ) ys) → T (allPass (ok σ) (xs ++ ys))
 every-append σ [] ys h k = k
 every-append σ (x ∷ xs) ys h k =
-    and-both (ok σ x) (every (ok σ) (xs ++ ys)) (and-left (ok σ x) (every (ok σ) xs) h) (every-append σ xs ys (and-right (ok σ x) (every (ok σ) xs) h) k)
+    and-both (ok σ x) (allPass (ok σ) (xs ++ ys)) (and-left (ok σ x) (allPass (ok σ) xs) h) (every-append σ xs ys (and-right (ok σ x) (allPass (ok σ) xs) h) k)
 
 -- a well-formed segment before well-formed segments
 pub well-cons : (σ : Service) (g : Segment) (gs : List Segment) → T (well σ (g ∷ [])) → T (well σ gs) → T (well σ (g ∷ gs))
 well-cons σ g gs h k =
-    let t : T (okTag g) = and-left (okTag g) true (and-left (okTag g && true) (every (ok σ) (flat (g ∷ []))) h) in
-    let o : T (every (ok σ) (flatS g)) = subst (λ (l : List Symbol). T (every (ok σ) l)) (append-nil (flatS g)) (and-right (okTag g && true) (every (ok σ) (flat (g ∷ []))) h) in
-    and-both (every okTag (g ∷ gs)) (every (ok σ) (flat (g ∷ gs)))
-    (and-both (okTag g) (every okTag gs) t (and-left (every okTag gs) (every (ok σ) (flat gs)) k))
-    (every-append σ (flatS g) (flat gs) o (and-right (every okTag gs) (every (ok σ) (flat gs)) k))
+    let t : T (okTag g) = and-left (okTag g) true (and-left (okTag g && true) (allPass (ok σ) (flat (g ∷ []))) h) in
+    let o : T (allPass (ok σ) (flatS g)) = subst (λ (l : List Symbol). T (allPass (ok σ) l)) (append-nil (flatS g)) (and-right (okTag g && true) (allPass (ok σ) (flat (g ∷ []))) h) in
+    and-both (allPass okTag (g ∷ gs)) (allPass (ok σ) (flat (g ∷ gs)))
+    (and-both (okTag g) (allPass okTag gs) t (and-left (allPass okTag gs) (allPass (ok σ) (flat gs)) k))
+    (every-append σ (flatS g) (flat gs) o (and-right (allPass okTag gs) (allPass (ok σ) (flat gs)) k))
 
 -- an input that is cut is the printing of well-formed segments
 pub cut-there : (σ : Service) → T (fit σ) → (s : List ℕ) → Cuts σ s → (gs : List Segment) × T (well σ gs) × (print σ gs ≡ s)
@@ -521,23 +521,23 @@ cut-there σ fits s (cut-on {e = e} {a = a} {b = b} {c = c} h t k) =
       print-cons σ g (r .0) ∙ ap (λ (l : List ℕ). l ++ print σ (r .0)) (x .2) ∙ ap (λ (l : List ℕ). take (suc e) s ++ l) (r .2) ∙ take-append-drop (suc e) s,
     )
 
-every-left : (σ : Service) (xs ys : List Symbol) → T (every (ok σ) (xs ++ ys)) → T (every (ok σ) xs)
+every-left : (σ : Service) (xs ys : List Symbol) → T (allPass (ok σ) (xs ++ ys)) → T (allPass (ok σ) xs)
 every-left σ [] ys h = tt
 every-left σ (x ∷ xs) ys h =
-    and-both (ok σ x) (every (ok σ) xs) (and-left (ok σ x) (every (ok σ) (xs ++ ys)) h) (every-left σ xs ys (and-right (ok σ x) (every (ok σ) (xs ++ ys)) h))
+    and-both (ok σ x) (allPass (ok σ) xs) (and-left (ok σ x) (allPass (ok σ) (xs ++ ys)) h) (every-left σ xs ys (and-right (ok σ x) (allPass (ok σ) (xs ++ ys)) h))
 
-every-right : (σ : Service) (xs ys : List Symbol) → T (every (ok σ) (xs ++ ys)) → T (every (ok σ) ys)
+every-right : (σ : Service) (xs ys : List Symbol) → T (allPass (ok σ) (xs ++ ys)) → T (allPass (ok σ) ys)
 every-right σ [] ys h = h
-every-right σ (x ∷ xs) ys h = every-right σ xs ys (and-right (ok σ x) (every (ok σ) (xs ++ ys)) h)
+every-right σ (x ∷ xs) ys h = every-right σ xs ys (and-right (ok σ x) (allPass (ok σ) (xs ++ ys)) h)
 
 -- the first of well-formed segments is well-formed, and so are those behind it
 pub well-uncons : (σ : Service) (g : Segment) (gs : List Segment) → T (well σ (g ∷ gs)) → T (well σ (g ∷ [])) × T (well σ gs)
 well-uncons σ g gs h =
-    let t = and-left (every okTag (g ∷ gs)) (every (ok σ) (flat (g ∷ gs))) h in
-    let o = and-right (every okTag (g ∷ gs)) (every (ok σ) (flat (g ∷ gs))) h in (
-      and-both (okTag g && true) (every (ok σ) (flat (g ∷ []))) (and-both (okTag g) true (and-left (okTag g) (every okTag gs) t) tt)
+    let t = and-left (allPass okTag (g ∷ gs)) (allPass (ok σ) (flat (g ∷ gs))) h in
+    let o = and-right (allPass okTag (g ∷ gs)) (allPass (ok σ) (flat (g ∷ gs))) h in (
+      and-both (okTag g && true) (allPass (ok σ) (flat (g ∷ []))) (and-both (okTag g) true (and-left (okTag g) (allPass okTag gs) t) tt)
           (every-append σ (flatS g) [] (every-left σ (flatS g) (flat gs) o) tt),
-      and-both (every okTag gs) (every (ok σ) (flat gs)) (and-right (okTag g) (every okTag gs) t) (every-right σ (flatS g) (flat gs) o),
+      and-both (allPass okTag gs) (allPass (ok σ) (flat gs)) (and-right (okTag g) (allPass okTag gs) t) (every-right σ (flatS g) (flat gs) o),
     )
 
 drop-append : (xs ys : List ℕ) → drop (length xs) (xs ++ ys) ≡ ys
@@ -550,7 +550,7 @@ print-cut σ fits [] w = cut-over
 print-cut σ fits (segment a b c es ∷ gs) w =
     let g : Segment = segment a b c es in
     let u = well-uncons σ g gs w in
-    let o : T (every (ok σ) (flatS g)) = every-left σ (flatS g) [] (and-right (okTag g && true) (every (ok σ) (flat (g ∷ []))) (u .0)) in
+    let o : T (allPass (ok σ) (flatS g)) = every-left σ (flatS g) [] (and-right (okTag g && true) (allPass (ok σ) (flat (g ∷ []))) (u .0)) in
     let n : length (printS σ g) ≡ suc (0 + (length (printS σ g) - 1)) = omega arith in
     let r : drop (suc (0 + (length (printS σ g) - 1))) (printS σ g ++ print σ gs) ≡ print σ gs
     = ap (λ (n : ℕ). drop n (printS σ g ++ print σ gs)) (sym n) ∙ drop-append (printS σ g) (print σ gs) in

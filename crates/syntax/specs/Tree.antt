@@ -5,7 +5,7 @@ use mathlib.Core.Option.{Option, none, some}
 use mathlib.Core.Bool.{Bool, true, false, cond, not, _&&_}
 use lib.Dec.{eqb}
 use lib.ListN.{length, getElem?}
-use Rattle.syntax.specs.Octets.{every}
+use Rattle.syntax.specs.Octets.{allPass}
 use Rattle.syntax.specs.Service.{serves}
 use Rattle.syntax.specs.Repertoire.{tagOctet}
 use Rattle.syntax.specs.declared.Service.{Service}
@@ -47,25 +47,25 @@ module _ {A : Type 0} (sep : Symbol) (flat : A → List Symbol) where
   each (a ∷ r) = sep ∷ (flat a ++ each r)
 
   -- at least one, with the separator between them
-  abbrev pub joined : Ne A → List Symbol
-  joined (ne a r) = flat a ++ each r
+  abbrev pub separated : Ne A → List Symbol
+  separated (ne a r) = flat a ++ each r
 
 abbrev pub flatC : Component → List Symbol
 flatC [] = []
 flatC (t ∷ ts) = tok t ∷ flatC ts
 
 abbrev pub flatR : Repeat → List Symbol
-flatR = joined comp flatC
+flatR = separated comp flatC
 
 abbrev pub flatE : Element → List Symbol
-flatE = joined rep flatR
+flatE = separated rep flatR
 
 -- the tag stands where an element would: one component, once
 abbrev pub tagElement : ℕ → ℕ → ℕ → Element
 tagElement a b c = ne (ne (plain a ∷ plain b ∷ plain c ∷ []) []) []
 
 abbrev pub flatS : Segment → List Symbol
-flatS (segment a b c es) = joined elem flatE (ne (tagElement a b c) es) ++ term ∷ []
+flatS (segment a b c es) = separated elem flatE (ne (tagElement a b c) es) ++ term ∷ []
 
 -- one behind the other: "Nothing may stand between segments or after UNZ, line ends included."
 abbrev pub flat : List Segment → List Symbol
@@ -115,7 +115,7 @@ abbrev pub okTag : Segment → Bool
 okTag (segment a b c es) = tagOctet a && tagOctet b && tagOctet c
 
 abbrev pub well : Service → List Segment → Bool
-well σ gs = every okTag gs && every (ok σ) (flat gs)
+well σ gs = allPass okTag gs && allPass (ok σ) (flat gs)
 
 -- ---- what a tree has, asked as the code asks octets: elements and components are counted from 0, the tag is element 0
 

@@ -8,12 +8,12 @@ use mathlib.Core.Bool.{Bool, true, false, cond, not, _&&_, _||_, false≢true}
 use borrow.Author.Tests.{eq-eqb, ne-eqb, lt-leb}
 use lib.Dec.{T, eqb, leb, leb→le, eqb→eq, lit<, lit≤}
 use lib.ListN.{length, length-append}
-use Rattle.syntax.specs.Octets.{within, every}
+use Rattle.syntax.specs.Octets.{within, allPass}
 use Rattle.syntax.specs.Service.{servant, repetitionDiffers, differ, fit, kindOf}
 use Rattle.syntax.specs.Repertoire.{tagOctet}
 use Rattle.syntax.specs.Cutting.{stopFrom, tagOf}
 use Rattle.syntax.specs.Content.{releases, content}
-use Rattle.syntax.specs.Tree.{Octet, plain, freed, ne, Component, Repeat, Element, Segment, segment, Symbol, tok, comp, rep, elem, term, each, joined, flatC, flatR, flatE, tagElement, flatS, flat, spell, spells, printS, print, octetIn, contentIn, ok, okTag, well}
+use Rattle.syntax.specs.Tree.{Octet, plain, freed, ne, Component, Repeat, Element, Segment, segment, Symbol, tok, comp, rep, elem, term, each, separated, flatC, flatR, flatE, tagElement, flatS, flat, spell, spells, printS, print, octetIn, contentIn, ok, okTag, well}
 use Rattle.syntax.specs.declared.Service.{Service}
 use Rattle.syntax.specs.declared.Found.the-variants.{At}
 use Rattle.syntax.specs.declared.cutting.Tag.the-variants.{Is}
@@ -109,14 +109,14 @@ module _ (σ : Service) (d : T (fit σ)) where
   ok-reads term h = let k : T (differ σ) = search (and-left, and-right) in search (other, self, servant-space, and-left, and-right)
 
   -- so do symbols that may be written
-  pub every-reads : (ys : List Symbol) → T (every (ok σ) ys) → All (Reads σ) ys
+  pub every-reads : (ys : List Symbol) → T (allPass (ok σ) ys) → All (Reads σ) ys
   every-reads [] h = tt
   every-reads (y ∷ ys) h =
-      (ok-reads y (and-left (ok σ y) (every (ok σ) ys) h), every-reads ys (and-right (ok σ y) (every (ok σ) ys) h))
+      (ok-reads y (and-left (ok σ y) (allPass (ok σ) ys) h), every-reads ys (and-right (ok σ y) (allPass (ok σ) ys) h))
 
   -- and all symbols of well-formed segments
   pub well-reads : (gs : List Segment) → T (well σ gs) → All (Reads σ) (flat gs)
-  well-reads gs h = every-reads (flat gs) (and-right (every okTag gs) (every (ok σ) (flat gs)) h)
+  well-reads gs h = every-reads (flat gs) (and-right (allPass okTag gs) (allPass (ok σ) (flat gs)) h)
 
 -- ---- lists of symbols
 
@@ -190,7 +190,7 @@ module _ (σ : Service) (n : ℕ) (two : 2 ≤ n) where
       ∙ ap (stopFrom σ n false s) (omega (arith, length-append (spell σ y) (spells σ ys)))
 
 abbrev body : Segment → List Symbol
-body (segment a b c es) = joined elem flatE (ne (tagElement a b c) es)
+body (segment a b c es) = separated elem flatE (ne (tagElement a b c) es)
 
 body-flat : (g : Segment) → flatS g ≡ body g ++ term ∷ []
 body-flat (segment a b c es) = refl
@@ -203,7 +203,7 @@ body-low : (g : Segment) → All (λ y. symKind y < 5) (body g)
 body-low (segment a b c es) = (lit< tt, (lit< tt, (lit< tt, allEs (λ y. symKind y < 5) tok-low (lit< tt) (lit< tt) (lit< tt) es)))
 
 -- the first unreleased terminator in a printed segment, whatever follows, is its last octet
-pub segment-end : (σ : Service) → T (fit σ) → (g : Segment) → T (every (ok σ) (flatS g)) → (s : List ℕ) (i : ℕ) →
+pub segment-end : (σ : Service) → T (fit σ) → (g : Segment) → T (allPass (ok σ) (flatS g)) → (s : List ℕ) (i : ℕ) →
     stopFrom σ 5 false (printS σ g ++ s) i ≡ At (i + (length (printS σ g) - 1))
 segment-end σ d g w s i =
     let k : All (Reads σ) (body g ++ term ∷ []) = every-reads σ d (body g ++ term ∷ []) (rw body-flat at w) in
@@ -268,7 +268,7 @@ pub tag-print : (σ : Service) → T (fit σ) → (a b c : ℕ) (es : List Eleme
 tag-print σ d a b c es w s = by es
   where
     good : T (tagOctet a && tagOctet b && tagOctet c)
-    good = and-left (okTag (segment a b c es)) true (and-left (okTag (segment a b c es) && true) (every (ok σ) (flat (segment a b c es ∷ []))) w)
+    good = and-left (okTag (segment a b c es)) true (and-left (okTag (segment a b c es) && true) (allPass (ok σ) (flat (segment a b c es ∷ []))) w)
 
     by : (es : List Element) → tagOf σ (printS σ (segment a b c es) ++ s) ≡ Is a b c
     by [] =

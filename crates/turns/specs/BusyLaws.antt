@@ -17,7 +17,7 @@ use Rattle.grammar.specs.Segments.{Asked}
 use Rattle.grammar.specs.Elements.{formed, inRange, digits}
 use Rattle.grammar.specs.Rules.{scopeCode}
 use Rattle.grammar.specs.Loads.{loadIn, loadRight, controlRight}
-use Rattle.elements.specs.Kinds.{kindOf}
+use Rattle.elements.specs.Kinds.{tagKind}
 use Rattle.elements.specs.Octets.{askedAt}
 use Rattle.elements.specs.Formed.{controlOf, formedBy}
 use Rattle.elements.specs.FormedLaws.{formed-by}
@@ -49,10 +49,10 @@ use Rattle.turns.specs.declared.state.Step.the-variants.{On, Stop}
 pub may-to : {k : Kind} (m : Message) (j : Kind) → k ≡ j → mayCome k m ≡ true → mayCome j m ≡ true
 may-to m j f h = ap (λ (x : Kind). mayCome x m) (sym f) ∙ h
 
-formed-to : (v : Version) (a : Asked) {k : Kind} → k ≡ kindOf (a .tag) → (j : Kind) → k ≡ j → formed v a ≡ true → formedBy v j a ≡ true
+formed-to : (v : Version) (a : Asked) {k : Kind} → k ≡ tagKind (a .tag) → (j : Kind) → k ≡ j → formed v a ≡ true → formedBy v j a ≡ true
 formed-to v a e j f h = ap (λ (x : Kind). formedBy v x a) (sym f ∙ e) ∙ sym (formed-by v a) ∙ h
 
-pub cnt-right : (v : Version) (a : Asked) {k : Kind} → k ≡ kindOf (a .tag) → k ≡ Cnt → formed v a ≡ true → controlRight a ≡ true
+pub cnt-right : (v : Version) (a : Asked) {k : Kind} → k ≡ tagKind (a .tag) → k ≡ Cnt → formed v a ≡ true → controlRight a ≡ true
 cnt-right v a e f h = let w = and-r (not (a .anyRepeated)) (controlOf a) (formed-to v a e Cnt f h) in rw (cnt-tag (a .tag) (sym e ∙ f)) w
 
 module _ (σ : Service) (s : List ℕ) (at : ℕ) (m : Message) (h : List ℕ) (r : Moved) (h′ : List ℕ) {k : Kind} where
@@ -100,7 +100,7 @@ isQty Qty = true
 isQty Cnt = false
 isQty Other = false
 
-load-right : (a : Asked) (k : Kind) → k ≡ kindOf (a .tag) → isQty k ≡ false → loadRight a ≡ true
+load-right : (a : Asked) (k : Kind) → k ≡ tagKind (a .tag) → isQty k ≡ false → loadRight a ≡ true
 load-right a k e n = free-load a (λ q. false≢true (sym n ∙ ap isQty (e ∙ q)))
 
 -- ---- the answer of a segment that may come and is well formed
@@ -164,7 +164,7 @@ module _ (u : List ℕ) (rs : Snoc (List ℕ)) (S : Summary) (a : Asked) (p : �
   rest-is v Cnt n m l = load-go (l refl) _
   rest-is v Other n m l = load-go (l refl) _
 
-  pub busy-by : (v : Version) {k : Kind} → k ≡ kindOf (a .tag) → atBusy false false false true false k ≡ false → mayCome k (S .m) ≡ true → formed v a ≡ true →
+  pub busy-by : (v : Version) {k : Kind} → k ≡ tagKind (a .tag) → atBusy false false false true false k ≡ false → mayCome k (S .m) ≡ true → formed v a ≡ true →
       decidedFrom v (busyS u rs S) a p ≡ fromM u rs p (stepM k S a)
   busy-by v {k} e n m f =
       ap (λ (z : Kind). cond (mayCome z (S .m)) (cond (formed v a) (busyRest v u rs S a p z) (refusedS 8 p)) (refusedS 7 p)) (sym e)

@@ -22,11 +22,11 @@ use Rattle.grammar.specs.Placing.{growNamed, grow, place, inOpen, inBody, itemB
 use Rattle.grammar.specs.PlacingLaws.{same-eq}
 use Rattle.grammar.specs.Verdict.{tested, on, foundAt, tests, refused, decided}
 use Rattle.grammar.specs.Running.{Good}
-use Rattle.elements.specs.Kinds.{ofName, ofKind, kindOf}
+use Rattle.elements.specs.Kinds.{ofName, ofKind, tagKind}
 use Rattle.elements.specs.declared.Kind.{Kind}
 use Rattle.elements.specs.declared.Kind.the-variants.{Unb, Unh, Unt, Unz, Ush, Usa, Usc, Usr, Ust, Usb, Usx, Usy, Reserved, Qty, Cnt, Other}
 use Rattle.message.specs.declared.Sums.{Sums}
-use Rattle.message.specs.Summary.{groupOf, sumsOf, summaryOf, flagsOf, StateS, busyS, stateOf, atHeads, atItems, closes, orderK, isFound, freeAt, refsK, countsK, scopeK, ustNext, itemNext, loaded, controlled, nextK, orderS, refsS, countsS, scopeS, nextS, AnswerS, refusedS, testsS, decidedS, told}
+use Rattle.message.specs.Summary.{groupOf, sumsOf, summaryOf, flagsOf, StateS, busyS, stateOf, atHeads, atItems, closes, orderK, isFound, freeAt, refsK, countsK, scopeK, ustNext, itemNext, loaded, controlled, nextK, orderS, refsS, countsS, scopeS, nextS, AnswerS, refusedS, testsS, decidedS, answerOf}
 use Rattle.message.specs.FlagLaws.{alike, any-each, any-size, load-sums, control-sums, totals, pairs-right, all-named, Spot, no, yes, spot}
 
 -- ---- what is to be shown of a segment of the kind k whose view is a: where it has no place, 7 is broken; where it has one, each test answers as its
@@ -283,7 +283,7 @@ module _ (y : Syntax) (u : Leaf) (ms : Snoc Message) (g : Segment) where
   -- ---- a segment of a body: of QTY, CNT or another tag
 
   -- 7 asks only that the message is no AUTACK; and what is kept then, given its sums
-  item-placed : (h : Leaf) (hs : Snoc Header) (b : Snoc Segment) → Good y (busy u ms (msg h hs (plain b) nil)) → holds (every okItem b) → T (isFree (segments.kindOf g))
+  item-placed : (h : Leaf) (hs : Snoc Header) (b : Snoc Segment) → Good y (busy u ms (msg h hs (plain b) nil)) → holds (every okItem b) → T (isFree (segments.segmentKind g))
       → check (order (busy u ms (msg h hs (plain (b ▷ g)) nil))) ≡ not (isAutack (subset h))
   item-placed h hs b q e f =
       alike (order (busy u ms (msg h hs (plain (b ▷ g)) nil))) (test (not (autack h)))
@@ -297,7 +297,7 @@ module _ (y : Syntax) (u : Leaf) (ms : Snoc Message) (g : Segment) where
   qty-sums : controlIn (asked g) ≡ none → (b : Snoc Segment) → sumsOf (plain (b ▷ g)) ≡ loaded (sumsOf (plain b)) (loadIn (asked g))
   qty-sums l b = rw l (load-sums (loads b) (controls b) (loadIn (asked g)))
 
-  qty : controlIn (asked g) ≡ none → T (isFree (segments.kindOf g)) → (o : Open) → Good y (busy u ms o) → Follow (y .version) (busy u ms o) Qty (asked g) (inOpen (inBody (itemB g)) (busy u ms o))
+  qty : controlIn (asked g) ≡ none → T (isFree (segments.segmentKind g)) → (o : Open) → Good y (busy u ms o) → Follow (y .version) (busy u ms o) Qty (asked g) (inOpen (inBody (itemB g)) (busy u ms o))
   qty l f (msg h hs (plain nil) nil) q =
       let z : Reading = busy u ms (msg h hs (plain (nil ▷ g)) nil) in
       here z
@@ -320,7 +320,7 @@ module _ (y : Syntax) (u : Leaf) (ms : Snoc Message) (g : Segment) where
   cnt-sums : loadIn (asked g) ≡ none → (b : Snoc Segment) → sumsOf (plain (b ▷ g)) ≡ controlled (sumsOf (plain b)) (controlIn (asked g))
   cnt-sums l b = rw l (control-sums (loads b) (controls b) (controlIn (asked g)))
 
-  cnt : loadIn (asked g) ≡ none → T (isFree (segments.kindOf g)) → (o : Open) → Good y (busy u ms o) → Follow (y .version) (busy u ms o) Cnt (asked g) (inOpen (inBody (itemB g)) (busy u ms o))
+  cnt : loadIn (asked g) ≡ none → T (isFree (segments.segmentKind g)) → (o : Open) → Good y (busy u ms o) → Follow (y .version) (busy u ms o) Cnt (asked g) (inOpen (inBody (itemB g)) (busy u ms o))
   cnt l f (msg h hs (plain nil) nil) q =
       let z : Reading = busy u ms (msg h hs (plain (nil ▷ g)) nil) in
       here z
@@ -343,7 +343,7 @@ module _ (y : Syntax) (u : Leaf) (ms : Snoc Message) (g : Segment) where
   other-sums : loadIn (asked g) ≡ none → controlIn (asked g) ≡ none → (b : Snoc Segment) → sumsOf (plain (b ▷ g)) ≡ sumsOf (plain b)
   other-sums l m b = rw (l, m)
 
-  other : loadIn (asked g) ≡ none → controlIn (asked g) ≡ none → T (isFree (segments.kindOf g)) → (o : Open) → Good y (busy u ms o) → Follow (y .version) (busy u ms o) Other (asked g) (inOpen (inBody (itemB g)) (busy u ms o))
+  other : loadIn (asked g) ≡ none → controlIn (asked g) ≡ none → T (isFree (segments.segmentKind g)) → (o : Open) → Good y (busy u ms o) → Follow (y .version) (busy u ms o) Other (asked g) (inOpen (inBody (itemB g)) (busy u ms o))
   other l m f (msg h hs (plain nil) nil) q =
       let z : Reading = busy u ms (msg h hs (plain (nil ▷ g)) nil) in
       here z
@@ -429,7 +429,7 @@ not-control : (g : Segment) → same (tagText g) (octets "CNT") ≡ false → co
 not-control g e = rw e
 
 free-follows : (y : Syntax) (x : Reading) (g : Segment) (a b : Bool) → same (tagText g) (octets "QTY") ≡ a → same (tagText g) (octets "CNT") ≡ b
-    → T (isFree (segments.kindOf g)) → Good y x → Follow (y .version) x (cond a Qty (cond b Cnt Other)) (asked g) (inOpen (inBody (itemB g)) x)
+    → T (isFree (segments.segmentKind g)) → Good y x → Follow (y .version) x (cond a Qty (cond b Cnt Other)) (asked g) (inOpen (inBody (itemB g)) x)
 free-follows y start g true b e k f q = nowhere refl
 free-follows y start g false true e k f q = nowhere refl
 free-follows y start g false false e k f q = nowhere refl
@@ -449,15 +449,15 @@ reserved (idle u ms) = refl
 reserved (busy u ms o) = refl
 reserved (done u ms z) = refl
 
-kind-follows : (y : Syntax) (x : Reading) (g : Segment) (k : segments.Kind) → segments.kindOf g ≡ k → Good y x
+kind-follows : (y : Syntax) (x : Reading) (g : Segment) (k : segments.Kind) → segments.segmentKind g ≡ k → Good y x
     → Follow (y .version) x (ofKind k (tagText g)) (asked g) (grow k g x)
 kind-follows y x g (Named n) e q = named-follows y x g n q
 kind-follows y x g segments.Reserved e q = nowhere (reserved x)
 kind-follows y x g Free e q = free-follows y x g (same (tagText g) (octets "QTY")) (same (tagText g) (octets "CNT")) refl refl (subst (λ (k : segments.Kind). T (isFree k)) (sym e) tt) q
 
 -- of every segment
-pub follows : (y : Syntax) (x : Reading) (g : Segment) → Good y x → Follow (y .version) x (kindOf (tagText g)) (asked g) (place x g)
-follows y x g q = kind-follows y x g (segments.kindOf g) refl q
+pub follows : (y : Syntax) (x : Reading) (g : Segment) → Good y x → Follow (y .version) x (tagKind (tagText g)) (asked g) (place x g)
+follows y x g q = kind-follows y x g (segments.segmentKind g) refl q
 
 -- ---- each test, and the step
 
@@ -509,7 +509,7 @@ module _ (v p : ℕ) where
   -- the tests in their order, where 7, 9, 10 and 11 answer alike given those before
   passes : (z : Reading) (i o f r c s l o′ r′ c′ s′ : Bool) (n : StateS)
       → o ≡ o′ → (o ≡ true → r ≡ r′) → (o ≡ true → r ≡ true → c ≡ c′) → (o ≡ true → s ≡ s′) → (o ≡ true → r ≡ true → stateOf z ≡ n)
-      → told (decided (tested 3 v i ∷ tested 7 p o ∷ tested 8 p f ∷ tested 9 p r ∷ tested 10 p c ∷ tested 11 p s ∷ tested 12 p l ∷ []) (some z))
+      → answerOf (decided (tested 3 v i ∷ tested 7 p o ∷ tested 8 p f ∷ tested 9 p r ∷ tested 10 p c ∷ tested 11 p s ∷ tested 12 p l ∷ []) (some z))
       ≡ decidedS (tested 3 v i ∷ tested 7 p o′ ∷ tested 8 p f ∷ tested 9 p r′ ∷ tested 10 p c′ ∷ tested 11 p s′ ∷ tested 12 p l ∷ []) n
   passes z false o f r c s l o′ r′ c′ s′ n a b d e h = refl
   passes z true false f r c s l o′ r′ c′ s′ n a b d e h = rw (← a)
@@ -521,18 +521,18 @@ module _ (v p : ℕ) where
   passes z true true true true true true true o′ r′ c′ s′ n a b d e h = rw (← a, ← b refl, ← d refl refl, ← e refl, h refl refl)
 
   -- a segment that has no place
-  lost : (i o : Bool) (w : AnswerS) → o ≡ false → told (cond i (refused 7 p) (refused 3 v)) ≡ cond i (cond o w (refusedS 7 p)) (refusedS 3 v)
+  lost : (i o : Bool) (w : AnswerS) → o ≡ false → answerOf (cond i (refused 7 p) (refused 3 v)) ≡ cond i (cond o w (refusedS 7 p)) (refusedS 3 v)
   lost true o w e = rw e
   lost false o w e = refl
 
 -- the answer on a segment, in what is kept, is the answer from what is kept
 pub follow : (y : Syntax) (x : Reading) (g : Segment) (p : ℕ) → Good y x
-    → told (decided (tests y g p (place x g)) (place x g))
+    → answerOf (decided (tests y g p (place x g)) (place x g))
     ≡ decidedS (testsS y (asked g) (check (insideS y g)) (foundAt p (firstOutside y (printS (y .service) g) p)) p (stateOf x)) (nextS (stateOf x) (asked g))
 follow y x g p q = by (place x g) (follows y x g q)
   where
-    by : (o : Option Reading) → Follow (y .version) x (kindOf (tagText g)) (asked g) o
-        → told (decided (tests y g p o) o)
+    by : (o : Option Reading) → Follow (y .version) x (tagKind (tagText g)) (asked g) o
+        → answerOf (decided (tests y g p o) o)
         ≡ decidedS (testsS y (asked g) (check (insideS y g)) (foundAt p (firstOutside y (printS (y .service) g) p)) p (stateOf x)) (nextS (stateOf x) (asked g))
     by o (nowhere e) = lost (foundAt p (firstOutside y (printS (y .service) g) p)) p (check (insideS y g)) (orderS (stateOf x) (asked g)) _ e
     by o (here z e r c s n) =

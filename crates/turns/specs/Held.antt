@@ -21,7 +21,7 @@ use Rattle.grammar.specs.Lists.{Snoc}
 use Rattle.grammar.specs.Elements.{formed}
 use Rattle.grammar.specs.Loads.{loadRight}
 use Rattle.grammar.specs.Verdict.{tested}
-use Rattle.elements.specs.Kinds.{kindOf}
+use Rattle.elements.specs.Kinds.{tagKind}
 use Rattle.message.specs.Summary.{Summary, StateS, startS, idleS, busyS, doneS, orderS, refsS, countsS, scopeS, nextS, AnswerS, readS, refusedS, decidedS}
 use Rattle.message.specs.Steps.{summaryIn, Roomy}
 use Rattle.references.specs.Refs.{refAt, refsIn, Indexed, Offered}
@@ -51,7 +51,7 @@ seenIn (Spoilt e q) k p = unseenAs 3 q
 seenIn Open k p = unseenAs 4 p
 
 abbrev pub seenAs : Cut → ℕ → ℕ → ℕ → ℕ → Looked
-seenAs x a b c p = seenIn x (kindOf (a ∷ b ∷ c ∷ [])) p
+seenAs x a b c p = seenIn x (tagKind (a ∷ b ∷ c ∷ [])) p
 
 abbrev pub seenBy : Cut → Tag → ℕ → Looked
 seenBy x NoTag p = unseenAs 4 p
@@ -149,6 +149,6 @@ pub record Ready (y : Syntax) (s : List ℕ) (x : State) (h l b : List ℕ) (p q
   pub ends : before + 4 ≤ q
   pub short : q ≤ 65535
   pub room : x .phase ≡ Busy → 2 * x .count + 2 ≤ length l
-  pub kind : k ≡ kindOf (slice p (p + 3) s)
+  pub kind : k ≡ tagKind (slice p (p + 3) s)
   pub noted : looked k ≡ true → Fields (y .service) s p (f .size) (f .repeats) m
   pub marks : length m ≡ 40

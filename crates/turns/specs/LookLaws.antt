@@ -17,7 +17,7 @@ use Rattle.syntax.specs.declared.cutting.Cut.{Cut}
 use Rattle.syntax.specs.declared.cutting.Cut.the-variants.{Ends, Spoilt, Open}
 use Rattle.syntax.specs.declared.cutting.Tag.{Tag}
 use Rattle.syntax.specs.declared.cutting.Tag.the-variants.{Is, Bad as NoTag}
-use Rattle.elements.specs.Kinds.{kindOf}
+use Rattle.elements.specs.Kinds.{tagKind}
 use Rattle.elements.specs.Fields.{Fields, FieldsAs}
 use Rattle.elements.specs.Formed.{looked}
 use Rattle.elements.specs.declared.Kind.{Kind}
@@ -63,7 +63,7 @@ module _ (y : Syntax) (s : List ℕ) (i : ℕ) (k : Kind) (m : List ℕ) {p : Pa
         marks = v .1;
       }
 
-same-look : (y : Syntax) (s : List ℕ) (i : ℕ) {t : Tag} {a b c : ℕ} {k : Kind} → t ≡ tagOf (y .service) (drop i s) → t ≡ Is a b c → k ≡ kindOf (a ∷ b ∷ c ∷ []) →
+same-look : (y : Syntax) (s : List ℕ) (i : ℕ) {t : Tag} {a b c : ℕ} {k : Kind} → t ≡ tagOf (y .service) (drop i s) → t ≡ Is a b c → k ≡ tagKind (a ∷ b ∷ c ∷ []) →
     seenIn (cutAt y s i) k i ≡ lookedAt y s i
 same-look y s i g d o = ap (λ (k : Kind). seenIn (cutAt y s i) k i) o ∙ ap (λ (t : Tag). seenBy (cutAt y s i) t i) (sym d ∙ g)
 
@@ -77,7 +77,7 @@ module _ (y : Syntax) (s : List ℕ) (i : ℕ) {r : Sight} {m : List ℕ} where
         marks = n;
       }
 
-  module _ {t : Tag} {a b c : ℕ} {k : Kind} (g : t ≡ tagOf (y .service) (drop i s)) (d : t ≡ Is a b c) (o : k ≡ kindOf (a ∷ b ∷ c ∷ [])) where
+  module _ {t : Tag} {a b c : ℕ} {k : Kind} (g : t ≡ tagOf (y .service) (drop i s)) (d : t ≡ Is a b c) (o : k ≡ tagKind (a ∷ b ∷ c ∷ [])) where
     pub sight-entered : Entered y s i k r m → Sighted y s i r m
     sight-entered w = record { look = w .look ∙ same-look y s i g d o; noted = λ e k h l. w .noted e k h; marks = w .marks }
 

@@ -27,7 +27,7 @@ use Rattle.syntax.specs.declared.Found.the-variants.{At, Nothing}
 use Rattle.syntax.specs.declared.cutting.Cut.the-variants.{Ends, Spoilt, Open}
 use Rattle.syntax.specs.declared.cutting.Tag.the-variants.{Is, Bad}
 use Rattle.grammar.specs.Lists.{check}
-use Rattle.grammar.specs.Segments.{Asked, asked, tagText, text}
+use Rattle.grammar.specs.Segments.{Asked, asked, tagText, elementContent}
 use Rattle.grammar.specs.Interchange.{Reading}
 use Rattle.grammar.specs.Rules.{insideS}
 use Rattle.grammar.specs.Placing.{place}
@@ -61,7 +61,7 @@ asked-same σ f s a (segment x y z es) r w d =
     three : a + 3 - a ≡ 3
     three = omega arith
 
-    texts : (p c : ℕ) → textAt σ s a p c ≡ text es p c
+    texts : (p c : ℕ) → textAt σ s a p c ≡ elementContent es p c
     texts zero c = refl
     texts (suc p) c = bridge σ f s a (segment x y z es) r w d .component-content (suc p) c
 

@@ -24,18 +24,18 @@ use Rattle.grammar.specs.Lists.{Snoc, nil, _▷_, size, any, among}
 use Rattle.grammar.specs.Rules.{subsetOf}
 use Rattle.grammar.specs.Segments.{Asked}
 use Rattle.grammar.specs.Segments as named
-use Rattle.grammar.specs.Elements.{text, digits, closed, composite, row, inRange, formedAs, formedRow, formed}
+use Rattle.grammar.specs.Elements.{anyText, digits, simple, composite, row, inRange, formedAs, formedRow, formed}
 use Rattle.grammar.specs.Loads.{loadRight}
 use Rattle.grammar.specs.Verdict.{tested}
 use Rattle.grammar.specs.PlacingLaws.{same-eq}
-use Rattle.elements.specs.Kinds.{kindOf}
+use Rattle.elements.specs.Kinds.{tagKind}
 use Rattle.elements.specs.Octets.{textAt, askedAt}
 use Rattle.elements.specs.Fields.{Marked, startIn, endIn}
 use Rattle.elements.specs.Formed.{formedBy}
 use Rattle.elements.specs.FormedLaws.{and-stop, and-go, formed-by}
 use Rattle.references.specs.Refs.{refsIn, Indexed, Offered, Fitting, OfferIs}
 use Rattle.message.specs.Heads.{headFlags}
-use Rattle.message.specs.Summary.{Summary, StateS, startS, idleS, busyS, atStart, atIdle, atBusy, mayCome, allNamed, pairsRight, totalRight, numberIn, orderK, refsK, countsK, scopeK, nextK, orderS, refsS, countsS, scopeS, nextS, opened, fresh, AnswerS, readS, refusedS, decidedS}
+use Rattle.message.specs.Summary.{Summary, StateS, startS, idleS, busyS, atStart, atIdle, atBusy, mayCome, allNamed, pairsRight, totalRight, numberAt, orderK, refsK, countsK, scopeK, nextK, orderS, refsS, countsS, scopeS, nextS, opened, fresh, AnswerS, readS, refusedS, decidedS}
 use Rattle.message.specs.Steps.{summaryIn, Roomy}
 use Rattle.message.specs.StepsLaws.{marked-between, closed-range, unt-digits, unz-digits}
 use Rattle.turns.specs.Held.{phased, stateIn, stretchIn, repeatedRef, afterUnb, afterUnh, afterOther, openSize, Held, decidedFrom, StepIs, Ready}
@@ -57,24 +57,24 @@ by : {A : Type 0} (F : StateS → Kind → A) {S S′ : StateS} → S ≡ S′ �
 by F {S} {S′} g {j} {k} e = ap (λ (x : StateS). F x k) g ∙ ap (λ (x : Kind). F S′ x) (sym e)
 
 -- a load is a QTY
-pub free-load : (a : Asked) → (kindOf (a .tag) ≡ Qty → ⊥) → loadRight a ≡ true
+pub free-load : (a : Asked) → (tagKind (a .tag) ≡ Qty → ⊥) → loadRight a ≡ true
 free-load a n = test (same (a .tag) (octets "QTY")) refl
   where
     test : (b : Bool) → same (a .tag) (octets "QTY") ≡ b → loadRight a ≡ true
-    test true e = absurd (n (ap kindOf (same-eq (a .tag) (octets "QTY") (subst T (sym e) tt))))
+    test true e = absurd (n (ap tagKind (same-eq (a .tag) (octets "QTY") (subst T (sym e) tt))))
     test false e = rw e
 
 module _ (a : Asked) where
-  unb-load : Unb ≡ kindOf (a .tag) → loadRight a ≡ true
+  unb-load : Unb ≡ tagKind (a .tag) → loadRight a ≡ true
   unb-load e = free-load a (λ q. false≢true (sym (ap (λ (k : Kind). atStart true false k) (e ∙ q))))
 
-  unh-load : Unh ≡ kindOf (a .tag) → loadRight a ≡ true
+  unh-load : Unh ≡ tagKind (a .tag) → loadRight a ≡ true
   unh-load e = free-load a (λ q. false≢true (sym (ap (λ (k : Kind). atIdle true false false k) (e ∙ q))))
 
-  unz-load : Unz ≡ kindOf (a .tag) → loadRight a ≡ true
+  unz-load : Unz ≡ tagKind (a .tag) → loadRight a ≡ true
   unz-load e = free-load a (λ q. false≢true (sym (ap (λ (k : Kind). atIdle false true false k) (e ∙ q))))
 
-  unt-load : Unt ≡ kindOf (a .tag) → loadRight a ≡ true
+  unt-load : Unt ≡ tagKind (a .tag) → loadRight a ≡ true
   unt-load e = free-load a (λ q. false≢true (sym (ap (λ (k : Kind). atBusy false false false true false k) (e ∙ q))))
 
 -- the subset, as its type is compared
@@ -145,7 +145,7 @@ module _ (l : List ℕ) where
 -- its reference has at most 14 octets
 unh-short : (v : Version) (a : Asked) → formedRow (row v named.Unh) a 1 ≡ true → length (a .text 1 0) ≤ 14
 unh-short v a e =
-    let r = closed-range (text 1 14) a 1 (and-l (formedAs (closed (text 1 14 ∷ [])) a 1) (formedRow (composite (text 1 6 ∷ []) ∷ []) a 2) e) in
+    let r = closed-range (anyText 1 14) a 1 (and-l (formedAs (simple (anyText 1 14 ∷ [])) a 1) (formedRow (composite (anyText 1 6 ∷ []) ∷ []) a 2) e) in
     leb-true (length (a .text 1 0)) 14 (and-r (leb 1 (length (a .text 1 0))) (leb (length (a .text 1 0)) 14) r)
 
 -- a slot was offered
@@ -345,14 +345,14 @@ module _ (y : Syntax) (s : List ℕ) (st : State) (h l b : List ℕ) (at next : 
           unz-other v d = stop (y .service .release) s h l b next (at-9 (y .version) here ask at unz-may (sym e ∙ not-false q n) (unz-refs ∙ not-true a v)) d
 
           module _ (v : not a ≡ false) {k w : ℕ} (number : k ≡ valueFrom 0 (textAt (y .service) s at 1 0)) (count : w ≡ st .count) where
-            unz-counts : countsS (y .version) here ask ≡ eqb (numberIn ask 1) (size refs)
+            unz-counts : countsS (y .version) here ask ≡ eqb (numberAt ask 1) (size refs)
             unz-counts = by (λ (z : StateS) (k : Kind). countsK (y .version) z k ask) (idle-here ph) (g .kind)
 
             pub unz-wrong : (k ≡ w → ⊥) → {r : Step} → r ≡ Stop (record { number = 10; place = at }) → Told r
             unz-wrong c d =
                 stop (y .service .release) s h l b next
                 (at-10 (y .version) here ask at unz-may (sym e ∙ not-false q n) (unz-refs ∙ not-false a v)
-                (unz-counts ∙ ne-eqb (numberIn ask 1) (size refs) (λ i. c (number ∙ i ∙ size-refs l (st .count) ∙ sym count)))) d
+                (unz-counts ∙ ne-eqb (numberAt ask 1) (size refs) (λ i. c (number ∙ i ∙ size-refs l (st .count) ∙ sym count)))) d
 
             unz-held : Held (y .service .release) s (afterOther st Done (st .count) (st .message)) h l b next
             unz-held =
@@ -371,7 +371,7 @@ module _ (y : Syntax) (s : List ℕ) (st : State) (h l b : List ℕ) (at next : 
             unz-read c d =
                 go (y .service .release) s h l b next
                 (at-end (y .version) here ask at unz-may (sym e ∙ not-false q n) (unz-refs ∙ not-false a v)
-                (unz-counts ∙ eq-eqb (numberIn ask 1) (size refs) (sym number ∙ c ∙ count ∙ sym (size-refs l (st .count))))
+                (unz-counts ∙ eq-eqb (numberAt ask 1) (size refs) (sym number ∙ c ∙ count ∙ sym (size-refs l (st .count))))
                 (by (λ (x : StateS) (k : Kind). scopeK x k ask) (idle-here ph) (g .kind)) (unz-load ask (g .kind)))
                 d (sym (by (λ (x : StateS) (k : Kind). nextK x k ask) (idle-here ph) (g .kind))) unz-held
 
@@ -427,12 +427,12 @@ module _ (y : Syntax) (s : List ℕ) (st : State) (h l b : List ℕ) (at next : 
             unt-other v d = stop (y .service .release) s h l b next (at-9 (y .version) here ask at unt-may (sym e ∙ not-false q n) (unt-refs ∙ not-true a v)) d
 
             module _ (v : not a ≡ false) {c : Bool}
-                (counts : c ≡ (eqb (numberIn ask 1) (st .message .segments + 1) && (pairsRight (st .message .pair) && totalRight (st .message .sums)))) where
+                (counts : c ≡ (eqb (numberAt ask 1) (st .message .segments + 1) && (pairsRight (st .message .pair) && totalRight (st .message .sums)))) where
               unt-counts : countsS (y .version) here ask ≡ c
               unt-counts =
                   let i : suc (st .message .segments) ≡ st .message .segments + 1 = omega arith in
                   by (λ (z : StateS) (k : Kind). countsK (y .version) z k ask) (busy-here ph) (g .kind)
-                  ∙ ap (λ (k : ℕ). eqb (numberIn ask 1) k && (pairsRight (st .message .pair) && totalRight (st .message .sums))) i ∙ sym counts
+                  ∙ ap (λ (k : ℕ). eqb (numberAt ask 1) k && (pairsRight (st .message .pair) && totalRight (st .message .sums))) i ∙ sym counts
 
               pub unt-wrong : not c ≡ true → {r : Step} → r ≡ Stop (record { number = 10; place = at }) → Told r
               unt-wrong w d =

@@ -10,11 +10,11 @@ ghost use Rattle.syntax.specs.Service.{fit};
 ghost use Rattle.syntax.specs.Classes.{Table};
 ghost use Rattle.grammar.specs.Elements.{inRange, digits, formed};
 ghost use Rattle.grammar.specs.Rules.{subsetOf};
-ghost use Rattle.elements.specs.Kinds.{kindOf};
+ghost use Rattle.elements.specs.Kinds.{tagKind};
 ghost use Rattle.elements.specs.Octets.{textAt, askedAt};
 ghost use Rattle.elements.specs.Fields.{Marked, Fields, FieldsAs};
 ghost use Rattle.message.specs.Heads.{headFlags};
-ghost use Rattle.message.specs.Summary.{numberIn, pairsRight, totalRight, allNamed, mayCome, atBusy};
+ghost use Rattle.message.specs.Summary.{numberAt, pairsRight, totalRight, allNamed, mayCome, atBusy};
 ghost use Rattle.message.specs.Steps.{stepM, summaryIn, Roomy, Sought, MovedIs};
 ghost use Rattle.turns.specs.Held.{unseenAs, seenIn, Entered, Sighted, stateIn, stretchIn, repeatedRef, afterUnb, afterUnh, afterOther, Ready, decidedFrom, StepIs};
 ghost use Rattle.elements.specs.Formed.{looked};
@@ -403,7 +403,7 @@ fn counts_right(s: &[u8], at: usize, y: Syntax, m: Message, marks: &[usize]) -> 
     requires { ⌜ Marked (y .service) (now s) at (now marks) ⌝ }
     requires { ⌜ inRange (digits 1 6) (textAt (y .service) (now s) at 1 0) ≡ true ⌝ }
     requires { ⌜ (m .segments < 65535) × (m .pair .base < 65536) × (m .pair .own < 65536) ⌝ }
-    ensures { λ r. ⌜ r ≡ (eqb (numberIn (askedAt (y .service) (now (s .entry)) at) 1) (m .segments + 1) && (pairsRight (m .pair) && totalRight (m .sums))) ⌝ }
+    ensures { λ r. ⌜ r ≡ (eqb (numberAt (askedAt (y .service) (now (s .entry)) at) 1) (m .segments + 1) && (pairsRight (m .pair) && totalRight (m .sums))) ⌝ }
 {
     let p = m.pair;
     let u = m.sums;
@@ -485,7 +485,7 @@ fn step_in(
     heads: &mut [usize; 36],
     i: usize,
 ) -> Moved
-    requires { ⌜ k ≡ kindOf (slice at (at + 3) (now s)) ⌝ }
+    requires { ⌜ k ≡ tagKind (slice at (at + 3) (now s)) ⌝ }
     requires { ⌜ (looked k ≡ true → Fields (y .service) (now s) at (f .size) (f .repeats) (now marks)) ⌝ }
     requires { ⌜ Roomy m (now heads) ⌝ }
     requires { ⌜ (m .segments < 65535) × (length (now heads) ≡ 36) ⌝ }

@@ -20,7 +20,7 @@ use Rattle.syntax.specs.declared.Found.{Found}
 use Rattle.syntax.specs.declared.Found.the-variants.{At as EndsAt, Nothing}
 use Rattle.syntax.specs.declared.Refusal.{Refusal}
 use Rattle.grammar.specs.Lists.{Snoc, nil, _▷_, _+++_, list}
-use Rattle.grammar.specs.Segments.{Ush, Ust, Usr, Usy, seg, text, Asked}
+use Rattle.grammar.specs.Segments.{Ush, Ust, Usr, Usy, seg, elementContent, Asked}
 use Rattle.grammar.specs.Interchange.{Leaf, Header, header, Trailer, trailer, message, showHeader, showTrailer, showOption, showBody}
 use Rattle.grammar.specs.Valid.{Interchange}
 use Rattle.grammar.specs.Verdict.{accepted, refusedWith, verdictOf}

@@ -40,12 +40,12 @@ use Rattle.grammar.specs.RunningLaws.{good-start, passed-good}
 use Rattle.grammar.specs.WalkLaws.{step-passed}
 use Rattle.grammar.specs.StartLaws.{start-read}
 use Rattle.grammar.specs.Verdict.{Answer, read, refused, tests, decided, then, atEnd, unless-done, walk, concluded, verdictOf, verdictBy, unaAt}
-use Rattle.elements.specs.Kinds.{kindOf}
+use Rattle.elements.specs.Kinds.{tagKind}
 use Rattle.elements.specs.Octets.{askedAt}
 use Rattle.references.specs.Refs.{refsIn}
 use Rattle.references.specs.RefsLaws.{indexed-none}
 use Rattle.message.specs.Steps.{summaryIn}
-use Rattle.message.specs.Summary.{Summary, StateS, startS, idleS, busyS, doneS, stateOf, AnswerS, told}
+use Rattle.message.specs.Summary.{Summary, StateS, startS, idleS, busyS, doneS, stateOf, AnswerS, answerOf}
 use Rattle.turns.specs.FollowLaws.{follow}
 use Rattle.turns.specs.TurnLaws.{Turned, walk-over, walk-none, walk-bad, walk-turn, cut-open, cut-ends, cut-spoilt, turned-inside, turned-three}
 use Rattle.turns.specs.Held.{lookedAt, seenBy, phased, stateIn, openSize, decidedFrom, StepIs}
@@ -191,7 +191,7 @@ pub record Whole (y : Syntax) (s : List ℕ) (i e : ℕ) (k : Kind) : Type 0 whe
   pub tag : tagOf (y .service) (drop i s) ≡ Is a b c
   pub ends : i + 4 ≤ e + 1
   pub inside : e + 1 ≤ length s
-  pub kind : k ≡ kindOf (slice i (i + 3) s)
+  pub kind : k ≡ tagKind (slice i (i + 3) s)
 
 pub whole : (y : Syntax) → T (fit (y .service)) → {s : List ℕ} {i e : ℕ} {k : Kind} → lookedAt y s i ≡ Seen e k → Whole y s i e k
 whole y d {s} {i} {e} {k} h = by (cutAt y s i) refl (tagOf (y .service) (drop i s)) refl h
@@ -205,7 +205,7 @@ whole y d {s} {i} {e} {k} h = by (cutAt y s i) refl (tagOf (y .service) (drop i 
     by (Ends q) h (Is a b c) m n =
         let t = walk-turn y start s i d (cut-ends y s i h) m in
         let u : q ≡ e = cc in
-        let v : kindOf (a ∷ b ∷ c ∷ []) ≡ k = cc in
+        let v : tagKind (a ∷ b ∷ c ∷ []) ≡ k = cc in
         let w : 4 ≤ length (printS (y .service) (t .g)) = long-print (y .service) (t .g) in
         let z : i + length (printS (y .service) (t .g)) ≡ q + 1 = t .size in
         let g : q < length s = t .high in
@@ -217,7 +217,7 @@ whole y d {s} {i} {e} {k} h = by (cutAt y s i) refl (tagOf (y .service) (drop i 
           tag = m;
           ends = omega (arith, u, w, z);
           inside = omega (arith, u, g);
-          kind = sym v ∙ ap kindOf (sym (ap (λ (a : Asked). a .tag) (t .asked) ∙ t .tagged));
+          kind = sym v ∙ ap tagKind (sym (ap (λ (a : Asked). a .tag) (t .asked) ∙ t .tagged));
         }
 
 -- where it ends
@@ -290,7 +290,7 @@ module _ {y : Syntax} {s : List ℕ} {from : ℕ} {x : State} {h l b : List ℕ}
       goes-so : answerFrom y s from ≡ then decision onward
       goes-so = sym (w .goes) ∙ turned .goes ∙ not-done (w .tree) (stands m) i (then decision onward)
 
-      tells : decidedFrom (y .version) (stateIn (y .service .release) s x h l) (askedAt (y .service) s i) i ≡ told decision
+      tells : decidedFrom (y .version) (stateIn (y .service .release) s x h l) (askedAt (y .service) s i) i ≡ answerOf decision
       tells =
           ap (λ (a : Asked). decidedFrom (y .version) (stateIn (y .service .release) s x h l) a i) (turned .asked)
           ∙ ap (λ (S : StateS). decidedFrom (y .version) S (asked (turned .g)) i) (sym (w .same))
@@ -302,7 +302,7 @@ module _ {y : Syntax} {s : List ℕ} {from : ℕ} {x : State} {h l b : List ℕ}
       stops {r} h′ l′ b′ g =
           by decision goes-so (subst (λ (a : AnswerS). StepIs a (Stop r) (y .service .release) s h′ l′ b′ (e + 1)) tells g)
         where
-          by : (d : Answer) → answerFrom y s from ≡ then d onward → StepIs (told d) (Stop r) (y .service .release) s h′ l′ b′ (e + 1) → answerFrom y s from ≡ refused (r .number) (r .place)
+          by : (d : Answer) → answerFrom y s from ≡ then d onward → StepIs (answerOf d) (Stop r) (y .service .release) s h′ l′ b′ (e + 1) → answerFrom y s from ≡ refused (r .number) (r .place)
           by (read z) q g = absurd g
           by (refused n p) q g = q ∙ rw (g .0, g .1)
 
@@ -321,7 +321,7 @@ module _ {y : Syntax} {s : List ℕ} {from : ℕ} {x : State} {h l b : List ℕ}
       goes-on {x′} {h′} {l′} {b′} n g =
           by decision refl goes-so (subst (λ (a : AnswerS). StepIs a (On x′) (y .service .release) s h′ l′ b′ (e + 1)) tells g)
         where
-          by : (d : Answer) → decision ≡ d → answerFrom y s from ≡ then d onward → StepIs (told d) (On x′) (y .service .release) s h′ l′ b′ (e + 1)
+          by : (d : Answer) → decision ≡ d → answerFrom y s from ≡ then d onward → StepIs (answerOf d) (On x′) (y .service .release) s h′ l′ b′ (e + 1)
               → Onward w (record { state = x′; next = e + 1; kind = k }) h′ l′ b′
           by (refused n p) u q g = absurd g
           by (read z) u q g =
@@ -344,7 +344,7 @@ module _ {y : Syntax} {s : List ℕ} {from : ℕ} {x : State} {h l b : List ℕ}
                 octets = turned .octets;
                 size = turned .size;
                 inside = seen .inside;
-                kind = seen .kind ∙ ap kindOf (ap (λ (a : Asked). a .tag) (turned .asked));
+                kind = seen .kind ∙ ap tagKind (ap (λ (a : Asked). a .tag) (turned .asked));
               }
 
       -- the step goes on

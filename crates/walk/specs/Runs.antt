@@ -25,7 +25,7 @@ use Rattle.turns.specs.declared.state.Advanced.the-variants.{On as Further, Sto
 use lib.Seq.{slice}
 use Rattle.syntax.specs.Tree.{Segment, segment, printS}
 use Rattle.grammar.specs.Segments.{asked}
-use Rattle.elements.specs.Kinds.{kindOf}
+use Rattle.elements.specs.Kinds.{tagKind}
 use Rattle.elements.specs.Octets.{askedAt}
 use Rattle.turns.specs.declared.state.Ahead.{Ahead}
 
@@ -86,7 +86,7 @@ pub record Onward {y : Syntax} {s : List ℕ} {from : ℕ} {x : State} {h l b : 
   pub octets : printS (y .service) g ≡ slice i (a .next) s
   pub size : i + length (printS (y .service) g) ≡ a .next
   pub inside : a .next ≤ length s
-  pub kind : a .kind ≡ kindOf (asked g .tag)
+  pub kind : a .kind ≡ tagKind (asked g .tag)
 
 abbrev pub AdvancedIs : {y : Syntax} {s : List ℕ} {from : ℕ} {x : State} {h l b : List ℕ} {i : ℕ} → Walking y s from x h l b i → Advanced → List ℕ → List ℕ → List ℕ → Type 0
 AdvancedIs w (Further a) h′ l′ b′ = Onward w a h′ l′ b′

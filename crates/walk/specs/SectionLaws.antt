@@ -33,7 +33,7 @@ use Rattle.grammar.specs.PlacesLaws.{wide-join, leads-placed, begin-placed, ope
 use Rattle.grammar.specs.PairLaws.{few-trailers}
 use Rattle.grammar.specs.Running.{Good}
 use Rattle.grammar.specs.Verdict.{loadsB, loadsM, refused}
-use Rattle.elements.specs.Kinds.{ofName, ofKind, kindOf}
+use Rattle.elements.specs.Kinds.{ofName, ofKind, tagKind}
 use Rattle.elements.specs.Octets.{textAt}
 use Rattle.elements.specs.declared.Kind.{Kind}
 use Rattle.elements.specs.declared.Kind.the-variants.{Ust, Qty, Cnt, Other}
@@ -81,7 +81,7 @@ ust-free true b e = let z : _≡_ {A = ℕ} 0 1 = cc in omega arith
 ust-free false true e = let z : _≡_ {A = ℕ} 0 1 = cc in omega arith
 ust-free false false e = let z : _≡_ {A = ℕ} 0 1 = cc in omega arith
 
-ust-text : (t : List ℕ) → kindOf t ≡ Ust → same t (octets "UST") ≡ true
+ust-text : (t : List ℕ) → tagKind t ≡ Ust → same t (octets "UST") ≡ true
 ust-text t e = by (kindIn tags t) refl e
   where
     by : (k : segments.Kind) → kindIn tags t ≡ k → ofKind k t ≡ Ust → same t (octets "UST") ≡ true
@@ -132,7 +132,7 @@ nameable-most s a n = by (same (slice a (a + 3) s) (octets "UST"))
 
 -- what the search found is the header that the UST names
 pub sought : (σ : Service) (s : List ℕ) (a : ℕ) (m : Kept) (h : List ℕ) {n i : ℕ} → n ≡ nameableIn s a (m .headers)
-    → i ≡ posOr n (freeAt (textAt σ s a 1 0) (headRefs (σ .release) s h n) (headFlags h n)) → i ≤ n → kindOf (slice a (a + 3) s) ≡ Ust → Sought σ s a m h i
+    → i ≡ posOr n (freeAt (textAt σ s a 1 0) (headRefs (σ .release) s h n) (headFlags h n)) → i ≤ n → tagKind (slice a (a + 3) s) ≡ Ust → Sought σ s a m h i
 sought σ s a m h {n} {i} e d l k =
     let q : n ≡ m .headers = e ∙ ap (λ (c : Bool). cond c (m .headers) 0) (ust-text (slice a (a + 3) s) k) in
     record {

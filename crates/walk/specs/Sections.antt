@@ -72,7 +72,7 @@ autackO (msg h hs b ts) = autack h
 
 -- ---- what is told of the message o, closed by the UNT t, whose UNH stands at p in the octets s
 
-pub record Laid (σ : Service) (s : List ℕ) (p : ℕ) (o : Open) (t : Leaf) (c : Layout) (rows : List ℕ) : Type 0 where
+pub record PartsLie (σ : Service) (s : List ℕ) (p : ℕ) (o : Open) (t : Leaf) (c : Layout) (rows : List ℕ) : Type 0 where
   -- where its UNH, its header groups, its body, its trailer groups and its UNT start, each behind what comes before it
   pub unh : c .unh ≡ p
   pub heads : c .heads ≡ headsAt σ p o
@@ -105,7 +105,7 @@ pub record Within (y : Syntax) (s : List ℕ) (from p : ℕ) (u : Leaf) (ms : Sn
 
 -- the message was closed, or the octets are over
 abbrev pub UntBy : Bool → (y : Syntax) → List ℕ → ℕ → Leaf → Snoc Message → Reading → Layout → ℕ → List ℕ → Type 0
-UntBy true y s p u ms z c i rows = (o : Open) × (t : Leaf) × ((z ≡ idle u (ms ▷ message o t)) × Laid (y .service) s p o t c rows)
+UntBy true y s p u ms z c i rows = (o : Open) × (t : Leaf) × ((z ≡ idle u (ms ▷ message o t)) × PartsLie (y .service) s p o t c rows)
 UntBy false y s p u ms z c i rows = (o : Open) × ((z ≡ busy u ms o) × (length s ≤ i))
 
 pub record AtUnt (y : Syntax) (s : List ℕ) (from p : ℕ) (u : Leaf) (ms : Snoc Message) (c : Section) (h l b rows : List ℕ) : Type 0 where
@@ -140,7 +140,7 @@ pub data Stays : Reading → Reading → Type 0 where
 -- a message more, with its layout; or none
 abbrev pub SectionBy : Bool → (y : Syntax) → List ℕ → ℕ → Reading → Reading → Layout → List ℕ → Type 0
 SectionBy true y s p x z c rows =
-    (u : Leaf) × (ms : Snoc Message) × (o : Open) × (t : Leaf) × ((x ≡ idle u ms) × (z ≡ idle u (ms ▷ message o t)) × Laid (y .service) s p o t c rows)
+    (u : Leaf) × (ms : Snoc Message) × (o : Open) × (t : Leaf) × ((x ≡ idle u ms) × (z ≡ idle u (ms ▷ message o t)) × PartsLie (y .service) s p o t c rows)
 SectionBy false y s p x z c rows = Stays x z
 
 pub record Passing {y : Syntax} {s : List ℕ} {from : ℕ} {x : State} {h l b : List ℕ} {i : ℕ} (w : Walking y s from x h l b i) (c : Section) (h′ l′ b′ rows : List ℕ) : Type 0 where

@@ -4,7 +4,7 @@ ghost use Prim.Native.Nat.{ℕ, _+_};
 ghost use lib.ListN.{length};
 ghost use lib.Seq.{slice};
 ghost use Rattle.syntax.specs.Classes.{Table};
-ghost use Rattle.elements.specs.Kinds.{kindOf};
+ghost use Rattle.elements.specs.Kinds.{tagKind};
 ghost use Rattle.elements.specs.declared.Kind.the-variants.{Ust};
 ghost use Rattle.message.specs.Steps.{Sought};
 ghost use Rattle.turns.specs.declared.state.Phase.the-variants.{Busy};
@@ -33,7 +33,7 @@ pub fn advance(
 ) -> Advanced
     requires { ⌜ Table y (now t) ⌝ }
     requires { ⌜ Going y (now s) st (now heads) (now names) (now slots) at (now marks) ⌝ }
-    requires { ⌜ (st .phase ≡ Busy → kindOf (slice at (at + 3) (now s)) ≡ Ust → Sought (y .service) (now s) at (st .message) (now heads) i) ⌝ }
+    requires { ⌜ (st .phase ≡ Busy → tagKind (slice at (at + 3) (now s)) ≡ Ust → Sought (y .service) (now s) at (st .message) (now heads) i) ⌝ }
     ensures { λ r. ⌜ ((from : ℕ) (w : Walking y (now (s .entry)) from st (now (heads .entry)) (now (names .entry)) (now (slots .entry)) at) → AdvancedIs w r (now (heads .exit)) (now (names .exit)) (now (slots .exit))) ⌝ }
     ensures { λ r. ⌜ length (now (marks .exit)) ≡ 40 ⌝ }
 {

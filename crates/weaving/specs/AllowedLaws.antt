@@ -8,7 +8,7 @@ use mathlib.Core.Path.{_≡_, refl, ap, _∙_, sym}
 use lib.Dec.{eqb, leb, ltb}
 use lib.ListN.{length}
 use borrow.Author.Tests.{ne-eqb, eq-eqb, le-leb, lt-leb, lt-ltb, le-ltb, ltb-true, ltb-false}
-use Rattle.syntax.specs.Octets.{same, within, every}
+use Rattle.syntax.specs.Octets.{same, within, allPass}
 use Rattle.syntax.specs.Repertoire.{tagOctet}
 use Rattle.syntax.specs.declared.Syntax.{Syntax}
 use Rattle.grammar.specs.Lists.{Snoc, nil, _▷_, each, size, among}
@@ -36,7 +36,7 @@ module _ (r : List ℕ) {n : ℕ} (e : n ≡ length r) where
   pub ref-long : (n ≡ 0 → ⊥) → 14 < n → false ≡ refRight r
   ref-long z h = rw (← e, le-leb 1 n (omega arith), lt-leb n 14 h)
 
-  pub ref-by : {x : Bool} → (n ≡ 0 → ⊥) → n ≤ 14 → x ≡ every tagOctet r → x ≡ refRight r
+  pub ref-by : {x : Bool} → (n ≡ 0 → ⊥) → n ≤ 14 → x ≡ allPass tagOctet r → x ≡ refRight r
   ref-by z h d = d ∙ rw (← e, le-leb 1 n (omega arith), le-leb n 14 h)
 
 pub not-true : {A : Type 0} {x : Bool} → x ≡ false → x ≡ true → A

@@ -13,7 +13,7 @@ use Rattle.syntax.specs.Tree.{Octet, plain, freed, Element, Segment, segment, S
 use Rattle.syntax.specs.TreeLaws.{spells-append, print-cons}
 use Rattle.syntax.specs.declared.Service.{Service}
 use Rattle.grammar.specs.Segments.{Ust, Usr, seg}
-use Rattle.writing.specs.Laid.{joined}
+use Rattle.writing.specs.Laid.{together}
 use Rattle.weaving.specs.Seals.{plains, released, single, ustLeaf, usrLeaf}
 use Rattle.weaving.specs.Woven.{headerText, trailerText, releasedText, headerPieces, trailerPieces}
 
@@ -40,7 +40,7 @@ module _ (σ : Service) where
       (spells-append σ (flatE (single t)) (each elem flatE es)
       ∙ ap (λ (l : List ℕ). l ++ spells σ (each elem flatE es)) (ap (spells σ) (append-nil (flatC (plains t) ++ []) ∙ append-nil (flatC (plains t))) ∙ spells-plains t))
 
-  pub header-pieces : (r : List ℕ) (f : ℕ) → headerText σ r f ≡ joined (headerPieces σ r f)
+  pub header-pieces : (r : List ℕ) (f : ℕ) → headerText σ r f ≡ together (headerPieces σ r f)
   unfolding headerText
   header-pieces r f = simp (spells-append, append-assoc, append-nil, spells-plains)
 
@@ -59,7 +59,7 @@ module _ (σ : Service) where
       ends : (ys : List Symbol) → ys ++ [] ++ [] ++ [] ≡ ys
       ends ys = simp append-nil
 
-  pub trailer-pieces : (r t : List ℕ) → trailerText σ r t ≡ joined (trailerPieces σ r t)
+  pub trailer-pieces : (r t : List ℕ) → trailerText σ r t ≡ together (trailerPieces σ r t)
   unfolding trailerText
   trailer-pieces r t =
       print-cons σ (seg Ust (ustLeaf r)) (seg Usr (usrLeaf σ t) ∷ [])

@@ -5,7 +5,7 @@ use mathlib.Core.List.{List, [], _∷_}
 use mathlib.Core.Option.{Option, none, some}
 use lib.Dec.{eqb, leb}
 use lib.ListN.{length, drop}
-use Rattle.syntax.specs.Octets.{octets, within, same, every}
+use Rattle.syntax.specs.Octets.{octets, within, same, allPass}
 use Rattle.syntax.specs.Service.{serves}
 use Rattle.syntax.specs.Repertoire.{tagOctet, outside}
 use Rattle.syntax.specs.Tree as syntax
@@ -16,7 +16,7 @@ use Rattle.grammar.specs.Lists.{Snoc, nil, _▷_, _+++_, each, size, among, lis
 use Rattle.grammar.specs.Segments.{unt0074}
 use Rattle.grammar.specs.Interchange.{Leaf, Header, header, Trailer, trailer, Open, msg, Message, message, showHeader, showBody}
 use Rattle.grammar.specs.Rules.{autack, refH, refM}
-use Rattle.grammar.specs.Valid.{Interchange, interchange, print}
+use Rattle.grammar.specs.Valid.{Interchange, interchange, printInterchange}
 use Rattle.writing.specs.Decimal.{decimalOf}
 use Rattle.filters.specs.Hex.{hexText}
 use Rattle.filters.specs.Six.{sixText}
@@ -89,7 +89,7 @@ sealed (interchange n u ms z) r h t = interchange n u (sealedIn h t ms r) z
 
 -- "REF is 1 to 14 of A to Z and 0 to 9"
 abbrev pub refRight : List ℕ → Bool
-refRight r = within 1 14 (length r) && every tagOctet r
+refRight r = within 1 14 (length r) && allPass tagOctet r
 
 -- "F is 2 or 7."
 abbrev pub filterRight : ℕ → Bool
@@ -121,7 +121,7 @@ mayWrite y b = not (outside y b) && not (serves (y .service) b && eqb (y .servic
 
 abbrev pub writable : Option Syntax → List ℕ → Bool
 writable none t = false
-writable (some y) t = every (mayWrite y) t
+writable (some y) t = allPass (mayWrite y) t
 
 -- ---- the texts
 
@@ -131,4 +131,4 @@ signedText σ (msg u hs b ts) r f = syntax.print σ (list (showHeader (newHeader
 
 -- "the sealed interchange", where t is the text of VALUE
 abbrev pub sealedText : Interchange → List ℕ → List ℕ → ℕ → List ℕ → List ℕ
-sealedText i m r f t = print (sealed i m (newHeader r f) (newTrailer (serviceIn i) r t))
+sealedText i m r f t = printInterchange (sealed i m (newHeader r f) (newTrailer (serviceIn i) r t))

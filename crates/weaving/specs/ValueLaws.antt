@@ -9,7 +9,7 @@ use lib.Dec.{eqb, leb}
 use lib.ListN.{length, getD, set, drop, drop-of-length-le}
 use lib.Seq.{drop-cons}
 use borrow.Author.Tests.{ne-eqb, eq-eqb, le-leb}
-use Rattle.syntax.specs.Octets.{every}
+use Rattle.syntax.specs.Octets.{allPass}
 use Rattle.syntax.specs.Service.{kindOf, serves}
 use Rattle.syntax.specs.Repertoire.{inside}
 use Rattle.syntax.specs.Classes.{outsideClass, releaseClass, endClass, classOf}
@@ -68,21 +68,21 @@ module _ (y : Syntax) (b : ℕ) {x : Bool} (e : x ≡ serves (y .service) b) whe
 -- ---- a test of every octet, under way: what is left to test decides
 
 pub record Testing (p : ℕ → Bool) (t : List ℕ) (i : ℕ) : Type 0 where
-  pub left : every p t ≡ every p (drop i t)
+  pub left : allPass p t ≡ allPass p (drop i t)
 
 pub testing-start : {p : ℕ → Bool} {t : List ℕ} → Testing p t 0
 testing-start = record { left = refl }
 
 module _ {p : ℕ → Bool} {t : List ℕ} {i : ℕ} (g : Testing p t i) where
-  pub testing-end : length t ≤ i → true ≡ every p t
-  testing-end h = sym (g .left ∙ ap (every p) (drop-of-length-le t h))
+  pub testing-end : length t ≤ i → true ≡ allPass p t
+  testing-end h = sym (g .left ∙ ap (allPass p) (drop-of-length-le t h))
 
   module _ {x : Bool} (h : i < length t) (e : x ≡ p (getD t i 0)) where
     pub testing-on : x ≡ true → Testing p t (i + 1)
-    testing-on d = record { left = g .left ∙ ap (every p) (drop-cons t i 0 h) ∙ rw (← e, d, add-one) }
+    testing-on d = record { left = g .left ∙ ap (allPass p) (drop-cons t i 0 h) ∙ rw (← e, d, add-one) }
 
-    pub testing-bad : x ≡ false → false ≡ every p t
-    testing-bad d = sym (g .left ∙ ap (every p) (drop-cons t i 0 h) ∙ rw (← e, d))
+    pub testing-bad : x ≡ false → false ≡ allPass p t
+    testing-bad d = sym (g .left ∙ ap (allPass p) (drop-cons t i 0 h) ∙ rw (← e, d))
 
 -- ---- a text released, octet by octet
 

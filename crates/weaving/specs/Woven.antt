@@ -5,7 +5,7 @@ use mathlib.Core.List.{List, [], _∷_}
 use lib.ListN.{length, drop}
 use lib.Seq.{slice}
 use Rattle.syntax.specs.Refusals.{atZero}
-use Rattle.syntax.specs.Octets.{every}
+use Rattle.syntax.specs.Octets.{allPass}
 use Rattle.syntax.specs.Service.{serves}
 use Rattle.syntax.specs.Content.{content}
 use Rattle.syntax.specs.Scanning.{numberIn}
@@ -22,7 +22,7 @@ use Rattle.grammar.specs.Lists.{list}
 use Rattle.grammar.specs.Interchange.{showHeader, showTrailer}
 use Rattle.walk.specs.declared.sections.Layout.{Layout}
 use Rattle.writing.specs.Decimal.{decimalOf}
-use Rattle.writing.specs.Laid.{joined}
+use Rattle.writing.specs.Laid.{together}
 use Rattle.writing.specs.Written.{Text, text, noText}
 use Rattle.weaving.specs.Seals.{newHeader, newTrailer, lengthRight, textBy, mayWrite}
 
@@ -87,11 +87,11 @@ octetsPieces σ s c r f = headerText σ r f ∷ slice (c .body) (c .tail) s ∷ 
 
 abbrev pub sealedPieces : Service → List ℕ → Layout → List ℕ → ℕ → List ℕ → List (List ℕ)
 sealedPieces σ s c r f t =
-    slice 0 (c .heads) s ∷ headerText σ r f ∷ slice (c .heads) (c .unt) s ∷ trailerText σ r t ∷ joined (restPieces σ s (c .unt)) ∷ []
+    slice 0 (c .heads) s ∷ headerText σ r f ∷ slice (c .heads) (c .unt) s ∷ trailerText σ r t ∷ together (restPieces σ s (c .unt)) ∷ []
 
 -- or 14, where the text of VALUE can't be written
 abbrev pub wovenOr : Syntax → List ℕ → Layout → List ℕ → ℕ → List ℕ → Text
-wovenOr y s c r f t = cond (every (mayWrite y) t) (text (joined (sealedPieces (y .service) s c r f t))) (noText (atZero 14))
+wovenOr y s c r f t = cond (allPass (mayWrite y) t) (text (together (sealedPieces (y .service) s c r f t))) (noText (atZero 14))
 
 -- or 16, where its length is not allowed
 abbrev pub sizedOr : Syntax → List ℕ → Layout → List ℕ → ℕ → List ℕ → Text

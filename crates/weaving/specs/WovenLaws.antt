@@ -27,7 +27,7 @@ use Rattle.syntax.specs.declared.content.Number.{Number}
 use Rattle.syntax.specs.declared.content.Number.the-variants.{Is, Not}
 use Rattle.grammar.specs.Lists as grammar
 use Rattle.grammar.specs.Lists.{Snoc, nil, _▷_, _+++_, list, Rule, holds, every}
-use Rattle.grammar.specs.Segments.{Unb, Unh, Unt, Unz, seg, text, number, Asked, asked}
+use Rattle.grammar.specs.Segments.{Unb, Unh, Unt, Unz, seg, elementContent, number, Asked, asked}
 use Rattle.grammar.specs.Elements.{digits, inRange, formed}
 use Rattle.grammar.specs.Interchange.{Leaf, Header, Trailer, Body, Open, msg, Message, message, idle, done, shown, showHeader, showTrailer, showBody, showOpen, showMessage}
 use Rattle.grammar.specs.Rules.{refM, formedS}
@@ -43,10 +43,10 @@ use Rattle.grammar.specs.Named.{Placed, placed, placedIn}
 use Rattle.elements.specs.AmountsLaws.{tens-below, digits-below}
 use Rattle.message.specs.StepsLaws.{six-is}
 use Rattle.walk.specs.Layout.{headsAt, bodyAt, tailAt}
-use Rattle.walk.specs.Sections.{Laid}
+use Rattle.walk.specs.Sections.{PartsLie}
 use Rattle.walk.specs.declared.sections.Layout.{Layout}
 use Rattle.writing.specs.Decimal.{decimalOf}
-use Rattle.writing.specs.Laid.{joined}
+use Rattle.writing.specs.Laid.{together}
 use Rattle.groups.specs.Stand.{Stand}
 use Rattle.groups.specs.StandLaws.{list-join, print-append, stand-front, stand-back, stand-asked, stand-slice}
 use Rattle.groups.specs.PartsLaws.{body-stands}
@@ -60,9 +60,9 @@ use Rattle.grammar.specs.ListsLaws.{every-right, every-joined, joined-join}
 -- ---- UNT: its count, and where that ends
 
 module _ (σ : Service) (s : List ℕ) (p : ℕ) (f : T (fit σ)) where
-  pub count-at : (k : Leaf) → Stand σ s p (nil ▷ seg Unt k) → inRange (digits 1 6) (text k 1 0) ≡ true → countAt σ s p ≡ number k 1 + 4
+  pub count-at : (k : Leaf) → Stand σ s p (nil ▷ seg Unt k) → inRange (digits 1 6) (elementContent k 1 0) ≡ true → countAt σ s p ≡ number k 1 + 4
   count-at k w h =
-      ap (λ (x : List ℕ). countBy (numberIn x)) (ap (λ (x : Asked). x .text 1 0) (stand-asked σ s p f (seg Unt k) w)) ∙ ap countBy (six-is (text k 1 0) h)
+      ap (λ (x : List ℕ). countBy (numberIn x)) (ap (λ (x : Asked). x .text 1 0) (stand-asked σ s p f (seg Unt k) w)) ∙ ap countBy (six-is (elementContent k 1 0) h)
 
   -- what stands behind 0074 in UNT
   abbrev pub untTail : List Element → List ℕ
@@ -107,8 +107,8 @@ module _ (σ : Service) (s : List ℕ) (p : ℕ) (f : T (fit σ)) where
 
 -- ---- rules on single segments hold for UNT
 
-unt-formed : (y : Version) (k : Leaf) → T (formed y (asked (seg Unt k))) → inRange (digits 1 6) (text k 1 0) ≡ true
-unt-formed y k h = let w : T (inRange (digits 1 6) (text k 1 0)) = search (and-left, and-right) in is-true (inRange (digits 1 6) (text k 1 0)) w
+unt-formed : (y : Version) (k : Leaf) → T (formed y (asked (seg Unt k))) → inRange (digits 1 6) (elementContent k 1 0) ≡ true
+unt-formed y k h = let w : T (inRange (digits 1 6) (elementContent k 1 0)) = search (and-left, and-right) in is-true (inRange (digits 1 6) (elementContent k 1 0)) w
 
 -- ---- the message that is found, among the others
 
@@ -156,7 +156,7 @@ cut-at a x z s p q e i j =
 
 module _ (A B U E X s : List ℕ) (h u e : ℕ) (is : s ≡ A ++ (B ++ (U ++ (E ++ X)))) (h-is : h ≡ length A) (u-is : u ≡ length A + length B) (four : length U ≡ 4)
     (e-is : e ≡ u + 4 + length E) where
-  assembled : (H T N : List ℕ) → joined (slice 0 h s ∷ H ∷ slice h u s ∷ T ∷ joined (slice u (u + 4) s ∷ N ∷ slice e (length s) s ∷ []) ∷ []) ≡ A ++ (H ++ (B ++ (T ++ (U ++ (N ++ X)))))
+  assembled : (H T N : List ℕ) → together (slice 0 h s ∷ H ∷ slice h u s ∷ T ∷ together (slice u (u + 4) s ∷ N ∷ slice e (length s) s ∷ []) ∷ []) ≡ A ++ (H ++ (B ++ (T ++ (U ++ (N ++ X)))))
   assembled H T N =
       let c1 : slice 0 h s ≡ A = cut-at [] A (B ++ (U ++ (E ++ X))) s 0 h is refl (omega (arith, h-is)) in
       let c2 : slice h u s ≡ B = cut-at A B (U ++ (E ++ X)) s h u is h-is u-is in
@@ -254,12 +254,12 @@ new-parts P I W H B T U N R D = simp append-assoc
 pub read-short : (s : List ℕ) (i : Interchange) → verdictOf s ≡ accepted i → length s ≤ 65535
 read-short s i e =
     let v = verdict-exact s i .0 e in
-    let w : T (leb (length (valid.print i)) 65535) = and-right (leb 1 (length (valid.print i))) (leb (length (valid.print i)) 65535) (v .0 .octetsRight) in
-    let l : length (valid.print i) ≤ 65535 = leb→le (length (valid.print i)) 65535 w in
+    let w : T (leb (length (valid.printInterchange i)) 65535) = and-right (leb 1 (length (valid.printInterchange i))) (leb (length (valid.printInterchange i)) 65535) (v .0 .octetsRight) in
+    let l : length (valid.printInterchange i) ≤ 65535 = leb→le (length (valid.printInterchange i)) 65535 w in
     omega (arith, l, ap length (v .1))
 
 -- UNT of the message that is named has a count
-pub unt-digits : (s m : List ℕ) (i : Interchange) (o : Open) (k : Leaf) (q : ℕ) → verdictOf s ≡ accepted i → messageIn i m ≡ some (placed (message o k) q) → inRange (digits 1 6) (text k 1 0) ≡ true
+pub unt-digits : (s m : List ℕ) (i : Interchange) (o : Open) (k : Leaf) (q : ℕ) → verdictOf s ≡ accepted i → messageIn i m ≡ some (placed (message o k) q) → inRange (digits 1 6) (elementContent k 1 0) ≡ true
 unt-digits s m (interchange n u ms z) o k q e named =
     let v = verdict-exact s (interchange n u ms z) .0 e in
     let y : Syntax = v .0 .y in
@@ -270,8 +270,8 @@ unt-digits s m (interchange n u ms z) o k q e named =
 
 module _ (s m : List ℕ) {σ : Service} {c : Layout} {rows : List ℕ} (r : List ℕ) (f : ℕ) (t : List ℕ) where
   woven-by : (i : Interchange) (o : Open) (k : Leaf) (q : ℕ) → verdictOf s ≡ accepted i → serviceIn i ≡ σ → T (fit σ)
-      → messageIn i m ≡ some (placed (message o k) q) → Laid σ s q o k c rows → Stand σ s q (showMessage (message o k))
-      → joined (sealedPieces σ s c r f t) ≡ sealedText i m r f t
+      → messageIn i m ≡ some (placed (message o k) q) → PartsLie σ s q o k c rows → Stand σ s q (showMessage (message o k))
+      → together (sealedPieces σ s c r f t) ≡ sealedText i m r f t
   unfolding headerText trailerText
   woven-by i o [] q e d fits named laid st = absurd (false≢true (unt-digits s m i o [] q e named))
   woven-by (interchange n u ms z) (msg a hs b ts) (x ∷ es) q e d fits named laid st =
@@ -319,12 +319,12 @@ module _ (s m : List ℕ) {σ : Service} {c : Layout} {rows : List ℕ} (r : Lis
 
 -- what the code lays is the printing of the sealed interchange
 pub woven : {s m : List ℕ} {y : Syntax} {c : Layout} {rows : List ℕ} (h : Holds s m y c rows) (r : List ℕ) (f : ℕ) (t : List ℕ)
-    → joined (sealedPieces (y .service) s c r f t) ≡ sealedText (h .i) m r f t
+    → together (sealedPieces (y .service) s c r f t) ≡ sealedText (h .i) m r f t
 woven {s} {m} h r f t = woven-by s m r f t (h .i) (h .o) (h .t) (h .q) (h .read) (h .service) (h .fits) (h .named) (h .laid) (h .stands)
 
 -- and of the octets to be signed
 signed-by : {s : List ℕ} {σ : Service} {c : Layout} {rows : List ℕ} (r : List ℕ) (f : ℕ) (o : Open) (k : Leaf) (q : ℕ)
-    → Laid σ s q o k c rows → Stand σ s q (showMessage (message o k)) → joined (octetsPieces σ s c r f) ≡ signedText σ o r f
+    → PartsLie σ s q o k c rows → Stand σ s q (showMessage (message o k)) → together (octetsPieces σ s c r f) ≡ signedText σ o r f
 unfolding headerText
 signed-by {s} {σ} {c} r f (msg a hs b ts) k q laid st =
     let w = body-stands σ s q a hs b ts k st in
@@ -335,7 +335,7 @@ signed-by {s} {σ} {c} r f (msg a hs b ts) k q laid st =
     ∙ sym (print-append σ (list (showHeader (newHeader r f))) (list (showBody b))) ∙ ap (print σ) (sym (list-join (showHeader (newHeader r f)) (showBody b)))
 
 pub signed : {s m : List ℕ} {y : Syntax} {c : Layout} {rows : List ℕ} (h : Holds s m y c rows) (r : List ℕ) (f : ℕ)
-    → joined (octetsPieces (y .service) s c r f) ≡ signedText (serviceIn (h .i)) (h .o) r f
+    → together (octetsPieces (y .service) s c r f) ≡ signedText (serviceIn (h .i)) (h .o) r f
 signed h r f = signed-by r f (h .o) (h .t) (h .q) (h .laid) (h .stands) ∙ ap (λ (τ : Service). signedText τ (h .o) r f) (sym (h .service))
 
 -- ---- 0074 as the code reads it

@@ -5,7 +5,7 @@ ghost use mathlib.Core.Bool.{true, cond, not, _&&_};
 ghost use Prim.Native.Nat.{ℕ, _≤_};
 ghost use lib.Dec.{T, eqb, ltb};
 ghost use lib.ListN.{length};
-ghost use Rattle.syntax.specs.Octets.{within, every};
+ghost use Rattle.syntax.specs.Octets.{within, allPass};
 ghost use Rattle.syntax.specs.Repertoire.{tagOctet};
 ghost use Rattle.syntax.specs.Classes.{Table};
 ghost use Rattle.groups.specs.Calls.{Holds};
@@ -19,7 +19,7 @@ use walk::sections::Layout;
 
 // A to Z and 0 to 9.
 fn are_tag_octets(reference: &[u8]) -> bool
-    ensures { λ r. ⌜ r ≡ every tagOctet (now (reference .entry)) ⌝ }
+    ensures { λ r. ⌜ r ≡ allPass tagOctet (now (reference .entry)) ⌝ }
 {
     let mut i: usize = 0;
     while i < reference.len() {

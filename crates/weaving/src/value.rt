@@ -5,7 +5,7 @@ ghost use Prim.Native.Nat.{_+_, _*_, _≤_, _<_};
 ghost use lib.ListN.{length};
 ghost use Rattle.syntax.specs.Service.{serves};
 ghost use Rattle.syntax.specs.Classes.{Table};
-ghost use Rattle.syntax.specs.Octets.{every};
+ghost use Rattle.syntax.specs.Octets.{allPass};
 ghost use Rattle.writing.specs.Laid.{Laid};
 ghost use Rattle.weaving.specs.Seals.{textBy, mayWrite};
 ghost use Rattle.weaving.specs.Woven.{releasedText};
@@ -54,7 +54,7 @@ fn may_write(t: &[u8; 256], y: Syntax, b: u8) -> bool
 // Whether the text can be written: all of it is inside the repertoire, and where a service character is in it a release is in force.
 pub fn is_writable(t: &[u8; 256], y: Syntax, text: &[u8]) -> bool
     requires { ⌜ Table y (now t) ⌝ }
-    ensures { λ r. ⌜ r ≡ every (mayWrite y) (now (text .entry)) ⌝ }
+    ensures { λ r. ⌜ r ≡ allPass (mayWrite y) (now (text .entry)) ⌝ }
 {
     let mut i: usize = 0;
     while i < text.len() {

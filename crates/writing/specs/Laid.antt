@@ -11,9 +11,9 @@ pub record Laid (out : List ℕ) (at : ℕ) (text : List ℕ) (r : ℕ) (out′ 
   pub octets : out′ ≡ sets out at text
 
 -- pieces one after the other
-abbrev pub joined : List (List ℕ) → List ℕ
-joined [] = []
-joined (p ∷ ps) = p ++ joined ps
+abbrev pub together : List (List ℕ) → List ℕ
+together [] = []
+together (p ∷ ps) = p ++ together ps
 
 -- of n octets that are laid from `at` on into a buffer of so much room, r have their place
 pub record Fits (room at n r : ℕ) : Type 0 where

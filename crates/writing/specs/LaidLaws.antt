@@ -9,7 +9,7 @@ use lib.Dec.{ltb}
 use lib.ListN.{length, getD, set, take, drop, drop-of-length-le, length-append}
 use borrow.Author.Tests.{ltb-true, ltb-false}
 use lib.Seq.{sets, sets-eq, set-out, drop-cons, length-sets, take-at}
-use Rattle.writing.specs.Laid.{Laid, Fits, joined}
+use Rattle.writing.specs.Laid.{Laid, Fits, together}
 
 -- two texts one after the other
 pub sets-joined : (l : List ℕ) (i : ℕ) (v w : List ℕ) → sets l i (v ++ w) ≡ sets (sets l i v) (i + length v) w
@@ -116,9 +116,9 @@ module _ {out₀ : List ℕ} {at : ℕ} {v : List ℕ} where
 -- ---- a row of pieces: `ps` are left to lay from `at` on
 
 pub record Weaving (out₀ : List ℕ) (at₀ : ℕ) (text : List ℕ) (ps : List (List ℕ)) (at : ℕ) (out : List ℕ) : Type 0 where
-  pub going : Rest out₀ at₀ text (joined ps) out at
+  pub going : Rest out₀ at₀ text (together ps) out at
 
-pub weaving-start : (out : List ℕ) (at : ℕ) (ps : List (List ℕ)) → Weaving out at (joined ps) ps at out
+pub weaving-start : (out : List ℕ) (at : ℕ) (ps : List (List ℕ)) → Weaving out at (together ps) ps at out
 weaving-start out at ps = record { going = rest-start }
 
 module _ {out₀ : List ℕ} {at₀ : ℕ} {text : List ℕ} where

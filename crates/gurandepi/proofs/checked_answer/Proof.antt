@@ -1,5 +1,5 @@
 use mathlib.Core.Path.{sym, ap}
-use Rattle.register.specs.Register.{told}
+use Rattle.register.specs.Register.{toldCheck}
 use borrow.Author.Needs.{needs}
 use Rattle.gurandepi.proofs.checked_answer.Statement.{statement}
 use Rattle.gurandepi.proofs.checked_answer.Tie as tie
@@ -20,11 +20,11 @@ cast-t4 c = search needs
 
 -- src/lib.rt:161:1
 returns : tie.Need-returns
-returns c = sym (ap told (c .enum-told .given .1))
+returns c = sym (ap toldCheck (c .enum-told .given .1))
 
 -- src/lib.rt:161:1
 returns-2 : tie.Need-returns-2
-returns-2 c = sym (ap told (c .before .before .c .given .1))
+returns-2 c = sym (ap toldCheck (c .before .before .c .given .1))
 
 pub checked-answer-spec : {M : Type 1} → statement M
 checked-answer-spec = tie.close (tie.spec enum-told enum-known-c cast-t4 returns returns-2)

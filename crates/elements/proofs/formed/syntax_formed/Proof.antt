@@ -1,4 +1,4 @@
-use Rattle.grammar.specs.Elements.{text}
+use Rattle.grammar.specs.Elements.{anyText}
 use Rattle.elements.specs.Octets.{askedAt}
 use Rattle.elements.specs.FormedLaws.{more-go, more-stop}
 use borrow.Author.Needs.{needs}
@@ -12,10 +12,10 @@ text-requires : tie.Need-text-requires
 text-requires c κs = search needs
 
 returns : tie.Need-returns
-returns c = more-go (askedAt (c .before .before .before .before .before .args .y .service) (c .before .before .before .before .before .args .s .now) (c .before .before .before .before .before .args .at)) 1 (text 1 65535) (c .before .before .composite .ensures) (text 1 65535) (c .before .if1 .taken) (c .text .ensures)
+returns c = more-go (askedAt (c .before .before .before .before .before .args .y .service) (c .before .before .before .before .before .args .s .now) (c .before .before .before .before .before .args .at)) 1 (anyText 1 65535) (c .before .before .composite .ensures) (anyText 1 65535) (c .before .if1 .taken) (c .text .ensures)
 
 returns-2 : tie.Need-returns-2
-returns-2 c = more-stop (askedAt (c .before .before .before .before .args .y .service) (c .before .before .before .before .args .s .now) (c .before .before .before .before .args .at)) 1 (text 1 65535) (c .before .composite .ensures) (text 1 65535) (c .if1 .left)
+returns-2 c = more-stop (askedAt (c .before .before .before .before .args .y .service) (c .before .before .before .before .args .s .now) (c .before .before .before .before .args .at)) 1 (anyText 1 65535) (c .before .composite .ensures) (anyText 1 65535) (c .if1 .left)
 
 pub syntax-formed-spec : {M : Type 1} → statement M
 syntax-formed-spec = tie.close (tie.spec composite-requires text-requires returns returns-2)

@@ -1,4 +1,4 @@
-use Rattle.grammar.specs.Elements.{text}
+use Rattle.grammar.specs.Elements.{anyText}
 use Rattle.elements.specs.FormedLaws.{range-read}
 use borrow.Author.Needs.{needs}
 use Rattle.elements.proofs.formed.text.Statement.{statement}
@@ -11,7 +11,7 @@ sized-requires : tie.Need-sized-requires
 sized-requires c κs = search needs
 
 returns : tie.Need-returns
-returns c = range-read _ _ _ _ _ (c .before .before .before .before .before .pre .1 .0) (c .before .field .ensures) (text (c .before .before .before .before .before .args .least) (c .before .before .before .before .before .args .most)) (c .sized .ensures)
+returns c = range-read _ _ _ _ _ (c .before .before .before .before .before .pre .1 .0) (c .before .field .ensures) (anyText (c .before .before .before .before .before .args .least) (c .before .before .before .before .before .args .most)) (c .sized .ensures)
 
 pub text-spec : {M : Type 1} → statement M
 text-spec = tie.close (tie.spec field-requires sized-requires returns)

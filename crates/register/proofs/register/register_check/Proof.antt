@@ -1,5 +1,5 @@
 use mathlib.Core.Path.{sym, ap, _∙_}
-use Rattle.register.specs.Register.{told}
+use Rattle.register.specs.Register.{toldCheck}
 use Rattle.register.specs.RegisterLaws.{unbegun, check-refused}
 use Rattle.register.specs.declared.forms.Form.the-variants.{Old}
 use borrow.Author.Needs.{needs}
@@ -38,11 +38,11 @@ check-from-requires c κs = (c .before .table .ensures, sym (c .before .before .
 
 -- src/register.rt:290:1
 returns : tie.Need-returns
-returns c = let e = check-refused Old (c .before .before .before .before .before .before .before .args .s .now) _ (unbegun Old (c .before .before .before .before .before .before .before .args .s .now) (c .before .before .before .before .begin .ensures) (c .before .before .f .given .1) (c .refusal .ensures)) (c .before .before .before .before .before .before .before .args .register .now) in (e, ap told e)
+returns c = let e = check-refused Old (c .before .before .before .before .before .before .before .args .s .now) _ (unbegun Old (c .before .before .before .before .before .before .before .args .s .now) (c .before .before .before .before .begin .ensures) (c .before .before .f .given .1) (c .refusal .ensures)) (c .before .before .before .before .before .before .before .args .register .now) in (e, ap toldCheck e)
 
 -- src/register.rt:290:1
 returns-2 : tie.Need-returns-2
-returns-2 c = (c .check-from .ensures, ap told (c .check-from .ensures))
+returns-2 c = (c .check-from .ensures, ap toldCheck (c .check-from .ensures))
 
 pub register-check-spec : {M : Type 1} → statement M
 register-check-spec =
