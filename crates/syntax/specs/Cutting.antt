@@ -19,7 +19,9 @@ abbrev pub stopFrom : Service → ℕ → Bool → List ℕ → ℕ → Found
 stopFrom σ n f [] i = Nothing
 stopFrom σ n f (b ∷ s) i = cond (leb n (kind σ f b)) (At i) (stopFrom σ n (eqb (kind σ f b) 0) s (suc i))
 
--- the end of the segment that starts at a place: its terminator
+-- the end of the segment that starts at a place: its terminator. The pieces of a segment (Segment.antt) end there too: `SegmentLaws.pieces-end`.
+-- The reader's chain (Reader.antt) opens a segment that ends there, and has octets left where there is no end: `turn-bad`, `turn-good` and
+-- `turn-left` of `TurnLaws` in the crate `turns`, for any octets; `ReaderLaws.cut-exact` says it of a whole input
 abbrev pub endAt : Service → List ℕ → ℕ → Found
 endAt σ s a = stopFrom σ 5 false (drop a s) a
 
@@ -34,6 +36,7 @@ firstOutside y [] i = Nothing
 firstOutside y (b ∷ s) i = cond (outside y b) (At i) (firstOutside y s (suc i))
 
 -- "A tag is three octets A to Z or 0 to 9, then an element separator or the terminator."
+-- The reader's `cut` (Reader.antt) gives a segment just where this gives its tag: `TurnLaws.turn-good`, and none where it is Bad: `TurnLaws.turn-bad`
 abbrev pub tagOf : Service → List ℕ → Tag
 tagOf σ [] = Bad
 tagOf σ (a ∷ []) = Bad

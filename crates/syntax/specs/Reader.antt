@@ -43,13 +43,14 @@ emit false (suc (suc (suc zero))) b n = push rep n
 emit false (suc (suc (suc (suc zero)))) b n = push elem n
 emit false (suc (suc (suc (suc (suc k))))) b n = push term n
 
--- the segments of an input. A release as the very last octet frees nothing: it is left
+-- the segments of an input. Each ends where `endAt` (Cutting.antt) says, and what has no end is left: `TurnLaws.turn-good`, `turn-bad`, `turn-left`
+-- in the crate `turns`. A release as the very last octet frees nothing: it is left
 abbrev pub chain : Service → Bool → List ℕ → Chain
 chain σ true [] = left
 chain σ false [] = over
 chain σ f (b ∷ s) = emit f (kind σ f b) b (chain σ (eqb (kind σ f b) 0) s)
 
--- a tag of three octets, none freed, each A to Z or 0 to 9, and nothing else before the first element
+-- what `tagOf` (Cutting.antt) says of octets, said of what was read (`TurnLaws.turn-good`, `turn-bad`): a tag of three octets, none freed, each A to Z or 0 to 9, and nothing else before the first element
 abbrev pub tagged : Octet → Octet → Octet → List Element → Option Segment
 tagged (plain a) (plain b) (plain c) es = cond (tagOctet a && tagOctet b && tagOctet c) (some (segment a b c es)) none
 tagged (plain a) (plain b) (freed c) es = none

@@ -20,7 +20,8 @@ use Rattle.syntax.specs.declared.reading.Span.the-variants.{Part, Absent
 pub data Piece : Type 0 where
   piece : ℕ → ℕ → ℕ → Piece
 
--- the pieces of a segment, tag first. `a` is where the piece now open starts, `i` the place of the list's head
+-- the pieces of a segment, tag first; the last ends at the segment's end (`endAt`): `SegmentLaws.pieces-end`. What is read by them is what the
+-- tree has of a printed segment: `BridgeLaws.bridge`. `a` is where the piece now open starts, `i` the place of the list's head
 abbrev pub pieces : Service → Bool → ℕ → List ℕ → ℕ → List Piece
 pieces σ f a [] i = []
 pieces σ f a (b ∷ s) i =

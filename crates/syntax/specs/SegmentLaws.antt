@@ -12,7 +12,7 @@ use Rattle.syntax.specs.Service.{kindOf, kind}
 use Rattle.syntax.specs.Repertoire.{inside}
 use Rattle.syntax.specs.Classes.{endClass, classOf}
 use Rattle.syntax.specs.RepertoireLaws.{Sorted, is-data, is-bad, is-release, is-separator, is-end, sorted, kind-le}
-use Rattle.syntax.specs.Cutting.{stopFrom}
+use Rattle.syntax.specs.Cutting.{stopFrom, endAt}
 use Rattle.syntax.specs.CuttingLaws.{drop-tail, drop-head, stop-in}
 use Rattle.syntax.specs.Segment.{Piece, piece, pieces, piecesAt, edgeOf, edgeAt, atElement, atComponent, components, repeats, elements, anyRepeats, Reaches}
 use Rattle.syntax.specs.declared.Service.{Service}
@@ -123,6 +123,36 @@ edge-over σ s i e d = none-from σ s i (drop i s) false i (edge-no σ s (stopFr
 
 past : (k : ℕ) (ps : List Piece) → (k ≡ 5 → ⊥) → after k ps ≡ ps
 past k ps h = rw (ne-eqb k 5 h)
+
+-- ---- one cut: the pieces of a segment end where the segment does
+
+-- where the piece ends that ends the segment
+abbrev pub lastEnd : List Piece → Found
+lastEnd [] = Nothing
+lastEnd (piece x z k ∷ ps) = cond (eqb k 5) (At z) (lastEnd ps)
+
+ends-from : (σ : Service) (f : Bool) (a : ℕ) (l : List ℕ) (i : ℕ) → lastEnd (pieces σ f a l i) ≡ stopFrom σ 5 f l i
+ends-from σ f a [] i = refl
+ends-from σ f a (b ∷ l) i = by (kind σ f b) (most f) (λ c. ends-from σ (eqb (kind σ f b) 0) c l (suc i))
+  where
+    most : (f : Bool) → kind σ f b ≤ 5
+    most true = omega arith
+    most false = kind-le σ b
+
+    by : (k : ℕ) → k ≤ 5 → ((c : ℕ) → lastEnd (pieces σ (eqb k 0) c l (suc i)) ≡ stopFrom σ 5 (eqb k 0) l (suc i)) →
+        lastEnd (cond (ltb k 2) (pieces σ (eqb k 0) (cond (ltb k 2) a (suc i)) l (suc i))
+        (piece a i k ∷ cond (eqb k 5) [] (pieces σ (eqb k 0) (cond (ltb k 2) a (suc i)) l (suc i))))
+        ≡ cond (leb 5 k) (At i) (stopFrom σ 5 (eqb k 0) l (suc i))
+    by zero m h = h a
+    by (suc zero) m h = h a
+    by (suc (suc zero)) m h = h (suc i)
+    by (suc (suc (suc zero))) m h = h (suc i)
+    by (suc (suc (suc (suc zero)))) m h = h (suc i)
+    by (suc (suc (suc (suc (suc zero))))) m h = refl
+    by (suc (suc (suc (suc (suc (suc k)))))) m h = absurd (omega (arith, m))
+
+pub pieces-end : (σ : Service) (s : List ℕ) (a : ℕ) → lastEnd (piecesAt σ s a) ≡ endAt σ s a
+pieces-end σ s a = ends-from σ false a (drop a s) a
 
 -- ---- the loops, each with its answer x fixed: what stands from i on gives it
 
