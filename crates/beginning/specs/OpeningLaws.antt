@@ -107,7 +107,7 @@ either-false : (t : Bool) → cond t false false ≡ false
 either-false true = refl
 either-false false = refl
 
-or-false : (t : Bool) → cond t true false ≡ t
+pub or-false : (t : Bool) → cond t true false ≡ t
 or-false true = refl
 or-false false = refl
 

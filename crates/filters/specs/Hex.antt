@@ -6,21 +6,21 @@ use mathlib.Core.Bool.{cond}
 use mathlib.Core.Option.{Option, none, some}
 use lib.Dec.{eqb, ltb}
 use lib.ListN.{length}
-use Rattle.syntax.specs.Octets.{octets}
+use Rattle.syntax.specs.Octets.{octet, octets}
 use Rattle.filters.specs.Octets.{before}
 
--- 0 to 9, then A to F
+-- 0 to 9, then A to F: 55 is A less 10
 abbrev pub hexDigit : ℕ → ℕ
-hexDigit n = cond (ltb n 10) (n + 48) (n + 55)
+hexDigit n = cond (ltb n 10) (n + octet "0") (n + 55)
 
 -- "even length, high half first": the text that we write of octets
 abbrev pub hexText : List ℕ → List ℕ
 hexText [] = []
 hexText (x ∷ v) = hexDigit (x / 16) ∷ hexDigit (x % 16) ∷ hexText v
 
--- the half octet that a character stands for; 16 where it is no digit
+-- the half octet that a character stands for; 16 where it is no digit. 58 comes behind 9
 abbrev pub halfOf : ℕ → ℕ
-halfOf c = cond (ltb 70 c) 16 (cond (ltb c 48) 16 (cond (ltb c 58) (c - 48) (cond (ltb c 65) 16 (c - 55))))
+halfOf c = cond (ltb (octet "F") c) 16 (cond (ltb c (octet "0")) 16 (cond (ltb c 58) (c - octet "0") (cond (ltb c (octet "A")) 16 (c - 55))))
 
 abbrev pub pairOf : ℕ → ℕ → Option (List ℕ) → Option (List ℕ)
 pairOf a b v = cond (ltb a 16) (cond (ltb b 16) (before ((a * 16 + b) ∷ []) v) none) none

@@ -6,24 +6,25 @@ use mathlib.Core.Bool.{Bool, cond}
 use mathlib.Core.Option.{Option, none, some}
 use lib.Dec.{ltb, eqb}
 use lib.ListN.{length}
+use Rattle.syntax.specs.Octets.{octet}
 use Rattle.filters.specs.Octets.{before}
 
--- A to Z, a to z, 0 to 9, then + and /
+-- A to Z, a to z, 0 to 9, then + and /: 71 is a less 26, and 4 is 52 less 0
 abbrev pub sixDigit : ℕ → ℕ
-sixDigit n = cond (ltb n 26) (n + 65) (cond (ltb n 52) (n + 71) (cond (ltb n 62) (n - 4) (cond (eqb n 62) 43 47)))
+sixDigit n = cond (ltb n 26) (n + octet "A") (cond (ltb n 52) (n + 71) (cond (ltb n 62) (n - 4) (cond (eqb n 62) (octet "+") (octet "/"))))
 
--- three octets are four digits of six bits, highest first; at the end the bits that are left, spare ones zero, and the pad =, 61
+-- three octets are four digits of six bits, highest first; at the end the bits that are left, spare ones zero, and the pad =
 abbrev pub sixText : List ℕ → List ℕ
 sixText [] = []
-sixText (x ∷ []) = sixDigit (x / 4) ∷ sixDigit (x % 4 * 16) ∷ 61 ∷ 61 ∷ []
-sixText (x ∷ y ∷ []) = sixDigit (x / 4) ∷ sixDigit (x % 4 * 16 + y / 16) ∷ sixDigit (y % 16 * 4) ∷ 61 ∷ []
+sixText (x ∷ []) = sixDigit (x / 4) ∷ sixDigit (x % 4 * 16) ∷ octet "=" ∷ octet "=" ∷ []
+sixText (x ∷ y ∷ []) = sixDigit (x / 4) ∷ sixDigit (x % 4 * 16 + y / 16) ∷ sixDigit (y % 16 * 4) ∷ octet "=" ∷ []
 sixText (x ∷ y ∷ z ∷ v) = sixDigit (x / 4) ∷ sixDigit (x % 4 * 16 + y / 16) ∷ sixDigit (y % 16 * 4 + z / 64) ∷ sixDigit (z % 64) ∷ sixText v
 
--- the six bits that a character stands for; 64 where it is no digit, 65 where it is the pad
+-- the six bits that a character stands for; 64 where it is no digit, 65 where it is the pad. 96 comes before a, 64 before A, 47, which is /, before 0
 abbrev pub bitsOf : ℕ → ℕ
 bitsOf c =
-    cond (ltb 122 c) 64 (cond (ltb 96 c) (c - 71) (cond (ltb 90 c) 64 (cond (ltb 64 c) (c - 65) (cond (eqb c 61) 65
-    (cond (ltb 57 c) 64 (cond (ltb 47 c) (c + 4) (cond (eqb c 47) 63 (cond (eqb c 43) 62 64))))))))
+    cond (ltb (octet "z") c) 64 (cond (ltb 96 c) (c - 71) (cond (ltb (octet "Z") c) 64 (cond (ltb 64 c) (c - octet "A") (cond (eqb c (octet "=")) 65
+    (cond (ltb (octet "9") c) 64 (cond (ltb 47 c) (c + 4) (cond (eqb c (octet "/")) 63 (cond (eqb c (octet "+")) 62 64))))))))
 
 -- how many octets four characters stand for by their bits, 0 where for none: no pad; one pad, two spare bits; two pads, four spare bits
 abbrev pub sizeOf : ℕ → ℕ → ℕ → ℕ → ℕ

@@ -5,7 +5,7 @@ use mathlib.Core.List.{List, [], _∷_}
 use mathlib.Core.Option.{Option, none, some}
 use lib.Dec.{eqb}
 use lib.ListN.{length}
-use Rattle.syntax.specs.Octets.{octets, same, within}
+use Rattle.syntax.specs.Octets.{octet, octets, same, within}
 use Rattle.syntax.specs.Content.{allDigits, valueFrom}
 use Rattle.syntax.specs.Tree.{Segment}
 use Rattle.grammar.specs.Lists.{Snoc, nil, _▷_}
@@ -15,7 +15,7 @@ use Rattle.grammar.specs.Segments.{Asked, asked}
 -- ---- amounts: digits, optionally a mark and digits; "comma and full stop both serve", "No sign"
 
 abbrev pub mark : ℕ → Bool
-mark b = eqb b 44 || eqb b 46
+mark b = eqb b (octet ",") || eqb b (octet ".")
 
 abbrev pub before : List ℕ → List ℕ
 before [] = []

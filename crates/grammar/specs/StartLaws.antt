@@ -415,7 +415,7 @@ is-unb : (t : Tag) → isUnb t ≡ true → t ≡ Is 85 78 66
 is-unb Bad h = absurd (false≢true h)
 is-unb (Is a b c) h = by (eqb a 85) (eqb b 78) (eqb c 66) refl refl refl h
   where
-    by : (p q w : Bool) → eqb a 85 ≡ p → eqb b 78 ≡ q → eqb c 66 ≡ w → p && q && w ≡ true → Is a b c ≡ Is 85 78 66
+    by : (p q w : Bool) → eqb a 85 ≡ p → eqb b 78 ≡ q → eqb c 66 ≡ w → cond p (cond q (cond w true false) false) false ≡ true → Is a b c ≡ Is 85 78 66
     by true true true x y z h = rw (eqb-true a 85 x, eqb-true b 78 y, eqb-true c 66 z)
     by true true false x y z h = absurd (false≢true h)
     by true false w x y z h = absurd (false≢true h)

@@ -9,7 +9,7 @@ use Rattle.writing.specs.Laid.{together}
 
 -- "a line feed after each"
 abbrev pub feed : List ℕ
-feed = 10 ∷ []
+feed = octets "\n"
 
 abbrev pub refusalLine : Refusal → List ℕ
 refusalLine f = together (octets "refused " ∷ decimalOf (f .number) ∷ octets " at " ∷ decimalOf (f .place) ∷ feed ∷ [])

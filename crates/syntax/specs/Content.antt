@@ -3,11 +3,11 @@ use Prim.Native.Nat.{ℕ, _+_, _*_, _-_}
 use mathlib.Core.List.{List, [], _∷_}
 use mathlib.Core.Bool.{Bool, true, false, cond, not}
 use lib.Dec.{eqb}
-use Rattle.syntax.specs.Octets.{digit, allPass}
+use Rattle.syntax.specs.Octets.{octet, digit, allPass}
 
--- the release in force; 32, a space, is not in force
+-- the release in force; a space is not in force
 abbrev pub releases : ℕ → ℕ → Bool
-releases ρ b = cond (eqb b 32) false (eqb b ρ)
+releases ρ b = cond (eqb b (octet " ")) false (eqb b ρ)
 
 -- `f`: the octet before is a release that is not itself released
 abbrev pub contentFrom : ℕ → Bool → List ℕ → List ℕ
@@ -30,4 +30,4 @@ allDigits s = allPass digit s
 
 abbrev pub valueFrom : ℕ → List ℕ → ℕ
 valueFrom v [] = v
-valueFrom v (d ∷ s) = valueFrom (v * 10 + (d - 48)) s
+valueFrom v (d ∷ s) = valueFrom (v * 10 + (d - octet "0")) s

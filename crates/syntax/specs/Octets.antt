@@ -1,15 +1,19 @@
 -- Octets, and the tests on them that the other pages use.
 use Prim.Native.Nat.{ℕ}
-use Prim.Native.Char.{code}
+use Prim.Native.Char.{Char, code}
 use Prim.Native.String.{String, [] as empty, _∷_ as put}
 use mathlib.Core.List.{List, [], _∷_}
 use mathlib.Core.Bool.{Bool, true, false, cond, _&&_, _||_}
 use lib.Dec.{eqb, leb}
 
+-- the octet of a character
+abbrev pub octet : Char → ℕ
+octet c = code c
+
 -- the octets of a quoted text
 abbrev pub octets : String → List ℕ
 octets empty = []
-octets (put c s) = code c ∷ octets s
+octets (put c s) = octet c ∷ octets s
 
 -- a to e, both included
 abbrev pub within : ℕ → ℕ → ℕ → Bool
@@ -17,13 +21,13 @@ within a e b = leb a b && leb b e
 
 -- 0 to 9, A to Z, a to z
 abbrev pub digit : ℕ → Bool
-digit b = within 48 57 b
+digit b = within (octet "0") (octet "9") b
 
 abbrev pub capital : ℕ → Bool
-capital b = within 65 90 b
+capital b = within (octet "A") (octet "Z") b
 
 abbrev pub small : ℕ → Bool
-small b = within 97 122 b
+small b = within (octet "a") (octet "z") b
 
 -- one of these octets
 abbrev pub oneOf : List ℕ → ℕ → Bool

@@ -4,7 +4,7 @@ use mathlib.Core.List.{List, [], _∷_}
 use mathlib.Core.Bool.{Bool, true, false, cond, not, _&&_, _||_}
 use lib.Dec.{eqb, leb, ltb}
 use lib.ListN.{length, getD, drop}
-use Rattle.syntax.specs.Octets.{octets, same, starts}
+use Rattle.syntax.specs.Octets.{octet, octets, same, starts}
 use Rattle.syntax.specs.Service.{standard, withoutRepetition, fit}
 use Rattle.syntax.specs.Cutting.{endAt, tagOf}
 use Rattle.syntax.specs.Segment.{componentAt, partOf}
@@ -80,7 +80,7 @@ repeating Three = false
 abbrev pub settled : Opening → Level → Version → Begun
 settled o l v =
     cond (repeating v) (Ready (record { syntax = record { version = v; level = l; service = o .service }; at = o .at }))
-    (cond (o .una && not (eqb (o .service .repetition) 32)) (refusedUnb 6 (o .at))
+    (cond (o .una && not (eqb (o .service .repetition) (octet " "))) (refusedUnb 6 (o .at))
     (Ready (record { syntax = record { version = v; level = l; service = withoutRepetition (o .service) }; at = o .at })))
 
 -- 6: "0001 or 0002 unknown; version 3 with a repetition octet"
@@ -100,7 +100,7 @@ isTag (Tagged a b c) = true
 isTag Bad = false
 
 abbrev pub isUnb : Tag → Bool
-isUnb (Tagged a b c) = eqb a 85 && eqb b 78 && eqb c 66
+isUnb (Tagged a b c) = same (a ∷ b ∷ c ∷ []) (octets "UNB")
 isUnb Bad = false
 
 abbrev pub isThere : Found → Bool

@@ -2,7 +2,7 @@
 use Prim.Native.Nat.{ℕ, _<_}
 use mathlib.Core.Bool.{Bool, false, cond, not, _||_}
 use lib.Dec.{eqb}
-use Rattle.syntax.specs.Octets.{octets, within, digit, capital, small, oneOf}
+use Rattle.syntax.specs.Octets.{octet, octets, within, digit, capital, small, oneOf}
 use Rattle.syntax.specs.Service.{serves}
 use Rattle.syntax.specs.declared.Service.{Service}
 use Rattle.syntax.specs.declared.Syntax.{Syntax}
@@ -15,7 +15,7 @@ tagOctet b = digit b || capital b
 
 -- "UNOA: A to Z, 0 to 9, space and `. , - ( ) / = ' + : ? ! " % & * ; < >`."
 abbrev pub insideA : ℕ → Bool
-insideA b = capital b || digit b || eqb b 32 || oneOf (octets ".,-()/='+:?!\"%&*;<>") b
+insideA b = capital b || digit b || eqb b (octet " ") || oneOf (octets ".,-()/='+:?!\"%&*;<>") b
 
 -- "UNOB adds a to z. UNOC: 0x20 to 0x7E and 0xA0 to 0xFF."
 unfoldable pub inside : Level → ℕ → Bool

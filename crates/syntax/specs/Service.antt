@@ -3,17 +3,17 @@
 use Prim.Native.Nat.{ℕ}
 use mathlib.Core.Bool.{Bool, true, false, cond, not, _&&_, _||_}
 use lib.Dec.{eqb}
-use Rattle.syntax.specs.Octets.{within, digit, capital, small}
+use Rattle.syntax.specs.Octets.{octet, within, digit, capital, small}
 use Rattle.syntax.specs.declared.Service.{Service}
 
 -- "Without UNA: `:` `+` `?` `*` `'` in version 4"
 abbrev pub standard : Service
-standard = record { component = 58; element = 43; release = 63; repetition = 42; terminator = 39 }
+standard = record { component = octet ":"; element = octet "+"; release = octet "?"; repetition = octet "*"; terminator = octet "'" }
 
--- "in version 3 no repetition"; 32, a space, is not in force
+-- "in version 3 no repetition"; a space is not in force
 abbrev pub withoutRepetition : Service → Service
 withoutRepetition σ =
-    record { component = σ .component; element = σ .element; release = σ .release; repetition = 32; terminator = σ .terminator }
+    record { component = σ .component; element = σ .element; release = σ .release; repetition = octet " "; terminator = σ .terminator }
 
 -- "a printable octet 0x21 to 0x7E, no letter or digit"
 abbrev pub servant : ℕ → Bool
@@ -29,19 +29,19 @@ abbrev pub differ : Service → Bool
 differ σ =
     not (eqb (σ .terminator) (σ .release)) && not (eqb (σ .element) (σ .release)) && not (eqb (σ .element) (σ .terminator))
     && not (eqb (σ .component) (σ .release)) && not (eqb (σ .component) (σ .terminator)) && not (eqb (σ .component) (σ .element))
-    && cond (eqb (σ .repetition) 32) true (repetitionDiffers σ)
+    && cond (eqb (σ .repetition) (octet " ")) true (repetitionDiffers σ)
 
 -- "Each of these except the decimal mark is a printable octet .., and those in force differ;
 -- release and repetition may instead be a space, meaning not in force."
 abbrev pub fit : Service → Bool
 fit σ =
-    servant (σ .component) && servant (σ .element) && cond (eqb (σ .release) 32) true (servant (σ .release))
-    && cond (eqb (σ .repetition) 32) true (servant (σ .repetition)) && servant (σ .terminator) && differ σ
+    servant (σ .component) && servant (σ .element) && cond (eqb (σ .release) (octet " ")) true (servant (σ .release))
+    && cond (eqb (σ .repetition) (octet " ")) true (servant (σ .repetition)) && servant (σ .terminator) && differ σ
 
 -- what an octet is that is not released: 0 a release, 1 data, and what ends 2 a component, 3 a repeat, 4 an element, 5 the segment
 abbrev pub kindOf : Service → ℕ → ℕ
 kindOf σ b =
-    cond (eqb b 32) 1
+    cond (eqb b (octet " ")) 1
     (cond (eqb b (σ .release)) 0
     (cond (eqb b (σ .terminator)) 5
     (cond (eqb b (σ .element)) 4

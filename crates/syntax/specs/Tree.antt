@@ -5,7 +5,7 @@ use mathlib.Core.Option.{Option, none, some}
 use mathlib.Core.Bool.{Bool, true, false, cond, not, _&&_}
 use lib.Dec.{eqb}
 use lib.ListN.{length, getElem?}
-use Rattle.syntax.specs.Octets.{allPass}
+use Rattle.syntax.specs.Octets.{octet, allPass}
 use Rattle.syntax.specs.Service.{serves}
 use Rattle.syntax.specs.Repertoire.{tagOctet}
 use Rattle.syntax.specs.declared.Service.{Service}
@@ -50,6 +50,7 @@ module _ {A : Type 0} (sep : Symbol) (flat : A → List Symbol) where
   abbrev pub separated : Ne A → List Symbol
   separated (ne a r) = flat a ++ each r
 
+-- what is printed of a part of the tree. The last letter of a name says of which: C a component, R a repeat, E an element, S a segment
 abbrev pub flatC : Component → List Symbol
 flatC [] = []
 flatC (t ∷ ts) = tok t ∷ flatC ts
@@ -104,9 +105,9 @@ contentIn (t ∷ ts) = octetIn t ∷ contentIn ts
 -- well-formed: what stands as it is serves for nothing, and a release or a repetition is printed only where it is in force
 abbrev pub ok : Service → Symbol → Bool
 ok σ (tok (plain b)) = not (serves σ b)
-ok σ (tok (freed b)) = not (eqb (σ .release) 32)
+ok σ (tok (freed b)) = not (eqb (σ .release) (octet " "))
 ok σ comp = true
-ok σ rep = not (eqb (σ .repetition) 32)
+ok σ rep = not (eqb (σ .repetition) (octet " "))
 ok σ elem = true
 ok σ term = true
 

@@ -5,7 +5,7 @@ use mathlib.Core.List.{List, [], _∷_}
 use mathlib.Core.Option.{Option, none, some}
 use lib.Dec.{eqb, leb}
 use lib.ListN.{length, drop}
-use Rattle.syntax.specs.Octets.{octets, within, same, allPass}
+use Rattle.syntax.specs.Octets.{octet, octets, within, same, allPass}
 use Rattle.syntax.specs.Service.{serves}
 use Rattle.syntax.specs.Repertoire.{tagOctet, outside}
 use Rattle.syntax.specs.Tree as syntax
@@ -117,7 +117,7 @@ abbrev pub textBy : ℕ → List ℕ → List ℕ
 textBy f v = cond (eqb f 2) (hexText v) (sixText v)
 
 abbrev pub mayWrite : Syntax → ℕ → Bool
-mayWrite y b = not (outside y b) && not (serves (y .service) b && eqb (y .service .release) 32)
+mayWrite y b = not (outside y b) && not (serves (y .service) b && eqb (y .service .release) (octet " "))
 
 abbrev pub writable : Option Syntax → List ℕ → Bool
 writable none t = false

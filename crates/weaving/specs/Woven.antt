@@ -39,7 +39,8 @@ abbrev pub releasedText : Service → List ℕ → List ℕ
 releasedText σ [] = []
 releasedText σ (b ∷ t) = let r : List ℕ = releasedText σ t in cond (serves σ b) (σ .release ∷ b ∷ r) (b ∷ r)
 
--- the pieces of the new groups
+-- the pieces of the new groups, octet by octet as the code writes them: 85 83 72 is USH, 85 83 65 USA, 85 83 84 UST, 85 83 82 USR; 49 is 1, 50 is 2,
+-- 52 is 4, 49 54 is 16
 abbrev pub headerPieces : Service → List ℕ → ℕ → List (List ℕ)
 headerPieces σ r f =
     (85 ∷ 83 ∷ 72 ∷ σ .element ∷ 49 ∷ σ .element ∷ [])

@@ -5,12 +5,12 @@ use mathlib.Core.Bool.{cond}
 use mathlib.Core.Path.{_≡_, refl}
 use lib.Dec.{ltb}
 use lib.ListN.{length, drop}
-use Rattle.syntax.specs.Octets.{octets}
+use Rattle.syntax.specs.Octets.{octet, octets}
 
 -- the digits of n, and after them those of t; at most `more` digits before the last one
 abbrev pub digitsBefore : ℕ → ℕ → List ℕ → List ℕ
-digitsBefore zero n t = (48 + n) ∷ t
-digitsBefore (suc more) n t = cond (ltb n 10) ((48 + n) ∷ t) (digitsBefore more (n / 10) ((48 + n % 10) ∷ t))
+digitsBefore zero n t = (octet "0" + n) ∷ t
+digitsBefore (suc more) n t = cond (ltb n 10) ((octet "0" + n) ∷ t) (digitsBefore more (n / 10) ((octet "0" + n % 10) ∷ t))
 
 -- 20 digits are enough for a number below 2 to the 64
 abbrev pub decimalOf : ℕ → List ℕ

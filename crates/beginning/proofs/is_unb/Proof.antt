@@ -1,3 +1,5 @@
+use mathlib.Core.Path.{sym}
+use Rattle.beginning.specs.OpeningLaws.{or-false}
 use borrow.Author.Tests.{eq-eqb, ne-eqb}
 use borrow.Author.Needs.{needs}
 use Rattle.beginning.proofs.is_unb.Statement.{statement}
@@ -16,7 +18,7 @@ enum-told : tie.Need-enum-told
 enum-told c = search needs
 
 returns-3 : tie.Need-returns-3
-returns-3 c = rw (c .before .before .before .g .given .1, eq-eqb _ _ (c .before .if1 .left), eq-eqb _ _ (c .if2 .left))
+returns-3 c = rw (c .before .before .before .g .given .1, eq-eqb _ _ (c .before .if1 .left), eq-eqb _ _ (c .if2 .left)) (sym (or-false _))
 
 returns-4 : tie.Need-returns-4
 returns-4 c = search needs
