@@ -20,7 +20,7 @@ use Rattle.syntax.specs.declared.Version.{Version}
 use Rattle.grammar.specs.Lists.{Snoc, nil, _▷_, _+++_, joined, Rule, holds, every}
 use Rattle.grammar.specs.Segments.{Unh, Unt, Ush, Usa, Usr, Ust, seg, asked, number}
 use Rattle.grammar.specs.Elements as table
-use Rattle.grammar.specs.Elements.{simple, anyLength, formedAs, formedRow, formed}
+use Rattle.grammar.specs.Elements.{simple, notEmptyReference, formedAs, formedRow, formed}
 use Rattle.grammar.specs.Interchange.{Leaf, Header, Trailer, Body, msg, message, showHeader, showTrailer, showBody, showMessage}
 use Rattle.grammar.specs.Rules.{insideS, formedS, amountS}
 use Rattle.writing.specs.Decimal.{decimalOf}
@@ -123,8 +123,8 @@ unt-formed v n l h = by n (number n 1 + 4) (first (number n 1 + 4) l) h
     by [] k f h = absurd h
     by (e ∷ n) k f h =
         and-both (allDigits (contentIn (plains (decimalOf k))) && within 1 6 (length (contentIn (plains (decimalOf k)))) && true && true)
-        (formedRow (simple (table.anyText 1 anyLength ∷ []) ∷ []) (asked (seg Unt (e ∷ n))) 2) f
-        (and-right (formedAs (simple (table.digits 1 6 ∷ [])) (asked (seg Unt (e ∷ n))) 1) (formedRow (simple (table.anyText 1 anyLength ∷ []) ∷ []) (asked (seg Unt (e ∷ n))) 2) h)
+        (formedRow (simple (notEmptyReference ∷ []) ∷ []) (asked (seg Unt (e ∷ n))) 2) f
+        (and-right (formedAs (simple (table.digits 1 6 ∷ [])) (asked (seg Unt (e ∷ n))) 1) (formedRow (simple (notEmptyReference ∷ []) ∷ []) (asked (seg Unt (e ∷ n))) 2) h)
 
 -- ---- the text of VALUE has 512 octets at most
 

@@ -20,7 +20,7 @@ use Rattle.syntax.specs.declared.Version.{Version}
 use Rattle.grammar.specs.Segments as named
 use Rattle.grammar.specs.Segments.{Named, Free, Asked, kindIn, tags}
 use Rattle.grammar.specs.Loads.{Shape, shape, amountRight, grams, unit, threePart, controlUnit, controlBy}
-use Rattle.grammar.specs.Elements.{Range, anyText, digits, simple, composite, inRange, formedAs, formed, formedKind}
+use Rattle.grammar.specs.Elements.{Range, anyText, notEmpty, digits, simple, composite, inRange, formedAs, formed, formedKind}
 use Rattle.grammar.specs.PlacingLaws.{same-eq}
 use Rattle.elements.specs.Octets.{textAt, partsAt, repeatedAt, askedAt}
 use Rattle.elements.specs.Kinds.{ofKind, tagKind}
@@ -151,6 +151,9 @@ filled-one ρ (b ∷ x) h e = pick (eqb b 32) (eqb b ρ) e
     pick true q e = omega arith
     pick false false e = omega arith
     pick false true e = absurd (false≢true e)
+
+pub there-so : (ρ : ℕ) (x : List ℕ) → 1 ≤ length (content ρ x) → true ≡ inRange notEmpty (content ρ x)
+there-so ρ x l = sym (le-leb 1 (length (content ρ x)) l)
 
 module _ (ρ : ℕ) (x : List ℕ) (least most : ℕ) where
   module _ (h : length x ≤ most) where

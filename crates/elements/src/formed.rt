@@ -67,6 +67,16 @@ fn sized(x: &[u8], release: u8, least: usize, most: usize) -> bool
     n <= most
 }
 
+// Whether the content has an octet at all. They are counted only where a glance does not settle it.
+fn not_empty(x: &[u8], release: u8) -> bool
+    ensures { λ r. ⌜ r ≡ inRange checked.notEmpty (content release (now (x .entry))) ⌝ }
+{
+    if filled(x, release) {
+        return true;
+    }
+    1 <= content_length(x, release)
+}
+
 // Whether the content is digits, and so many: one pass for both.
 fn digits_within(x: &[u8], release: u8, least: usize, most: usize) -> bool
     ensures { λ r. ⌜ r ≡ inRange (checked.digits least most) (content release (now (x .entry))) ⌝ }
@@ -112,6 +122,16 @@ fn text(
 {
     let v = y.service;
     sized(field(s, at, y, marks, p, c), v.release, least, most)
+}
+
+// A component is not empty.
+fn there(s: &[u8], at: usize, y: Syntax, marks: &[usize], p: usize, c: usize) -> bool
+    requires { ⌜ Marked (y .service) (now s) at (now marks) ⌝ }
+    requires { ⌜ (1 ≤ p) × (p ≤ 5) × (c ≤ 2) ⌝ }
+    ensures { λ r. ⌜ r ≡ inRange checked.notEmpty (textAt (y .service) (now (s .entry)) at p c) ⌝ }
+{
+    let v = y.service;
+    not_empty(field(s, at, y, marks, p, c), v.release)
 }
 
 // A component is digits, and so many.
@@ -173,6 +193,21 @@ fn single(
     false
 }
 
+// An element of one component, a reference whose length is not printed.
+fn single_there(s: &[u8], at: usize, y: Syntax, marks: &[usize], p: usize) -> bool
+    requires { ⌜ Marked (y .service) (now s) at (now marks) ⌝ }
+    requires { ⌜ (1 ≤ p) × (p ≤ 5) ⌝ }
+    ensures { λ r. ⌜ r ≡ formedAs (checked.simple (checked.notEmptyReference ∷ [])) (askedAt (y .service) (now (s .entry)) at) p ⌝ }
+{
+    if repeated(s, at, y, marks, p) {
+        return false;
+    }
+    if 1 < parts(s, at, y, marks, p) {
+        return false;
+    }
+    there(s, at, y, marks, p, 0)
+}
+
 fn single_digits(
     s: &[u8],
     at: usize,
@@ -207,13 +242,16 @@ fn value_formed(s: &[u8], at: usize, y: Syntax, marks: &[usize], p: usize) -> bo
     false
 }
 
-// 0001 1.. : 0002 1..
+// 0001 : 0002, of which no length is printed.
 fn syntax_formed(s: &[u8], at: usize, y: Syntax, marks: &[usize]) -> bool
     requires { ⌜ Marked (y .service) (now s) at (now marks) ⌝ }
-    ensures { λ r. ⌜ r ≡ formedAs (checked.composite (checked.anyText 1 65535 ∷ checked.anyText 1 65535 ∷ [])) (askedAt (y .service) (now (s .entry)) at) 1 ⌝ }
+    ensures { λ r. ⌜ r ≡ formedAs (checked.composite (checked.notEmpty ∷ checked.notEmpty ∷ [])) (askedAt (y .service) (now (s .entry)) at) 1 ⌝ }
 {
-    if composite(s, at, y, marks, 1, 1, 65535) {
-        return text(s, at, y, marks, 1, 1, 1, 65535);
+    if repeated(s, at, y, marks, 1) {
+        return false;
+    }
+    if there(s, at, y, marks, 1, 0) {
+        return there(s, at, y, marks, 1, 1);
     }
     false
 }
@@ -272,13 +310,13 @@ pub fn unh_formed(s: &[u8], at: usize, y: Syntax, marks: &[usize]) -> bool
     false
 }
 
-// UNT and UNZ: a count, and a reference of any length.
+// UNT and UNZ: a count, and a reference.
 pub fn end_formed(s: &[u8], at: usize, y: Syntax, marks: &[usize]) -> bool
     requires { ⌜ Marked (y .service) (now s) at (now marks) ⌝ }
     ensures { λ r. ⌜ r ≡ formedRow (row (y .version) named.Unt) (askedAt (y .service) (now (s .entry)) at) 1 ⌝ }
 {
     if single_digits(s, at, y, marks, 1, 1, 6) {
-        return single(s, at, y, marks, 2, 1, 65535);
+        return single_there(s, at, y, marks, 2);
     }
     false
 }

@@ -11,17 +11,14 @@ use Rattle.syntax.specs.declared.Version.the-variants.{Three, Four}
 use Rattle.grammar.specs.Segments.{Name, Unb, Unh, Unt, Unz, Ush, Usa, Usc, Usr, Ust, Usb, Usx, Usy, Kind, Named, Reserved, Free, kindIn, tags, Asked}
 use Rattle.grammar.specs.Loads.{controlRight}
 
--- a component's length, least and most: of any text, of digits, of a reference
+-- a component's length, least and most: of any text, of digits, of a reference. Where no length is printed, a text or a reference that is not empty
 pub data Range : Type 0 where
   anyText digits reference : ℕ → ℕ → Range
+  notEmpty notEmptyReference : Range
 
 -- an element: its first components; whether further ones may follow. "one range for a composite means its first component"
 pub data Checked : Type 0 where
   simple composite : List Range → Checked
-
--- no length is printed: 0074's and 0036's neighbours, 0001 and 0002. An interchange has no more octets
-abbrev pub anyLength : ℕ
-anyLength = 65535
 
 -- "date : time, digits 6 : 4 (version 3) or 8 : 4 (version 4)"
 abbrev pub dateDigits : Version → ℕ
@@ -37,14 +34,14 @@ valueRow v = composite (anyText 1 3 ∷ anyText 0 512 ∷ [])
 abbrev pub row : Version → Name → List Checked
 -- | UNB | 0001 : 0002; S002 1..35; S003 1..35; date : time, digits 6 : 4 (version 3) or 8 : 4 (version 4); 0020 1..14 |
 row v Unb =
-    composite (anyText 1 anyLength ∷ anyText 1 anyLength ∷ []) ∷ composite (anyText 1 35 ∷ []) ∷ composite (anyText 1 35 ∷ [])
+    composite (notEmpty ∷ notEmpty ∷ []) ∷ composite (anyText 1 35 ∷ []) ∷ composite (anyText 1 35 ∷ [])
     ∷ composite (digits (dateDigits v) (dateDigits v) ∷ digits 4 4 ∷ []) ∷ simple (reference 1 14 ∷ []) ∷ []
 -- | UNH | 0062 1..14; 0065 1..6 |
 row v Unh = simple (reference 1 14 ∷ []) ∷ composite (anyText 1 6 ∷ []) ∷ []
 -- | UNT | 0074 1..6 digits; 0062 |
-row v Unt = simple (digits 1 6 ∷ []) ∷ simple (reference 1 anyLength ∷ []) ∷ []
+row v Unt = simple (digits 1 6 ∷ []) ∷ simple (notEmptyReference ∷ []) ∷ []
 -- | UNZ | 0036 1..6 digits; 0020 |
-row v Unz = simple (digits 1 6 ∷ []) ∷ simple (reference 1 anyLength ∷ []) ∷ []
+row v Unz = simple (digits 1 6 ∷ []) ∷ simple (notEmptyReference ∷ []) ∷ []
 -- | USH | 0501 1..3; 0534 1..14; 0541 1..3; 0503 0..3; 0505 0..3 |
 row v Ush = simple (anyText 1 3 ∷ []) ∷ simple (reference 1 14 ∷ []) ∷ simple (anyText 1 3 ∷ []) ∷ simple (anyText 0 3 ∷ []) ∷ simple (anyText 0 3 ∷ []) ∷ []
 -- USA and USC have no row: "the rest is only read as octets"
@@ -61,11 +58,13 @@ row v Usx = simple (reference 1 14 ∷ []) ∷ []
 -- | USY | 0534 1..14; 0563 1..3 : 0560 0..512 |
 row v Usy = simple (reference 1 14 ∷ []) ∷ valueRow v ∷ []
 
--- "lengths of content"; absent is empty
+-- "lengths of content"; absent is empty, and "missing or malformed" where a length is not printed
 abbrev pub inRange : Range → List ℕ → Bool
 inRange (anyText a e) s = within a e (length s)
 inRange (reference a e) s = within a e (length s)
 inRange (digits a e) s = allDigits s && within a e (length s)
+inRange notEmpty s = leb 1 (length s)
+inRange notEmptyReference s = leb 1 (length s)
 
 -- the components from c on of the element at position p
 abbrev pub inRanges : List Range → Asked → ℕ → ℕ → Bool

@@ -25,7 +25,7 @@ use Rattle.grammar.specs.declared.Subset.{Subset}
 use Rattle.grammar.specs.declared.Subset.the-variants.{None, F01}
 use Rattle.grammar.specs.Rules.{claimed, scopeCode}
 use Rattle.grammar.specs.Segments.{Unt, Unz, Ust, Asked}
-use Rattle.grammar.specs.Elements.{Range, anyText, digits, simple, anyLength, row, inRange, formedAs, formedRow}
+use Rattle.grammar.specs.Elements.{Range, notEmptyReference, digits, simple, row, inRange, formedAs, formedRow}
 use Rattle.elements.specs.AmountsLaws.{digits-below, tens-below}
 use Rattle.elements.specs.Octets.{textAt, askedAt}
 use Rattle.elements.specs.Fields.{Marked, startIn, endIn}
@@ -146,7 +146,7 @@ closed-range r a p e = at (a .repeated p) (inRange r (a .text p 0)) (leb (a .par
     at false false d h = h
 
 pub unt-digits : (v : Version) (a : Asked) → formedRow (row v Unt) a 1 ≡ true → inRange (digits 1 6) (a .text 1 0) ≡ true
-unt-digits v a e = closed-range (digits 1 6) a 1 (and-l (formedAs (simple (digits 1 6 ∷ [])) a 1) (formedRow (simple (anyText 1 anyLength ∷ []) ∷ []) a 2) e)
+unt-digits v a e = closed-range (digits 1 6) a 1 (and-l (formedAs (simple (digits 1 6 ∷ [])) a 1) (formedRow (simple (notEmptyReference ∷ []) ∷ []) a 2) e)
 
 pub unz-digits : (v : Version) (a : Asked) → formedRow (row v Unz) a 1 ≡ true → inRange (digits 1 6) (a .text 1 0) ≡ true
 unz-digits v a e = unt-digits v a e
