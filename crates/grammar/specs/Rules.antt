@@ -1,5 +1,6 @@
 -- The rules on a tree, grouped by the number that tells their breach. Each is a formula over a tree or a part of one.
 -- A rule on single segments (3, 8, 12) is tested on each segment shown.
+-- The last letter of a name says of what it is: S a segment, H a header group, T a trailer group, L a link, O an open message, M a message.
 use Prim.Native.Nat.{ℕ, zero, suc, _+_}
 use mathlib.Core.Bool.{Bool, true, false, cond, not, _&&_, _||_}
 use mathlib.Core.List.{List, [], _∷_}
@@ -71,12 +72,14 @@ abbrev pub okItem : Segment → Rule
 okItem g = test (isFree (segmentKind g))
 
 -- "A message of type AUTACK has at least one header; its body is USB, then one or more times (USX, one or more USY)."
+-- This holds while the body is read: before its first segment a body is `plain nil`, in an AUTACK too, so an empty one breaks nothing yet. What must
+-- be there when the body is over is `whole`
 abbrev pub okBody : Bool → Snoc Header → Body → Rule
 okBody a hs (plain nil) = always
 okBody a hs (plain (b ▷ i)) = test (not a) and every okItem b and okItem i
 okBody a hs (ack c ls) = test a and test (any hs) and firm ls
 
--- a body that a trailer or UNT may follow
+-- a body that a trailer or UNT may follow: an AUTACK's has its USB by then, and so an AUTACK with an empty body is refused here, 7 at that trailer or UNT
 abbrev pub whole : Bool → Body → Rule
 whole a (plain b) = test (not a)
 whole a (ack c ls) = test (any ls) and every filled ls

@@ -108,7 +108,8 @@ pub data Verdict : Type 0 where
 abbrev pub unaAt : List ℕ → Option Una
 unaAt s = cond (startsUna s) (some (una (unaService s) (getD s 5 0))) none
 
--- of the octets s, once their walk has ended
+-- of the octets s, once their walk has ended. A walk that reads ends in `done` (`WalkLaws.walk-runs`: what it read is `Finished`; else `atEnd` has
+-- refused it, with its place), so that the cases `start`, `idle` and `busy` never come about
 abbrev pub concluded : List ℕ → Option Una → Answer → Verdict
 concluded s n (read start) = refusedWith (refusalAt s 7 0)
 concluded s n (read (idle u ms)) = refusedWith (refusalAt s 7 0)
@@ -125,7 +126,7 @@ verdictOf s = verdictBy s (begunOf s)
 
 -- ---- the loads and grams of the message with a given 0062
 
--- "In messages other than AUTACK"; "an AUTACK prints loads 0 grams 0"
+-- of a body, B, and of a message, M: "In messages other than AUTACK"; "an AUTACK prints loads 0 grams 0"
 abbrev pub loadsB : Body → Snoc Grams
 loadsB (plain b) = loads b
 loadsB (ack c ls) = nil
