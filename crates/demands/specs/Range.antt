@@ -75,7 +75,7 @@ scope2 = record { segments = segments2; rule = rule2; loads = loads2 }
 
 -- ---- F01: "from the first UNH to the last UNT of messages not of type AUTACK"
 
--- "it holds no message or an AUTACK lies inside it": then it fails
+-- "it holds no message or an AUTACK lies inside it": then it fails. `F` is of F01, as `1` and `2` above are of scope 1 and scope 2
 abbrev pub ruleF : Snoc Message → Rule
 ruleF ms = test (any ms) and every other ms and every okMessage ms
 

@@ -69,6 +69,7 @@ number0074 (message o t) = unt0074 t
 abbrev pub number0036 : Interchange → ℕ
 number0036 (interchange n u ms z) = unz0036 z
 
+-- of a body, `B`; and of a message, `M`
 abbrev pub controlsB : Body → Snoc Grams
 controlsB (plain b) = controls b
 controlsB (ack c ls) = nil

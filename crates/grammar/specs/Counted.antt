@@ -16,6 +16,7 @@ pub record Counted : Type 0 where
   pub loads : Snoc Grams
   pub grams : Grams
 
+-- of a message, M
 abbrev pub countedM : Message → Counted
 countedM (message (msg h hs b ts) t) = record {
   ref = unh0062Text h;

@@ -12,7 +12,7 @@ use Rattle.grammar.specs.Interchange.{Leaf, Header, header, Trailer, tra
 abbrev pub more : Header → Bool
 more (header c us cs) = any cs || any us
 
--- a body has begun
+-- a body, B, has begun
 abbrev pub begunB : Body → Bool
 begunB (plain b) = any b
 begunB (ack c ls) = true

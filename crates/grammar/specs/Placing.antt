@@ -6,6 +6,8 @@ use Rattle.grammar.specs.Lists.{Snoc, nil, _▷_, map}
 use Rattle.grammar.specs.Segments.{Name, Unb, Unh, Unt, Unz, Ush, Usa, Usc, Usr, Ust, Usb, Usx, Usy, Kind, Named, Reserved, Free, segmentKind, elementsOf}
 use Rattle.grammar.specs.Interchange.{Leaf, Certificate, certificate, Header, header, Trailer, trailer, Link, link, Body, plain, ack, Open, msg, Message, message, Reading, start, idle, busy, done}
 
+-- A name is a tag and the part that a segment so tagged goes into: C a certificate, H a header group, T a trailer group, L a link, B a body, O an open message
+
 -- "USC, 0 to 3 USA, 0 or 1 USR": no USA after the USR, and no second USR
 abbrev pub usaC : Leaf → Certificate → Option Certificate
 usaC g (certificate c us none) = some (certificate c (us ▷ g) none)

@@ -20,7 +20,7 @@ headerNamed (msg h hs b ts) r = chosenBy refH hs (compared r)
 abbrev pub trailerNamed : Open → List ℕ → Option (Chosen Trailer)
 trailerNamed (msg h hs b ts) r = chosenBy refT ts (compared r)
 
--- a header's scope code, 0541
+-- a header's scope code, 0541. In names, `H` at the end is a header group
 abbrev pub scopeH : Header → List ℕ
 scopeH (header c us cs) = ush0541 c
 

@@ -26,7 +26,7 @@ use Rattle.lines.specs.Words.{refusalLine, acceptedLine, messageLine, sealLine}
 
 -- ---- the lines of a message whose UNH stands at q
 
--- 0062 and 0534 as they are written
+-- 0062 and 0534 as they are written. In names, `O` at the end is an open message, `H` a header group, `M` a message
 abbrev pub writtenO : Open → List ℕ
 writtenO (msg h hs b ts) = unh0062Text h
 

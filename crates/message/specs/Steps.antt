@@ -22,6 +22,7 @@ use Rattle.message.specs.declared.Message.{Message}
 use Rattle.message.specs.declared.steps.Moved.{Moved}
 use Rattle.message.specs.declared.steps.Moved.the-variants.{To, Bad}
 
+-- names end in `M` where they say what a segment does in a message: the summary after it, or a number
 pub data AnswerM : Type 0 where
   toM : Summary → AnswerM
   badM : ℕ → AnswerM

@@ -86,6 +86,7 @@ pub record Summary : Type 0 where
   pub sizes : Snoc ℕ
   pub flags : Snoc Bool
 
+-- `H` at a name's end: of a header group
 abbrev pub sizeH : Header → ℕ
 sizeH h = size (showHeader h)
 
@@ -100,7 +101,9 @@ abbrev pub summaryOf : Open → Summary
 summaryOf (msg h hs b ts) =
     record { m = keptOf (msg h hs b ts); ref = unh0062 h; refs = each refH hs; sizes = each sizeH hs; flags = flagsOf (each refT ts) (each refH hs) }
 
--- nothing read; between messages, with UNB's 0020 and the 0062s so far; in a message; all read
+-- names end in `S` where they are of the summary what the name without it is of the tree (`Reading`, `order`, `refs`, ..); in `K` where they go by the
+-- segment's kind.
+-- Nothing read; between messages, with UNB's 0020 and the 0062s so far; in a message; all read
 pub data StateS : Type 0 where
   startS : StateS
   idleS : List ℕ → Snoc (List ℕ) → StateS

@@ -8,7 +8,7 @@ use Rattle.grammar.specs.Interchange.{Leaf, msg, Message, message, idle, shown}
 use Rattle.grammar.specs.Rules.{autack}
 use Rattle.grammar.specs.Places.{wide}
 
--- a message of type AUTACK
+-- a message of type AUTACK. In names, `M` at the end is a message
 abbrev pub autackM : Message → Bool
 autackM (message (msg h hs b ts) t) = autack h
 

@@ -16,7 +16,7 @@ use Rattle.groups.specs.Parts.{headerNamed, trailerNamed, bodyIn}
 use Rattle.groups.specs.Links.{Tie, tie, tieIn}
 use Rattle.groups.specs.Calls.{Answered, given, refusedAs, answeredBy, then, messageIn}
 
--- a header's filter, 0505
+-- a header's filter, 0505. In names, `H` at the end is a header group
 abbrev pub filterH : Header → List ℕ
 filterH (header c us cs) = ush0505 c
 

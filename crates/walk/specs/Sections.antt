@@ -67,6 +67,7 @@ abbrev pub endedAs : Bool → ℕ → Reached
 endedAs true i = Over
 endedAs false i = misplacedAs i
 
+-- in names, `O` at the end is an open message
 abbrev pub autackO : Open → Bool
 autackO (msg h hs b ts) = autack h
 
