@@ -22,9 +22,3 @@ headersIn (msg h hs b ts) = hs
 
 abbrev pub trailersIn : Open → Snoc Trailer
 trailersIn (msg h hs b ts) = ts
-
--- ---- where the segment g goes in an open message: the message before, and after
-
--- ---- where it goes in what was read so far: these are all
-
--- ---- the same, by what it led from and to

@@ -88,8 +88,6 @@ passed-step y x g {z} k p =
     )
     h
 
--- ---- nothing comes after UNZ
-
 -- ---- the walk over a chain
 
 -- a whole interchange was read

@@ -16,8 +16,6 @@ use Rattle.syntax.specs.declared.content.Next.the-variants.{Octet, Over}
 use Rattle.writing.specs.Laid.{Laid}
 use Rattle.writing.specs.LaidLaws.{Rest, rest-start, rest-same, rest-put, rest-end, sets-joined}
 
--- ---- two texts, one behind the other
-
 -- ---- content under way: what is left of it is that of x from i on
 
 pub record Contenting (ρ : ℕ) (out₀ : List ℕ) (at : ℕ) (x : List ℕ) (i : ℕ) (out : List ℕ) (p : ℕ) : Type 0 where
