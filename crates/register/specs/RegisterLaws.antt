@@ -76,19 +76,19 @@ entries-short f (e ∷ es) = omega (arith, length-append (entryText f e) (entrie
 -- ---- numbers in octets
 
 pub four-laid : (n : ℕ) {a b c d : ℕ} {out out′ : List ℕ} {at r : ℕ} → a ≡ n / 16777216 % 256 → b ≡ n / 65536 % 256 → c ≡ n / 256 % 256 → d ≡ n / 1 % 256
-    → PartsLie out at (a ∷ b ∷ c ∷ d ∷ []) r out′ → PartsLie out at (highest 4 n) r out′
+    → Laid out at (a ∷ b ∷ c ∷ d ∷ []) r out′ → Laid out at (highest 4 n) r out′
 four-laid n e f g h l = laid-same (rw (e, f, g, h)) l
 
 pub eight-laid : (n : ℕ) {a b c d i j k m : ℕ} {out out′ : List ℕ} {at r : ℕ} → a ≡ n / 72057594037927936 % 256 → b ≡ n / 281474976710656 % 256 → c ≡ n / 1099511627776 % 256 → d ≡ n / 4294967296 % 256
     → i ≡ n / 16777216 % 256 → j ≡ n / 65536 % 256 → k ≡ n / 256 % 256 → m ≡ n / 1 % 256
-    → PartsLie out at (a ∷ b ∷ c ∷ d ∷ i ∷ j ∷ k ∷ m ∷ []) r out′ → PartsLie out at (highest 8 n) r out′
+    → Laid out at (a ∷ b ∷ c ∷ d ∷ i ∷ j ∷ k ∷ m ∷ []) r out′ → Laid out at (highest 8 n) r out′
 eight-laid n e f g h e′ f′ g′ h′ l = laid-same (rw (e, f, g, h, e′, f′, g′, h′)) l
 
 -- what is laid in the old form is laid in the form asked for: there is no other
-pub count-laid : (f : Form) (n : ℕ) {out out′ : List ℕ} {at r : ℕ} → PartsLie out at (countText Old n) r out′ → PartsLie out at (countText f n) r out′
+pub count-laid : (f : Form) (n : ℕ) {out out′ : List ℕ} {at r : ℕ} → Laid out at (countText Old n) r out′ → Laid out at (countText f n) r out′
 count-laid Old n l = l
 
-pub entry-laid : (f : Form) (e : Entry) {out out′ : List ℕ} {at r : ℕ} → PartsLie out at (entryText Old e) r out′ → PartsLie out at (entryText f e) r out′
+pub entry-laid : (f : Form) (e : Entry) {out out′ : List ℕ} {at r : ℕ} → Laid out at (entryText Old e) r out′ → Laid out at (entryText f e) r out′
 entry-laid Old e l = l
 
 -- ---- entries laid one after the other
@@ -111,7 +111,7 @@ adds-more {f} {es = es} {gs = gs} a b =
 adds-short : {f : Form} {out out′ : List ℕ} {x r : Extent} {es : List Entry} → Adds f out x es r out′ → r .end + 20 * x .count ≤ x .end + 20 * r .count
 adds-short {f} {es = es} a = omega (arith, a .count, a .laid .place, entries-short f es)
 
-pub section-entry : {f : Form} {b : Bool} (c : Layout) {out out′ : List ℕ} {x r : Extent} {e : Entry} → b ≡ true → e ≡ entryAt c → r .count ≡ x .count + 1 → PartsLie out (x .end) (entryText f e) (r .end) out′
+pub section-entry : {f : Form} {b : Bool} (c : Layout) {out out′ : List ℕ} {x r : Extent} {e : Entry} → b ≡ true → e ≡ entryAt c → r .count ≡ x .count + 1 → Laid out (x .end) (entryText f e) (r .end) out′
     → Adds f out x (sectionAt c b) r out′
 section-entry {f} {b} c {out} {out′} {x} {r} {e} d q n l =
     subst (λ (k : Bool). Adds f out x (sectionAt c k) r out′) (sym d)
@@ -236,7 +236,7 @@ laid-refused f p s out out′ e g = subst (λ (a : Entries). LaysAll f p s out a
 pub measured : (f : Form) (s : List ℕ) {a v : Entries} → a ≡ v → MeasuredAs f s a → MeasuredAs f s v
 measured f s e g = subst (MeasuredAs f s) e g
 
-module _ {f : Form} {s out out′ : List ℕ} {x : Extent} (g : LaysEntries f 0 s out x out′) {q : ℕ} {z z′ : List ℕ} (l : PartsLie z 0 (countText f (x .count)) q z′) where
+module _ {f : Form} {s out out′ : List ℕ} {x : Extent} (g : LaysEntries f 0 s out x out′) {q : ℕ} {z z′ : List ℕ} (l : Laid z 0 (countText f (x .count)) q z′) where
   pub measured-fits : q + x .end < 18446744073709551616
   measured-fits = omega (arith, l .place, count-short f (x .count), g .few, adds-short (g .adds))
 
@@ -253,13 +253,13 @@ module _ {f : Form} {s out out′ : List ℕ} {x : Extent} (g : LaysEntries f 0 
       }
 
 -- the count, and the entries behind it
-pub filled : {f : Form} {s : List ℕ} {p : ℕ} {out₀ out out′ : List ℕ} {x z : Extent} → Measured f s x → PartsLie out₀ 0 (countText f (x .count)) p out → LaysEntries f p s out z out′
+pub filled : {f : Form} {s : List ℕ} {p : ℕ} {out₀ out out′ : List ℕ} {x z : Extent} → Measured f s x → Laid out₀ 0 (countText f (x .count)) p out → LaysEntries f p s out z out′
     → Lays (registerOf f s) out₀ (Length (z .end)) out′
 filled {f} {out₀ = out₀} {out′ = out′} {x = x} {z = z} w l g =
     let es = entriesIn (g .whole) in
     let i : w .whole ≡ g .whole = accepted-one (sym (w .accepts) ∙ g .accepts) in
     let n : x .count ≡ length es = w .count ∙ ap (λ (i : Interchange). length (entriesIn i)) i in
-    let d : PartsLie out₀ 0 (registerText f es) (z .end) out′ = laid-more (laid-same (ap (countText f) n) l) (g .adds .laid) in
+    let d : Laid out₀ 0 (registerText f es) (z .end) out′ = laid-more (laid-same (ap (countText f) n) l) (g .adds .laid) in
     let k : z .end ≡ length (registerText f es) = omega (arith, d .place) in
     record { octets = registerText f es; is = ap (registerBy f) (g .accepts); answer = ap Length k; laid = rw k at d }
   where
@@ -290,7 +290,7 @@ module _ {f : Form} {s : List ℕ} {x : Extent} (w : Measured f s x) where
   register-so : registerOf f s ≡ text octets
   register-so = ap (registerBy f) (w .accepts)
 
-  lays-so : {out out′ : List ℕ} {a : Written} → Lays (registerOf f s) out a out′ → (a ≡ Length (x .end)) × PartsLie out 0 octets (x .end) out′
+  lays-so : {out out′ : List ℕ} {a : Written} → Lays (registerOf f s) out a out′ → (a ≡ Length (x .end)) × Laid out 0 octets (x .end) out′
   lays-so q =
       let e : text (q .octets) ≡ text octets = sym (q .is) ∙ register-so in
       let d : q .octets ≡ octets = cc in
