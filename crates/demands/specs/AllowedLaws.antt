@@ -83,7 +83,7 @@ module _ (s m r : List ℕ) (f : ℕ) where
           read = v;
           of = message (msg u hs b ts) n;
           there = x .0;
-          name = x .1;
+          name = x .1 .0;
           ref-size = within-so 1 14 (length r) (and-left (within 1 14 (length r)) (allPass tagOctet r) ref);
           ref-octets = and-right (within 1 14 (length r)) (allPass tagOctet r) ref;
           ref-new = new-so hs r (t .1 .1 .1);

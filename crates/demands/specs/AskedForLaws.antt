@@ -1,24 +1,26 @@
 -- A range is given exactly where the message and the header that are named are there.
 use Prim.Native.Nat.{ℕ, _+_}
+use native.Mathlib.Omega.{arith}
 use mathlib.Core.Path.{_≡_, refl, ap, _∙_, sym, subst}
 use mathlib.Core.List.{List}
 use mathlib.Core.Logic.{_↔_}
-use mathlib.Core.Option.{Option, none, some}
+use mathlib.Core.Option.{some}
 use mathlib.Core.Bool.{Bool, true, false, cond}
 use lib.Dec.{T}
 use Rattle.syntax.specs.Octets.{octets, same}
 use Rattle.syntax.specs.ContentLaws.{same-self}
 use Rattle.syntax.specs.declared.Service.{Service}
-use Rattle.grammar.specs.Lists.{Snoc, nil, _▷_, _+++_, each, among, holds}
+use Rattle.grammar.specs.Lists.{Snoc, nil, _▷_, each, among, holds}
 use Rattle.grammar.specs.TestLaws.{passes}
 use Rattle.grammar.specs.PlacingLaws.{same-eq}
-use Rattle.grammar.specs.Interchange.{Leaf, Header, msg, Message, message, idle, shown}
+use Rattle.grammar.specs.Interchange.{Leaf, Open, msg, Message, message, idle, shown}
 use Rattle.grammar.specs.Rules.{refH, refT, refM, one, refsMessage}
 use Rattle.grammar.specs.Valid.{Interchange, interchange, Valid, openingIn}
 use Rattle.grammar.specs.Verdict.{accepted, verdictOf}
 use Rattle.grammar.specs.VerdictLaws.{verdict-exact}
 use Rattle.grammar.specs.Counted.{messagesIn}
 use Rattle.grammar.specs.Places.{wide}
+use Rattle.grammar.specs.PlacesLaws.{wide-list}
 use Rattle.grammar.specs.Named.{placed, placedIn}
 use Rattle.groups.specs.Parts.{scopeH}
 use Rattle.groups.specs.Groups.{chosen, chosenBy}
@@ -26,27 +28,52 @@ use Rattle.groups.specs.GroupsLaws.{chosen-among}
 use Rattle.groups.specs.Calls.{given, serviceIn, messageIn}
 use Rattle.groups.specs.CallsLaws.{none-some}
 use Rattle.ranges.specs.Ranges.{Parts, parts, scope1Of, Run, run, scope2Of}
+use Rattle.weaving.specs.WovenLaws.{una-length}
 use Rattle.demands.specs.AskedLaws.{Asks, asks1, asks2}
 use Rattle.demands.specs.GivenLaws.{there1, there2}
-use Rattle.demands.specs.Stated.{In, headersOf, HasHeader}
-use Rattle.demands.specs.OnceLaws.{every-in, each-in, among-in, found-once, chosen-once, chosen-in, among-chosen}
+use Rattle.demands.specs.Stated.{In, headersOf, placeBehind, HasHeader}
+use Rattle.demands.specs.Printed.{MessageOf}
+use Rattle.demands.specs.OnceLaws.{every-in, each-in, found-once, chosen-once, chosen-in, among-chosen}
 
 -- ---- the message that is named is one of the interchange
 
 module _ (σ : Service) (p : ℕ) (u : Leaf) (r : List ℕ) where
-  placed-in : (ms : Snoc Message) {m : Message} {q : ℕ} → placedIn σ p u ms r ≡ some (placed m q) → In m ms × (refM m ≡ r)
+  -- m with the 0062 r is one of these, and stands at q
+  abbrev Stands : Message → ℕ → Snoc Message → Type 0
+  Stands m q ms = (w : In m ms) × ((refM m ≡ r) × (q ≡ p + wide σ (shown (idle u (w .before)))))
+
+  placed-in : (ms : Snoc Message) {m : Message} {q : ℕ} → placedIn σ p u ms r ≡ some (placed m q) → Stands m q ms
   placed-in nil e = none-some e
   placed-in (ms ▷ x) {m} {q} e = by (same (refM x) r) refl (λ k. placed-in ms k) e
     where
-      by : (b : Bool) → same (refM x) r ≡ b → (placedIn σ p u ms r ≡ some (placed m q) → In m ms × (refM m ≡ r))
-          → cond b (some (placed x (p + wide σ (shown (idle u ms))))) (placedIn σ p u ms r) ≡ some (placed m q) → In m (ms ▷ x) × (refM m ≡ r)
+      by : (b : Bool) → same (refM x) r ≡ b → (placedIn σ p u ms r ≡ some (placed m q) → Stands m q ms)
+          → cond b (some (placed x (p + wide σ (shown (idle u ms))))) (placedIn σ p u ms r) ≡ some (placed m q) → Stands m q (ms ▷ x)
       by true d f e =
           let k : x ≡ m = cc in
-          (record { before = ms; behind = nil; whole = ap (λ (y : Message). ms ▷ y) k }, ap refM (sym k) ∙ same-eq (refM x) r (passes (same (refM x) r) d))
+          let at : q ≡ p + wide σ (shown (idle u ms)) = cc in
+          (record { before = ms; behind = nil; whole = ap (λ (y : Message). ms ▷ y) k }, (ap refM (sym k) ∙ same-eq (refM x) r (passes (same (refM x) r) d), at))
       by false d f e = let w = f e in (record { before = w .0 .before; behind = w .0 .behind ▷ x; whole = ap (λ (s : Snoc Message). s ▷ x) (w .0 .whole) }, w .1)
 
-pub message-in : (i : Interchange) (m : List ℕ) {x : Message} {q : ℕ} → messageIn i m ≡ some (placed x q) → In x (messagesIn i) × (refM x ≡ m)
-message-in (interchange n u ms z) m e = placed-in (serviceIn (interchange n u ms z)) (openingIn n .at) u m ms e
+pub message-in : (i : Interchange) (m : List ℕ) {x : Message} {q : ℕ} → messageIn i m ≡ some (placed x q)
+    → (w : In x (messagesIn i)) × ((refM x ≡ m) × (q ≡ placeBehind i (w .before)))
+message-in (interchange n u ms z) m e =
+    let σ : Service = serviceIn (interchange n u ms z) in
+    let w = placed-in σ (openingIn n .at) u m ms e in
+    (w .0, (w .1 .0, omega (arith, w .1 .1, una-length n, wide-list σ (shown (idle u (w .0 .before))))))
+
+-- the message that is named, and where it stands
+abbrev pub message-of : (s m : List ℕ) (i : Interchange) (o : Open) (t : Leaf) (q : ℕ) → verdictOf s ≡ accepted i → messageIn i m ≡ some (placed (message o t) q) → MessageOf s m
+message-of s m i o t q e k = record {
+  i = i;
+  read = e;
+  o = o;
+  t = t;
+  there = message-in i m k .0;
+  name = message-in i m k .1 .0;
+  q = q;
+  place = message-in i m k .1 .1;
+  named = k;
+}
 
 pub message-at : (i : Interchange) (m : List ℕ) → Valid i → {x : Message} → In x (messagesIn i) → refM x ≡ m → (q : ℕ) × (messageIn i m ≡ some (placed x q))
 message-at (interchange n u ms z) m v {x} w e =
@@ -69,7 +96,7 @@ module _ (s m r code : List ℕ) where
         read = w .read;
         of = message (msg (w .u) (w .hs) (w .b) (w .ts)) (w .n);
         there = x .0;
-        name = x .1;
+        name = x .1 .0;
         header = w .y;
         within = c .0;
         ref = c .1;

@@ -15,7 +15,7 @@ use Rattle.syntax.specs.ContentLaws.{same-self}
 use Rattle.grammar.specs.PlacingLaws.{same-eq}
 use Rattle.grammar.specs.Verdict.{Verdict, accepted, refusedWith, verdictOf}
 use Rattle.writing.specs.Written.{Text, text, noText, refusedAs, Writes}
-use Rattle.writing.specs.WrittenLaws.{length-told}
+use Rattle.writing.specs.WrittenLaws.{writes, length-told}
 use Rattle.writing.specs.declared.Written.the-variants.{Length}
 use Rattle.register.specs.Register.{registerText, entriesIn, registerBy, registerOf, toldCheck, checkNumbers}
 use Rattle.register.specs.declared.forms.Form.{Form}
@@ -53,10 +53,8 @@ accepted-checks {x} {g} a = sym (ap (λ (x : Text). checkNumbers x g) (a .is) �
 
 accepted-writes : {x : Text} {g out : List ℕ} → length g ≤ length out → Accepted x g → Writes x out (Length (length g)) (g ++ drop (length g) out)
 accepted-writes {x} {g} {out} h a =
-    subst (λ (x : Text). Writes x out (Length (length g)) (g ++ drop (length g) out)) (sym (a .is)) (record {
-      answer = rw (le-ltb 65535 (length g) (a .short), le-ltb (length out) (length g) h);
-      octets = rw (le-ltb 65535 (length g) (a .short), le-ltb (length out) (length g) h);
-    })
+    subst (λ (x : Text). Writes x out (Length (length g)) (g ++ drop (length g) out)) (sym (a .is))
+    (writes (rw (le-ltb 65535 (length g) (a .short), le-ltb (length out) (length g) h)) (rw (le-ltb 65535 (length g) (a .short), le-ltb (length out) (length g) h)))
 
 front : (a b x y : List ℕ) → length a ≡ length b → a ++ x ≡ b ++ y → a ≡ b
 front [] [] x y l e = refl

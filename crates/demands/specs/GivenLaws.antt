@@ -39,6 +39,22 @@ pub record There1 (s k r : List ℕ) (σ : Service) (h : Header) (b : Body) : Ty
   pub body-part : Part σ s body body-end (showBody b)
 
 module _ (s k r : List ℕ) (w : Asks s k r (octets "1")) where
+  range1 : let σ : Service = serviceIn (w .i) in
+      let o : Open = msg (w .u) (w .hs) (w .b) (w .ts) in
+      let h : Chosen Header = chosen (w .ys) (w .y) in
+      scope1Of s k r ≡ given (parts (headerAt σ (w .q) o h) (headerEnd σ (w .q) o h) (bodyAt σ (w .q) o) (tailAt σ (w .q) o))
+  range1 =
+      let σ : Service = serviceIn (w .i) in
+      let o : Open = msg (w .u) (w .hs) (w .b) (w .ts) in
+      asked-of s k (λ i p. scope1At (serviceIn i) p r) (w .i) (placed (message o (w .n)) (w .q)) (w .read) (w .named)
+      ∙ ap (λ (x : Option (Chosen Header)). orMissing (then x (λ h. some (parts (headerAt σ (w .q) o h) (headerEnd σ (w .q) o h) (bodyAt σ (w .q) o) (tailAt σ (w .q) o)))))
+      (header-in (octets "1") r (w .u) (w .hs) (w .b) (w .ts) (w .chose) (w .scoped))
+
+  -- where the two parts start
+  pub starts1 : {a b c d : ℕ} → scope1Of s k r ≡ given (parts a b c d)
+      → (a ≡ headerAt (serviceIn (w .i)) (w .q) (msg (w .u) (w .hs) (w .b) (w .ts)) (chosen (w .ys) (w .y))) × (c ≡ bodyAt (serviceIn (w .i)) (w .q) (msg (w .u) (w .hs) (w .b) (w .ts)))
+  starts1 e = let g = sym e ∙ range1 in (cc, cc)
+
   pub there1 : There1 s k r (serviceIn (w .i)) (w .y) (w .b)
   there1 =
       let σ : Service = serviceIn (w .i) in
@@ -49,10 +65,7 @@ module _ (s k r : List ℕ) (w : Asks s k r (octets "1")) where
         end = headerEnd σ (w .q) o (chosen (w .ys) (w .y));
         body = bodyAt σ (w .q) o;
         body-end = tailAt σ (w .q) o;
-        range =
-            asked-of s k (λ i p. scope1At (serviceIn i) p r) (w .i) (placed (message o (w .n)) (w .q)) (w .read) (w .named)
-            ∙ ap (λ (x : Option (Chosen Header)). orMissing (then x (λ h. some (parts (headerAt σ (w .q) o h) (headerEnd σ (w .q) o h) (bodyAt σ (w .q) o) (tailAt σ (w .q) o)))))
-            (header-in (octets "1") r (w .u) (w .hs) (w .b) (w .ts) (w .chose) (w .scoped));
+        range = range1;
         header-part =
             part σ s (headerAt σ (w .q) o (chosen (w .ys) (w .y))) (showHeader (w .y))
             (chosen-stands showHeader refH σ s [] 0 2 r (headsAt σ (w .q) o) (w .hs) (w .chose) (headers-stand σ s (w .q) (w .u) (w .hs) (w .b) (w .ts) (w .n) st));
@@ -90,6 +103,24 @@ pub record There2 (s k r : List ℕ) (σ : Service) (g : Snoc Segment) : Type 0 
   pub stands : Part σ s start end g
 
 module _ (s k r : List ℕ) (w : Asks s k r (octets "2")) where
+  range2 : (es : Snoc Trailer) (e : Trailer) → chosenBy refT (w .ts) r ≡ some (chosen es e)
+      → let σ : Service = serviceIn (w .i) in
+      let o : Open = msg (w .u) (w .hs) (w .b) (w .ts) in
+      scope2Of s k r ≡ given (run (headerAt σ (w .q) o (chosen (w .ys) (w .y))) (trailerAt σ (w .q) o (chosen es e)))
+  range2 es e l =
+      let σ : Service = serviceIn (w .i) in
+      let o : Open = msg (w .u) (w .hs) (w .b) (w .ts) in
+      asked-of s k (λ i p. scope2At (serviceIn i) p r) (w .i) (placed (message o (w .n)) (w .q)) (w .read) (w .named)
+      ∙ ap (λ (x : Option (Chosen Header)). orMissing (then x (λ h. then (trailerNamed o r) (λ x. some (run (headerAt σ (w .q) o h) (trailerAt σ (w .q) o x))))))
+      (header-in (octets "2") r (w .u) (w .hs) (w .b) (w .ts) (w .chose) (w .scoped))
+      ∙ ap (λ (x : Option (Chosen Trailer)). orMissing (then x (λ x. some (run (headerAt σ (w .q) o (chosen (w .ys) (w .y))) (trailerAt σ (w .q) o x))))) l
+
+  -- where the run starts, and where it ends
+  pub starts2 : (es : Snoc Trailer) (e : Trailer) → chosenBy refT (w .ts) r ≡ some (chosen es e) → {a b : ℕ} → scope2Of s k r ≡ given (run a b)
+      → (a ≡ headerAt (serviceIn (w .i)) (w .q) (msg (w .u) (w .hs) (w .b) (w .ts)) (chosen (w .ys) (w .y)))
+      × (b ≡ trailerAt (serviceIn (w .i)) (w .q) (msg (w .u) (w .hs) (w .b) (w .ts)) (chosen es e))
+  starts2 es e l q = let g = sym q ∙ range2 es e l in (cc, cc)
+
   pub there2 : (rest : Snoc Header) (es : Snoc Trailer) (e : Trailer) → w .hs ≡ w .ys ▷ w .y +++ rest → chosenBy refT (w .ts) r ≡ some (chosen es e)
       → There2 s k r (serviceIn (w .i)) (runOf (w .y) rest (w .b) es)
   there2 rest es e wh l =
@@ -129,11 +160,7 @@ module _ (s k r : List ℕ) (w : Asks s k r (octets "2")) where
       record {
         start = headerAt σ (w .q) o (chosen (w .ys) y);
         end = trailerAt σ (w .q) o (chosen es e);
-        range =
-            asked-of s k (λ i p. scope2At (serviceIn i) p r) (w .i) (placed (message o (w .n)) (w .q)) (w .read) (w .named)
-            ∙ ap (λ (x : Option (Chosen Header)). orMissing (then x (λ h. then (trailerNamed o r) (λ x. some (run (headerAt σ (w .q) o h) (trailerAt σ (w .q) o x))))))
-            (header-in (octets "2") r (w .u) (w .hs) b (w .ts) (w .chose) (w .scoped))
-            ∙ ap (λ (x : Option (Chosen Trailer)). orMissing (then x (λ x. some (run (headerAt σ (w .q) o (chosen (w .ys) y)) (trailerAt σ (w .q) o x))))) l;
+        range = range2 es e l;
         stands = part-at pa pb (part σ s (w .q + wide σ (H +++ A)) M st3);
       }
 

@@ -41,3 +41,7 @@ pub mod ReferredLaws
 pub mod SewnLaws
 pub mod AllowedLaws
 pub mod ValuedLaws
+pub mod Reported
+pub mod ReportedLaws
+pub mod Companion
+pub mod CompanionLaws

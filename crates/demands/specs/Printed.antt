@@ -1,24 +1,24 @@
--- D2c: the parts of the one tree whose printing a range is.
+-- D2c: the parts of the one tree whose printing a range is, and where they stand. Every place is told by the lengths of what is printed before it.
 use Prim.Native.Nat.{ℕ, _+_}
 use mathlib.Core.Path.{_≡_}
 use mathlib.Core.List.{List}
 use mathlib.Core.Option.{some}
-use lib.Dec.{T}
 use lib.ListN.{length}
 use lib.Seq.{slice}
 use Rattle.syntax.specs.Octets.{octets as written}
 use Rattle.syntax.specs.Tree.{print}
-use Rattle.grammar.specs.Lists.{Snoc, _▷_, _+++_, joined, list}
-use Rattle.grammar.specs.Interchange.{Leaf, Header, Trailer, Open, Message, message, showHeader, showTrailer, showBody, showMessage}
-use Rattle.grammar.specs.Rules.{refH, refT}
+use Rattle.grammar.specs.Lists.{Snoc, nil, _▷_, _+++_, joined, list}
+use Rattle.grammar.specs.Segments.{Unh, seg}
+use Rattle.grammar.specs.Interchange.{Leaf, Header, Trailer, Open, msg, message, showHeader, showTrailer, showBody, showMessage}
+use Rattle.grammar.specs.Rules.{refH, refT, refM}
 use Rattle.grammar.specs.Valid.{Interchange}
 use Rattle.grammar.specs.Verdict.{accepted, verdictOf}
 use Rattle.grammar.specs.Places.{headersIn, trailersIn}
 use Rattle.grammar.specs.Named.{placed}
 use Rattle.grammar.specs.Counted.{messagesIn}
-use Rattle.spans.specs.Span.{parted, partedOf, runRight}
 use Rattle.groups.specs.Parts.{scopeH, bodyIn}
 use Rattle.groups.specs.Calls.{serviceIn, messageIn}
+use Rattle.demands.specs.Stated.{In, placeBehind, Refers}
 
 -- the message m of the reading of s
 pub record MessageOf (s m : List ℕ) : Type 0 where
@@ -26,8 +26,20 @@ pub record MessageOf (s m : List ℕ) : Type 0 where
   pub read : verdictOf s ≡ accepted i
   pub o : Open
   pub t : Leaf
+  pub there : In (message o t) (messagesIn i)
+  pub name : refM (message o t) ≡ m
+  -- its UNH stands at q: behind UNA, UNB and the messages before it
   pub q : ℕ
+  pub place : q ≡ placeBehind i (there .before)
+  -- and there it is found
   pub named : messageIn i m ≡ some (placed (message o t) q)
+
+abbrev pub unhIn : Open → Leaf
+unhIn (msg u hs b ts) = u
+
+-- where the octets behind the UNH of this message and these headers start
+abbrev pub placeWithin : {s m : List ℕ} → MessageOf s m → Snoc Header → ℕ
+placeWithin of before = of .q + length (print (serviceIn (of .i)) (list (nil ▷ seg Unh (unhIn (of .o)) +++ joined showHeader before)))
 
 -- scope 1: from a to b the header group with the 0534 r, from c to d the body
 pub record Scope1 (s m r : List ℕ) (a b c d : ℕ) : Type 0 where
@@ -39,6 +51,9 @@ pub record Scope1 (s m r : List ℕ) (a b c d : ℕ) : Type 0 where
   pub whole : headersIn (of .o) ≡ before ▷ header +++ behind
   pub ref : refH header ≡ r
   pub scope : scopeH header ≡ written "1"
+  -- the header group starts behind UNH and the headers before it, the body behind UNH and all headers
+  pub header-start : a ≡ placeWithin of before
+  pub body-start : c ≡ placeWithin of (headersIn (of .o))
   pub header-octets : slice a b s ≡ print (serviceIn (of .i)) (list (showHeader header))
   pub body-octets : slice c d s ≡ print (serviceIn (of .i)) (list (showBody (bodyIn (of .o))))
   -- the places are just as far apart
@@ -59,19 +74,16 @@ pub record Scope2 (s m r : List ℕ) (a b : ℕ) : Type 0 where
   pub later : Snoc Trailer
   pub trailers : trailersIn (of .o) ≡ earlier ▷ trailer +++ later
   pub paired : refT trailer ≡ r
+  -- it starts behind UNH and the headers before it
+  pub start : a ≡ placeWithin of before
   pub octets : slice a b s
       ≡ print (serviceIn (of .i)) (list (showHeader header +++ joined showHeader behind +++ showBody (bodyIn (of .o)) +++ joined showTrailer earlier))
   pub end : b ≡ a + length (slice a b s)
 
--- F01: from a to b the run of messages, of all messages of the interchange
-pub record F01 (s : List ℕ) (a b : ℕ) : Type 0 where
-  pub i : Interchange
-  pub read : verdictOf s ≡ accepted i
-  pub before : Snoc Message
-  pub run : Snoc Message
-  pub behind : Snoc Message
-  pub parts : partedOf (messagesIn i) ≡ parted before run behind
-  -- it holds a message, and no AUTACK
-  pub right : T (runRight run)
-  pub octets : slice a b s ≡ print (serviceIn i) (list (joined showMessage run))
-  pub end : b ≡ a + length (slice a b s)
+-- F01: from x to y the run of messages, in the interchange s to which the AUTACK's interchange a refers
+pub record F01 (a s m r : List ℕ) (x y : ℕ) : Type 0 where
+  pub of : Refers a s m r
+  -- it starts behind UNA, UNB and the messages before it
+  pub start : x ≡ placeBehind (of .i) (of .before)
+  pub octets : slice x y s ≡ print (serviceIn (of .i)) (list (joined showMessage (of .run)))
+  pub end : y ≡ x + length (slice x y s)

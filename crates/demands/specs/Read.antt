@@ -6,14 +6,15 @@ use mathlib.Core.Option.{Option, none}
 use lib.Seq.{slice}
 use Rattle.syntax.specs.Tree.{Segment, print}
 use Rattle.syntax.specs.declared.Syntax.{Syntax}
-use Rattle.grammar.specs.Lists.{Snoc, list, each, size}
+use Rattle.grammar.specs.Lists.{Snoc, joined, list, each, size}
 use Rattle.grammar.specs.Grams.{Grams, sum}
-use Rattle.grammar.specs.Interchange.{plain, Message, showHeader}
+use Rattle.grammar.specs.Interchange.{plain, Message, showHeader, showTrailer, showMessage}
 use Rattle.grammar.specs.Rules.{refM}
 use Rattle.grammar.specs.Valid.{syntaxIn}
 use Rattle.grammar.specs.Verdict.{Verdict, accepted, refusedWith, verdictOf, loadsM, Totals, totalled, totalsOf}
 use Rattle.groups.specs.Parts.{bodyIn}
 use Rattle.groups.specs.Calls.{serviceIn}
+use Rattle.demands.specs.Stated.{headersOf, bodyOf, trailersOf}
 use Rattle.demands.specs.Printed.{Scope1, Scope2, F01}
 use Rattle.demands.specs.Range.{Reads, Same, totalIn, Range1, range1, scope1, Range2, range2, scope2, f01}
 
@@ -75,36 +76,63 @@ pub record Read2 (s m r : List ℕ) (a b : ℕ) : Type 0 where
   -- they are a reading of the octets; there is no other
   pub reads : Reads scope2 (serviceIn (part .of .i)) (slice a b s) (range2 (part .header) (part .behind) body (part .earlier))
   pub only : (v : Range2) → Reads scope2 (serviceIn (part .of .i)) (slice a b s) v → v ≡ range2 (part .header) (part .behind) body (part .earlier)
+  -- the split is the reading's: the octets of the header group, of the headers behind it, of the body, and of the earlier trailers
+  pub split : slice a b s
+      ≡ print (serviceIn (part .of .i)) (list (showHeader (part .header)))
+      ++ (print (serviceIn (part .of .i)) (list (joined showHeader (part .behind)))
+      ++ (print (serviceIn (part .of .i)) (list body) ++ print (serviceIn (part .of .i)) (list (joined showTrailer (part .earlier)))))
   -- its loads and total are those that are given for the message
   pub totals : totalsOf s m ≡ totalsFor (scope2 .loads (range2 (part .header) (part .behind) body (part .earlier)))
 
 abbrev pub tree2 : {s m r : List ℕ} {a b : ℕ} → Read2 s m r a b → Range2
 tree2 x = range2 (x .part .header) (x .part .behind) (x .body) (x .part .earlier)
 
+-- segments as they are printed in the interchange of the one, or of the other
+abbrev pub octets2 : {s m r : List ℕ} {a b : ℕ} → Read2 s m r a b → Snoc Segment → List ℕ
+octets2 x gs = print (serviceIn (x .part .of .i)) (list gs)
+
 -- two ranges with one reading
 pub record Alike2 (s m r : List ℕ) (a b : ℕ) (s′ m′ r′ : List ℕ) (a′ b′ : ℕ) : Type 0 where
   pub left : Read2 s m r a b
   pub right : Read2 s′ m′ r′ a′ b′
   pub same : Same scope2 (tree2 left) (tree2 right)
+  -- "the same split into header, body and trailers": part by part
+  pub header : left .part .header ≡ right .part .header
+  pub behind : left .part .behind ≡ right .part .behind
+  pub body : left .body ≡ right .body
+  pub trailers : left .part .earlier ≡ right .part .earlier
+  -- and the octets of each part
+  pub header-octets : octets2 left (showHeader (left .part .header)) ≡ octets2 right (showHeader (right .part .header))
+  pub behind-octets : octets2 left (joined showHeader (left .part .behind)) ≡ octets2 right (joined showHeader (right .part .behind))
+  pub body-octets : octets2 left (left .body) ≡ octets2 right (right .body)
+  pub trailer-octets : octets2 left (joined showTrailer (left .part .earlier)) ≡ octets2 right (joined showTrailer (right .part .earlier))
+  -- the totals that are given for the two messages
   pub totals : totalsOf s m ≡ totalsOf s′ m′
 
 -- ---- F01
 
 -- from a to b the run, in the interchange that is referred to
-pub record ReadF (s : List ℕ) (a b : ℕ) : Type 0 where
-  -- messages of the verdict's reading
-  pub part : F01 s a b
+pub record ReadF (t s m r : List ℕ) (a b : ℕ) : Type 0 where
+  -- messages of the verdict's reading: from the first to the last that is no AUTACK
+  pub part : F01 t s m r a b
   -- they are a reading of the octets; there is no other
-  pub reads : Reads f01 (serviceIn (part .i)) (slice a b s) (part .run)
-  pub only : (v : Snoc Message) → Reads f01 (serviceIn (part .i)) (slice a b s) v → v ≡ part .run
+  pub reads : Reads f01 (serviceIn (part .of .i)) (slice a b s) (part .of .run)
+  pub only : (v : Snoc Message) → Reads f01 (serviceIn (part .of .i)) (slice a b s) v → v ≡ part .of .run
   -- each message's loads and total are those that are given for its 0062, and the run's total is their sum
-  pub totals : each (λ (m : Message). totalsOf s (refM m)) (part .run) ≡ each (λ (m : Message). totalsFor (loadsM m)) (part .run)
-  pub total : totalIn f01 (part .run) ≡ sum (each (λ (m : Message). sum (loadsM m)) (part .run))
+  pub totals : each (λ (x : Message). totalsOf s (refM x)) (part .of .run) ≡ each (λ (x : Message). totalsFor (loadsM x)) (part .of .run)
+  pub total : totalIn f01 (part .of .run) ≡ sum (each (λ (x : Message). sum (loadsM x)) (part .of .run))
 
 -- two ranges with one reading
-pub record AlikeF (s : List ℕ) (a b : ℕ) (s′ : List ℕ) (a′ b′ : ℕ) : Type 0 where
-  pub left : ReadF s a b
-  pub right : ReadF s′ a′ b′
-  pub same : Same f01 (left .part .run) (right .part .run)
+pub record AlikeF (t s m r : List ℕ) (a b : ℕ) (t′ s′ m′ r′ : List ℕ) (a′ b′ : ℕ) : Type 0 where
+  pub left : ReadF t s m r a b
+  pub right : ReadF t′ s′ m′ r′ a′ b′
+  pub same : Same f01 (left .part .of .run) (right .part .of .run)
+  -- "the same split into header, body and trailers": message by message
+  pub headers : each headersOf (left .part .of .run) ≡ each headersOf (right .part .of .run)
+  pub bodies : each bodyOf (left .part .of .run) ≡ each bodyOf (right .part .of .run)
+  pub trailers : each trailersOf (left .part .of .run) ≡ each trailersOf (right .part .of .run)
+  -- and the octets of each message
+  pub octets : each (λ (x : Message). print (serviceIn (left .part .of .i)) (list (showMessage x))) (left .part .of .run)
+      ≡ each (λ (x : Message). print (serviceIn (right .part .of .i)) (list (showMessage x))) (right .part .of .run)
   -- the totals that are given for each message of the one and of the other
-  pub totals : each (λ (m : Message). totalsOf s (refM m)) (left .part .run) ≡ each (λ (m : Message). totalsOf s′ (refM m)) (right .part .run)
+  pub totals : each (λ (x : Message). totalsOf s (refM x)) (left .part .of .run) ≡ each (λ (x : Message). totalsOf s′ (refM x)) (right .part .of .run)

@@ -2,7 +2,7 @@
 use Prim.Native.Nat.{ℕ, suc, _+_, _-_}
 use native.Mathlib.Omega.{arith}
 use mathlib.Core.Path.{_≡_, refl, ap, _∙_, sym, subst}
-use mathlib.Core.List.{List, _++_}
+use mathlib.Core.List.{List, _++_, append-assoc}
 use mathlib.Core.Option.{Option, some}
 use mathlib.Core.Bool.{Bool, true, false, cond, not}
 use lib.Dec.{T, T-not, leb→le, le→leb}
@@ -18,7 +18,7 @@ use Rattle.syntax.specs.declared.Syntax.{Syntax}
 use Rattle.grammar.specs.Lists.{Snoc, nil, _▷_, _+++_, joined, list, each, size, any, check, among, holds, every, few, distinct}
 use Rattle.grammar.specs.Grams.{sum}
 use Rattle.grammar.specs.Segments.{Unb, Unh, Unt, Unz, seg}
-use Rattle.grammar.specs.Interchange.{Leaf, Header, header, Body, plain, ack, Open, msg, Message, message, showHeader, showTrailer, showBody, showOpen, showMessage, shown, idle}
+use Rattle.grammar.specs.Interchange.{Leaf, Header, header, Trailer, Body, plain, ack, Open, msg, Message, message, showHeader, showTrailer, showBody, showOpen, showMessage, shown, idle}
 use Rattle.grammar.specs.declared.Subset.{Subset}
 use Rattle.grammar.specs.declared.Subset.the-variants.{None, F01 as AckF01}
 use Rattle.grammar.specs.Rules.{autack, subset, isAutack, okHeader, okItem, okBody, okMessage, scopeRight, scopesMessage, refM}
@@ -31,8 +31,7 @@ use Rattle.grammar.specs.Named.{placed, totalsAt}
 use Rattle.grammar.specs.Counted.{messagesIn}
 use Rattle.grammar.specs.RuleLaws.{check-holds, is-autack}
 use Rattle.grammar.specs.PlacingLaws.{same-eq, regroup}
-use Rattle.spans.specs.Span.{other}
-use Rattle.spans.specs.SpanLaws.{Parts as RunParts, parted-so}
+use Rattle.spans.specs.Span.{other, runRight}
 use Rattle.judge.specs.TotalsLaws.{totals-placed}
 use Rattle.groups.specs.StandLaws.{list-join, print-append, well-append, well-parts}
 use Rattle.groups.specs.Parts.{scopeH, bodyIn}
@@ -41,8 +40,11 @@ use Rattle.groups.specs.CallsLaws.{placed-every}
 use Rattle.ranges.specs.Ranges.{parts, scope1Of, run, scope2Of}
 use Rattle.f01.specs.F01.{f01Of}
 use Rattle.demands.specs.Printed.{Scope1, Scope2, F01}
+use Rattle.demands.specs.Stated.{headersOf, bodyOf, trailersOf}
 use Rattle.demands.specs.AskedLaws.{read-stands, message-stands}
-use Rattle.demands.specs.PrintedLaws.{scope1-printed, scope2-printed, f01-printed}
+use Rattle.demands.specs.PrintedLaws.{scope1-printed, scope2-printed}
+use Rattle.demands.specs.PartedLaws.{right-run}
+use Rattle.demands.specs.ReferredLaws.{f01-printed}
 use Rattle.demands.specs.Range.{Grammar, Reads, Same, totalIn, Range1, range1, scope1, Range2, range2, scope2, f01}
 use Rattle.demands.specs.RangeLaws.{one-reading-1, one-reading-2, one-reading-f01}
 use Rattle.demands.specs.Read.{syntaxBy, syntaxOf, totalsFor, Read1, tree1, Alike1, Read2, tree2, Alike2, ReadF, AlikeF}
@@ -60,6 +62,12 @@ module _ (σ : Service) where
 
   print-joined : (a b : Snoc Segment) → print σ (list (a +++ b)) ≡ print σ (list a) ++ print σ (list b)
   print-joined a b = ap (print σ) (list-join a b) ∙ print-append σ (list a) (list b)
+
+  -- four parts, one after the other
+  print-four : (a b c d : Snoc Segment) → print σ (list (a +++ b +++ c +++ d)) ≡ print σ (list a) ++ (print σ (list b) ++ (print σ (list c) ++ print σ (list d)))
+  print-four a b c d =
+      print-joined (a +++ b +++ c) d ∙ ap (λ (l : List ℕ). l ++ print σ (list d)) (print-joined (a +++ b) c ∙ ap (λ (l : List ℕ). l ++ print σ (list c)) (print-joined a b))
+      ∙ simp append-assoc
 
   -- a message's headers, body and trailers are well-formed where it is
   parts-written : (o : Open) (t : Leaf) → T (well σ (list (showMessage (message o t))))
@@ -156,6 +164,9 @@ service-so : (s v : List ℕ) (i j : Interchange) → verdictOf s ≡ accepted i
 service-so s v i j a b e =
     sym (ap (λ (x : Verdict). inForce (syntaxBy x)) a) ∙ ap inForce e ∙ ap (λ (x : Verdict). inForce (syntaxBy x)) b
 
+print-as : {σ τ : Service} {a b : Snoc Segment} → σ ≡ τ → a ≡ b → print σ (list a) ≡ print τ (list b)
+print-as {τ = τ} {a = a} e d = ap (λ (z : Service). print z (list a)) e ∙ ap (λ (z : Snoc Segment). print τ (list z)) d
+
 reads-as : {A : Type 0} (g : Grammar A) (σ τ : Service) (o p : List ℕ) (t : A) → σ ≡ τ → o ≡ p → Reads g σ o t → Reads g τ p t
 reads-as g σ τ o p t e d k = subst (λ (l : List ℕ). Reads g τ l t) d (subst (λ (z : Service). Reads g z o t) e k)
 
@@ -231,6 +242,18 @@ module _ (s m r s′ m′ r′ : List ℕ) (a b c d a′ b′ c′ d′ : ℕ) w
 
 -- ---- scope 2
 
+abbrev header2 : Range2 → Header
+header2 (range2 h hs b ts) = h
+
+abbrev behind2 : Range2 → Snoc Header
+behind2 (range2 h hs b ts) = hs
+
+abbrev body2 : Range2 → Snoc Segment
+body2 (range2 h hs b ts) = b
+
+abbrev trailers2 : Range2 → Snoc Trailer
+trailers2 (range2 h hs b ts) = ts
+
 module _ (s m r : List ℕ) (a b : ℕ) where
   read-2 : Scope2 s m r a b → Read2 s m r a b
   read-2 p =
@@ -256,6 +279,9 @@ module _ (s m r : List ℕ) (a b : ℕ) where
         body = y .items;
         plainly = y .plainly;
         reads = k;
+        split =
+            p .octets ∙ ap (λ (z : Body). print σ (list (front +++ showBody z +++ joined showTrailer (p .earlier)))) (y .plainly)
+            ∙ print-four σ (showHeader (p .header)) (joined showHeader (p .behind)) (y .items) (joined showTrailer (p .earlier));
         only = λ v q. one-reading-2 σ (f .fits) (slice a b s) v (range2 (p .header) (p .behind) (y .items) (p .earlier)) q k;
         totals = f .totals ∙ ap totalsFor (loads-so (p .of .o) (p .of .t)) ∙ ap (λ (z : Body). totalsFor (loadsB z)) (y .plainly);
       }
@@ -278,6 +304,14 @@ module _ (s m r s′ m′ r′ : List ℕ) (a b a′ b′ : ℕ) where
         left = x;
         right = y;
         same = same-of scope2 (tree2 x) (tree2 y) t;
+        header = ap header2 t;
+        behind = ap behind2 t;
+        body = ap body2 t;
+        trailers = ap trailers2 t;
+        header-octets = print-as f (ap (λ (z : Range2). showHeader (header2 z)) t);
+        behind-octets = print-as f (ap (λ (z : Range2). joined showHeader (behind2 z)) t);
+        body-octets = print-as f (ap body2 t);
+        trailer-octets = print-as f (ap (λ (z : Range2). joined showTrailer (trailers2 z)) t);
         totals = x .totals ∙ ap (λ (z : Range2). totalsFor (scope2 .loads z)) t ∙ sym (y .totals);
       }
 
@@ -336,25 +370,26 @@ messages-written s (interchange n u ms z) e =
     let a = well-parted σ (shown (idle u ms)) (nil ▷ seg Unz z) (read-stands s (interchange n u ms z) e .written) in
     well-parted σ (nil ▷ seg Unb u) (joined showMessage ms) (a .0) .1
 
-module _ (s : List ℕ) (a b : ℕ) where
-  read-f : F01 s a b → ReadF s a b
+module _ (t s m r : List ℕ) (a b : ℕ) where
+  read-f : F01 t s m r a b → ReadF t s m r a b
   read-f p =
-      let v = valid-so s (p .i) (p .read) in
-      let σ : Service = serviceIn (p .i) in
-      let w : RunParts (messagesIn (p .i)) (p .before) (p .run) (p .behind) = parted-so {ms = messagesIn (p .i)} (p .parts) in
-      let o = every-left okMessage (p .before +++ p .run) (p .behind) (subst (λ (z : Snoc Message). holds (every okMessage z)) (w .whole) (messages-ordered (p .i) v)) in
-      let wr = subst (λ (z : Snoc Message). T (well σ (list (joined showMessage z)))) (w .whole) (messages-written s (p .i) (p .read)) in
-      let w1 = well-parted σ (joined showMessage (p .before +++ p .run)) (joined showMessage (p .behind))
-      (subst (λ (z : Snoc Segment). T (well σ (list z))) (joined-join showMessage (p .before +++ p .run) (p .behind)) wr) in
-      let w2 = well-parted σ (joined showMessage (p .before)) (joined showMessage (p .run))
-      (subst (λ (z : Snoc Segment). T (well σ (list z))) (joined-join showMessage (p .before) (p .run)) (w1 .0)) in
-      let k : Reads f01 σ (slice a b s) (p .run) =
+      let v = valid-so s (p .of .i) (p .of .read) in
+      let σ : Service = serviceIn (p .of .i) in
+      let w : messagesIn (p .of .i) ≡ p .of .before +++ p .of .run +++ p .of .behind = p .of .whole in
+      let right : T (runRight (p .of .run)) = passes (runRight (p .of .run)) (right-run (p .of .run) (p .of .some-inside) (p .of .none-inside)) in
+      let o = every-left okMessage (p .of .before +++ p .of .run) (p .of .behind) (subst (λ (z : Snoc Message). holds (every okMessage z)) w (messages-ordered (p .of .i) v)) in
+      let wr = subst (λ (z : Snoc Message). T (well σ (list (joined showMessage z)))) w (messages-written s (p .of .i) (p .of .read)) in
+      let w1 = well-parted σ (joined showMessage (p .of .before +++ p .of .run)) (joined showMessage (p .of .behind))
+      (subst (λ (z : Snoc Segment). T (well σ (list z))) (joined-join showMessage (p .of .before +++ p .of .run) (p .of .behind)) wr) in
+      let w2 = well-parted σ (joined showMessage (p .of .before)) (joined showMessage (p .of .run))
+      (subst (λ (z : Snoc Segment). T (well σ (list z))) (joined-join showMessage (p .of .before) (p .of .run)) (w1 .0)) in
+      let k : Reads f01 σ (slice a b s) (p .of .run) =
       record {
         ordered = (
-          and-left (any (p .run)) (check (every other (p .run))) (p .right),
+          and-left (any (p .of .run)) (check (every other (p .of .run))) right,
           (
-            check-holds (every other (p .run)) (is-true (check (every other (p .run))) (and-right (any (p .run)) (check (every other (p .run))) (p .right))),
-            every-right okMessage (p .before) (p .run) o,
+            check-holds (every other (p .of .run)) (is-true (check (every other (p .of .run))) (and-right (any (p .of .run)) (check (every other (p .of .run))) right)),
+            every-right okMessage (p .of .before) (p .of .run) o,
           ),
         );
         written = w2 .1;
@@ -363,30 +398,36 @@ module _ (s : List ℕ) (a b : ℕ) where
       record {
         part = p;
         reads = k;
-        only = λ t q. one-reading-f01 σ (fits-so (p .i) v) (slice a b s) t (p .run) q k;
+        only = λ z q. one-reading-f01 σ (fits-so (p .of .i) v) (slice a b s) z (p .of .run) q k;
         totals =
-            each-as (λ (m : Message). totalsOf s (refM m)) (λ (m : Message). totalsIn (messagesIn (p .i)) (refM m)) (λ m. totals-read s (p .i) (refM m) v (verdict-exact s (p .i) .0 (p .read) .1)) (p .run)
-            ∙ totals-each (messagesIn (p .i)) (p .before) (p .run) (p .behind) (w .whole) (messages-distinct (p .i) v);
-        total = sum-each (p .run);
+            each-as (λ (m : Message). totalsOf s (refM m)) (λ (m : Message). totalsIn (messagesIn (p .of .i)) (refM m)) (λ m. totals-read s (p .of .i) (refM m) v (verdict-exact s (p .of .i) .0 (p .of .read) .1)) (p .of .run)
+            ∙ totals-each (messagesIn (p .of .i)) (p .of .before) (p .of .run) (p .of .behind) w (messages-distinct (p .of .i) v);
+        total = sum-each (p .of .run);
       }
 
   -- what the F01 call hands back has one reading
-  pub f01-read : (t m r : List ℕ) → f01Of t s m r ≡ given (run a b) → ReadF s a b
-  f01-read t m r e = read-f (f01-printed s a b t m r e)
+  pub f01-read : f01Of t s m r ≡ given (run a b) → ReadF t s m r a b
+  f01-read e = read-f (f01-printed t s m r a b e)
 
 module _ (t s m r t′ s′ m′ r′ : List ℕ) (a b a′ b′ : ℕ) where
   pub f01-same : f01Of t s m r ≡ given (run a b) → f01Of t′ s′ m′ r′ ≡ given (run a′ b′) → syntaxOf s ≡ syntaxOf s′ → slice a b s ≡ slice a′ b′ s′
-      → AlikeF s a b s′ a′ b′
+      → AlikeF t s m r a b t′ s′ m′ r′ a′ b′
   f01-same p q e o =
-      let x = f01-read s a b t m r p in
-      let y = f01-read s′ a′ b′ t′ m′ r′ q in
-      let σ : Service = serviceIn (x .part .i) in
-      let τ : Service = serviceIn (y .part .i) in
-      let f : σ ≡ τ = service-so s s′ (x .part .i) (y .part .i) (x .part .read) (y .part .read) e in
-      let k : x .part .run ≡ y .part .run = sym (x .only (y .part .run) (reads-as f01 τ σ (slice a′ b′ s′) (slice a b s) (y .part .run) (sym f) (sym o) (y .reads))) in
+      let x = f01-read t s m r a b p in
+      let y = f01-read t′ s′ m′ r′ a′ b′ q in
+      let σ : Service = serviceIn (x .part .of .i) in
+      let τ : Service = serviceIn (y .part .of .i) in
+      let f : σ ≡ τ = service-so s s′ (x .part .of .i) (y .part .of .i) (x .part .of .read) (y .part .of .read) e in
+      let k : x .part .of .run ≡ y .part .of .run = sym (x .only (y .part .of .run) (reads-as f01 τ σ (slice a′ b′ s′) (slice a b s) (y .part .of .run) (sym f) (sym o) (y .reads))) in
       record {
         left = x;
         right = y;
-        same = same-of f01 (x .part .run) (y .part .run) k;
+        same = same-of f01 (x .part .of .run) (y .part .of .run) k;
+        headers = ap (each headersOf) k;
+        bodies = ap (each bodyOf) k;
+        trailers = ap (each trailersOf) k;
+        octets =
+            ap (λ (z : Service). each (λ (m : Message). print z (list (showMessage m))) (x .part .of .run)) f
+            ∙ ap (each (λ (m : Message). print τ (list (showMessage m)))) k;
         totals = x .totals ∙ ap (each (λ (m : Message). totalsFor (loadsM m))) k ∙ sym (y .totals);
       }

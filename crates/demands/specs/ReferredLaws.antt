@@ -1,43 +1,45 @@
 -- F01: a run is given exactly where the AUTACK refers to the interchange, and it is the run of messages that are no AUTACK.
 use Prim.Native.Nat.{ℕ, _+_}
 use native.Mathlib.Omega.{arith}
-use mathlib.Core.Path.{_≡_, refl, ap, _∙_, sym, subst}
-use mathlib.Core.List.{List}
+use mathlib.Core.Path.{_≡_, refl, ap, _∙_, sym}
+use mathlib.Core.List.{List, append-assoc}
 use mathlib.Core.Logic.{_↔_}
 use mathlib.Core.Option.{Option, none, some}
 use mathlib.Core.Bool.{Bool, true, false, cond}
 use lib.Dec.{T}
-use lib.ListN.{length}
-use lib.Seq.{slice}
 use Rattle.syntax.specs.Octets.{octets, same}
 use Rattle.syntax.specs.ContentLaws.{same-self}
-use Rattle.syntax.specs.Tree.{print}
+use Rattle.syntax.specs.Tree.{Segment}
 use Rattle.syntax.specs.declared.Service.{Service}
-use Rattle.grammar.specs.Lists.{Snoc, nil, _▷_, _+++_, joined, list, holds}
+use Rattle.grammar.specs.Lists.{Snoc, nil, _▷_, _+++_, joined, list}
 use Rattle.grammar.specs.TestLaws.{passes}
 use Rattle.grammar.specs.PlacingLaws.{same-eq}
-use Rattle.grammar.specs.Segments.{unb0020, usx0020}
-use Rattle.grammar.specs.Interchange.{Leaf, Header, Open, msg, Message, message, idle, shown, showMessage}
-use Rattle.grammar.specs.Rules.{refH, refM, refsMessage}
-use Rattle.grammar.specs.Valid.{Una, una, Interchange, interchange, Valid, openingIn, printUna, unaOf}
+use Rattle.grammar.specs.ListsLaws.{joined-join}
+use Rattle.grammar.specs.Segments.{Unb, Unz, seg, unb0020, usx0020}
+use Rattle.grammar.specs.Interchange.{Header, Open, msg, Message, message, idle, done, shown, showMessage}
+use Rattle.grammar.specs.Rules.{refH, refM}
+use Rattle.grammar.specs.Valid.{Interchange, interchange, Valid, openingIn, unaOf}
 use Rattle.grammar.specs.Verdict.{Verdict, accepted, refusedWith, verdictOf}
-use Rattle.grammar.specs.VerdictLaws.{verdict-exact, accepted-one}
+use Rattle.grammar.specs.VerdictLaws.{verdict-exact}
 use Rattle.grammar.specs.Counted.{messagesIn}
 use Rattle.grammar.specs.Places.{wide, headersIn}
-use Rattle.grammar.specs.PlacesLaws.{wide-list}
+use Rattle.grammar.specs.PlacesLaws.{wide-join, wide-list}
 use Rattle.grammar.specs.Named.{Placed, placed}
 use Rattle.spans.specs.Span.{Parted, parted, partedOf, runRight, Span, span, spanBy, spanAt}
 use Rattle.spans.specs.SpanLaws as spans
-use Rattle.groups.specs.Parts.{scopeH, headerNamed, bodyIn}
+use Rattle.groups.specs.Stand.{Stand}
+use Rattle.groups.specs.StandLaws.{list-join, stand-front, stand-back}
+use Rattle.groups.specs.Parts.{scopeH, bodyIn}
 use Rattle.groups.specs.Groups.{Chosen, chosen, chosenBy}
 use Rattle.groups.specs.Links.{Tie, tie, tieIn}
 use Rattle.groups.specs.Calls.{given, orMissing, answeredBy, then, serviceIn, messageIn}
 use Rattle.groups.specs.CallsLaws.{none-some}
 use Rattle.ranges.specs.Ranges.{Run, run, ofScope, headerIn}
+use Rattle.weaving.specs.WovenLaws.{una-length}
 use Rattle.f01.specs.F01.{usxReference, referenceAt, referenceIn, runOf, runIn, f01By, f01Of}
-use Rattle.demands.specs.AskedLaws.{missing-given, given-so, then-so, header-in}
-use Rattle.demands.specs.PrintedLaws.{f01-printed}
-use Rattle.demands.specs.Stated.{In, headersOf, HasHeader, bodyOf, unbOf, FirstUsx, Refers, RunOf}
+use Rattle.demands.specs.AskedLaws.{missing-given, given-so, then-so, read-stands, stand-as, Part, part, part-at, header-in}
+use Rattle.demands.specs.Stated.{In, headersOf, unbOf, HasHeader, bodyOf, FirstUsx, Refers}
+use Rattle.demands.specs.Printed.{F01}
 use Rattle.demands.specs.OnceLaws.{chosen-once, chosen-in}
 use Rattle.demands.specs.AskedForLaws.{message-in, message-at, refs-of}
 use Rattle.demands.specs.TiedLaws.{tie-so, tie-there}
@@ -84,7 +86,7 @@ module _ (a m r : List ℕ) where
               let z = tie-so (bodyIn o) r f in
               let is : usx0020 x ≡ k = cc in
               record {
-                autack = record { i = j; read = v; of = message o n; there = w .0; name = w .1; header = h; within = g .0; ref = g .1 .0; scope = g .1 .1 };
+                autack = record { i = j; read = v; of = message o n; there = w .0; name = w .1 .0; header = h; within = g .0; ref = g .1 .0; scope = g .1 .1 };
                 tied = z .0;
                 is = ap usx0020 (z .1 .0) ∙ is;
               }
@@ -108,6 +110,26 @@ module _ (a m r : List ℕ) where
 -- where messages end, and the next starts
 abbrev startAt : Interchange → Snoc Message → ℕ
 startAt i b = openingIn (unaOf i) .at + wide (serviceIn i) (shown (idle (unbOf i) b))
+
+-- the run stands there
+run-part : (s : List ℕ) (i : Interchange) (b r a : Snoc Message) → verdictOf s ≡ accepted i → messagesIn i ≡ b +++ r +++ a
+    → Part (serviceIn i) s (startAt i b) (startAt i (b +++ r)) (joined showMessage r)
+run-part s (interchange n u ms z) b r a v w =
+    let i : Interchange = interchange n u ms z in
+    let σ : Service = serviceIn (interchange n u ms z) in
+    let p : ℕ = openingIn n .at in
+    let U : Snoc Segment = nil ▷ seg Unb u in
+    let B : Snoc Segment = joined showMessage b in
+    let R : Snoc Segment = joined showMessage r in
+    let L : Snoc Segment = joined showMessage a +++ (nil ▷ seg Unz z) in
+    let jm : joined showMessage ms ≡ B +++ R +++ joined showMessage a =
+    ap (joined showMessage) w ∙ joined-join showMessage (b +++ r) a ∙ ap (λ (y : Snoc Segment). y +++ joined showMessage a) (joined-join showMessage b r) in
+    let st : Stand σ s p (U +++ B +++ R +++ L) =
+    stand-as (shown (done u ms z)) (U +++ B +++ R +++ L) (ap (λ (y : Snoc Segment). list (U +++ y +++ (nil ▷ seg Unz z))) jm ∙ simp (list-join, append-assoc)) (read-stands s (interchange n u ms z) v) in
+    let sr : Stand σ s (startAt i b) R = stand-back σ s p (U +++ B) R (stand-front σ s p (U +++ B +++ R) L st) in
+    let pb : startAt i b + wide σ R ≡ startAt i (b +++ r) =
+    omega (arith, wide-join σ U (joined showMessage (b +++ r)), ap (wide σ) (joined-join showMessage b r), wide-join σ B R, wide-join σ U B) in
+    part-at refl pb (part σ s (startAt i b) R sr)
 
 pub record Runs (i : Interchange) (k : List ℕ) (p : Run) : Type 0 where
   pub named : unb0020 (unbOf i) ≡ k
@@ -194,25 +216,16 @@ module _ (a s m r : List ℕ) where
     λ (w : Refers a s m r). (run (startAt (w .i) (w .before)) (startAt (w .i) (w .before +++ w .run)), refers-there w),
   )
 
-  una-length : (n : Option Una) → length (printUna n) ≡ openingIn n .at
-  una-length none = refl
-  una-length (some (una σ x)) = refl
-
-  pub f01-means : (x y : ℕ) → f01Of a s m r ≡ given (run x y) → RunOf a s m r x y
-  f01-means x y e =
+  pub f01-printed : (x y : ℕ) → f01Of a s m r ≡ given (run x y) → F01 a s m r x y
+  f01-printed x y e =
       let w = refers-so (run x y) e in
-      let f = f01-printed s x y a m r e in
       let g : given (run (startAt (w .i) (w .before)) (startAt (w .i) (w .before +++ w .run))) ≡ given (run x y) = sym (refers-there w) ∙ e in
       let st : startAt (w .i) (w .before) ≡ x = cc in
-      let i : f .i ≡ w .i = accepted-one (sym (f .read) ∙ w .read) in
-      let p : parted (f .before) (f .run) (f .behind) ≡ parted (w .before) (w .run) (w .behind) = sym (f .parts) ∙ ap (λ (j : Interchange). partedOf (messagesIn j)) i ∙ refers-parted w in
-      let q : f .run ≡ w .run = run-one p in
+      let en : startAt (w .i) (w .before +++ w .run) ≡ y = cc in
+      let h = part-at st en (run-part s (w .i) (w .before) (w .run) (w .behind) (w .read) (w .whole)) in
       record {
         of = w;
         start = omega (arith, st, una-length (unaOf (w .i)), wide-list (serviceIn (w .i)) (shown (idle (unbOf (w .i)) (w .before))));
-        octets = f .octets ∙ ap (λ (j : Interchange). print (serviceIn j) (list (joined showMessage (f .run)))) i ∙ ap (λ (t : Snoc Message). print (serviceIn (w .i)) (list (joined showMessage t))) q;
-        end = f .end;
+        octets = h .octets;
+        end = h .end;
       }
-    where
-      run-one : {b r l c t k : Snoc Message} → parted b r l ≡ parted c t k → r ≡ t
-      run-one e = cc

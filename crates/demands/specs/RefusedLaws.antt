@@ -5,8 +5,9 @@ use mathlib.Core.List.{List, [], _∷_, _++_}
 use mathlib.Core.Bool.{Bool, true, false, cond}
 use lib.Dec.{ltb}
 use lib.ListN.{length, drop}
+use Rattle.syntax.specs.Refusals.{atZero}
 use Rattle.syntax.specs.declared.Refusal.{Refusal}
-use Rattle.writing.specs.Written.{Text, text, noText, refusedAs, Writes, tooLong, toldWritten}
+use Rattle.writing.specs.Written.{Text, text, noText, refusedAs, Writes, tooLong, lengthNumbers, refusalNumbers}
 use Rattle.writing.specs.WrittenLaws.{length-told}
 use Rattle.writing.specs.declared.Written.the-variants.{Length, Refused}
 use Rattle.listing.specs.Listing.{Lists}
@@ -32,6 +33,6 @@ pub gives-none : (x : Text) (out : List ℕ) (r : Exported) (left : List ℕ) �
 gives-none (noText k) out r left w ne = w .octets
 gives-none (text t) out r left w ne = by (tooLong (length out) (length t)) (w .answer) (w .octets)
   where
-    by : (c : Bool) → writtenFields r ≡ toldWritten (cond c (refusedAs 15) (Length (length t))) → left ≡ cond c out (t ++ drop (length t) out) → left ≡ out
+    by : (c : Bool) → writtenFields r ≡ cond c (refusalNumbers (atZero 15)) (lengthNumbers (length t)) → left ≡ cond c out (t ++ drop (length t) out) → left ≡ out
     by true e o = o
     by false e o = let z : r .number ≡ 0 = cc in absurd (ne z)

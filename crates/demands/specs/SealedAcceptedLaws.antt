@@ -24,6 +24,7 @@ use Rattle.values.specs.Values.{answered}
 use Rattle.weaving.specs.Seals.{newHeader, newTrailer, maySeal, lengthRight, writable, textBy, sealedText}
 use Rattle.sealing.specs.Sealing.{orUnwritten, sealAt, sealOf}
 use Rattle.demands.specs.AskedLaws.{given-so}
+use Rattle.demands.specs.AskedForLaws.{message-of}
 use Rattle.demands.specs.Sealed.{sealedBy, Accepted}
 use Rattle.demands.specs.SealedNumberLaws.{grown-number}
 use Rattle.demands.specs.SealedTreeLaws.{placed-sealed}
@@ -117,7 +118,7 @@ module _ (s m r : List ℕ) (f : ℕ) (v x : List ℕ) where
           let R : Trailer = newTrailer (serviceIn (interchange k u ms z)) r (textBy f v) in
           let g = around (serviceIn i) (openingIn k .at) u H R m ms e in
           record {
-            of = record { i = i; read = d; o = msg (w .u) (w .hs) (w .b) (w .ts); t = w .n; q = w .q; named = e };
+            of = message-of s m i (msg (w .u) (w .hs) (w .b) (w .ts)) (w .n) (w .q) d e;
             reads = a;
             before = g .before;
             behind = g .after;

@@ -6,19 +6,15 @@ use lib.ListN.{length}
 use lib.Seq.{slice}
 use Rattle.syntax.specs.Octets.{octets as written}
 use Rattle.syntax.specs.Tree.{Element, print, spells, flatE}
-use Rattle.syntax.specs.declared.Service.{Service}
-use Rattle.grammar.specs.Lists.{Snoc, _+++_, joined, list}
+use Rattle.grammar.specs.Lists.{_+++_, joined, list}
 use Rattle.grammar.specs.Segments.{Unh, seg, number}
-use Rattle.grammar.specs.Interchange.{Leaf, Open, msg, showHeader, showTrailer, showBody}
+use Rattle.grammar.specs.Interchange.{showHeader, showTrailer, showBody}
 use Rattle.grammar.specs.Places.{headersIn, trailersIn}
 use Rattle.writing.specs.Decimal.{decimalOf}
 use Rattle.groups.specs.Parts.{bodyIn}
 use Rattle.groups.specs.Calls.{serviceIn}
 use Rattle.weaving.specs.Seals.{newHeader, newTrailer, textBy}
-use Rattle.demands.specs.Printed.{MessageOf}
-
-abbrev pub unhIn : Open → Leaf
-unhIn (msg u hs b ts) = u
+use Rattle.demands.specs.Printed.{MessageOf, unhIn}
 
 -- x is the old octets s with the new header put in behind UNH, the new trailer before UNT, and UNT's 0074 replaced
 pub record Sewn (s m r : List ℕ) (f : ℕ) (v x : List ℕ) : Type 0 where

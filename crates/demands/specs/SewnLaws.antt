@@ -36,6 +36,7 @@ use Rattle.sealing.specs.Sealing.{sealOf}
 use Rattle.writing.specs.Written as writing
 use Rattle.demands.specs.Sealed.{sealedBy}
 use Rattle.demands.specs.SealedAcceptedLaws.{succeeds}
+use Rattle.demands.specs.AskedForLaws.{message-of}
 use Rattle.demands.specs.Sewn.{Sewn}
 use Rattle.weaving.specs.WovenLaws.{cut-at, inner, una-length, unt-digits, old-parts, new-parts}
 
@@ -176,7 +177,7 @@ module _ (s m r : List ℕ) (f : ℕ) (v x : List ℕ) where
       let pl : q ≡ length (P ++ I) = omega (arith, y .place, length-append P I, una-length n, wide-list σ (shown (idle u (y .before)))) in
       let c = cuts (P ++ I) W B U E (R ++ D) s q (is ∙ ap (λ (l : List ℕ). l ++ (B ++ (U ++ (E ++ (R ++ D))))) (sym (append-assoc P I W))) pl in
       record {
-        of = record { i = interchange n u ms z; read = e; o = msg a hs b ts; t = x0 ∷ es; q = q; named = named };
+        of = message-of s m (interchange n u ms z) (msg a hs b ts) (x0 ∷ es) q e named;
         behind = c .behind;
         unt = c .unt;
         count = c .count;

@@ -4,13 +4,12 @@ use mathlib.Core.Path.{_≡_}
 use mathlib.Core.Bool.{true, false}
 use mathlib.Core.List.{List, _++_}
 use lib.ListN.{length}
-use lib.Seq.{slice}
 use Rattle.syntax.specs.Octets.{octets as written}
 use Rattle.syntax.specs.Tree.{print}
-use Rattle.grammar.specs.Lists.{Snoc, nil, _▷_, _+++_, joined, list, any, size}
+use Rattle.grammar.specs.Lists.{Snoc, nil, _▷_, _+++_, list, any, size}
 use Rattle.grammar.specs.Grams.{Grams, sum}
 use Rattle.grammar.specs.Segments.{unb0020, unt0074, unz0036, ust0588, usx0020, usy0534}
-use Rattle.grammar.specs.Interchange.{Leaf, Header, Trailer, trailer, Link, link, Body, plain, ack, Open, msg, Message, message, idle, shown, showHeader, showTrailer, showMessage}
+use Rattle.grammar.specs.Interchange.{Leaf, Header, Trailer, trailer, Link, link, Body, plain, ack, msg, Message, message, idle, shown, showHeader, showTrailer, showMessage}
 use Rattle.grammar.specs.Rules.{refH, refT, refM, claimed}
 use Rattle.grammar.specs.Loads.{controls}
 use Rattle.grammar.specs.Valid.{Interchange, interchange, printUna, unaOf}
@@ -32,6 +31,13 @@ headersOf (message o t) = headersIn o
 
 abbrev pub trailersOf : Message → Snoc Trailer
 trailersOf (message o t) = trailersIn o
+
+abbrev pub unbOf : Interchange → Leaf
+unbOf (interchange n u ms z) = u
+
+-- where the octets behind UNA, UNB and these messages start
+abbrev pub placeBehind : Interchange → Snoc Message → ℕ
+placeBehind i before = length (printUna (unaOf i)) + length (print (serviceIn i) (list (shown (idle (unbOf i) before))))
 
 -- ---- "Calls name a message by its 0062 and a header by its 0534"
 
@@ -95,9 +101,6 @@ bodyOf (message o t) = bodyIn o
 abbrev pub usysOf : Link → Snoc Leaf
 usysOf (link x ys) = ys
 
-abbrev pub unbOf : Interchange → Leaf
-unbOf (interchange n u ms z) = u
-
 -- the first USX of an AUTACK's body under which a USY names the header r, and the first such USY
 pub record FirstUsx (b : Body) (r : List ℕ) : Type 0 where
   pub usb : Leaf
@@ -131,11 +134,3 @@ pub record Refers (a s m r : List ℕ) : Type 0 where
   pub some-inside : any run ≡ true
   pub none-inside : (x : Message) → In x run → autackM x ≡ false
   pub autacks-behind : (x : Message) → In x behind → autackM x ≡ true
-
--- from x to y stand the messages of that run
-pub record RunOf (a s m r : List ℕ) (x y : ℕ) : Type 0 where
-  pub of : Refers a s m r
-  -- it starts behind UNA, UNB and the messages before it
-  pub start : x ≡ length (printUna (unaOf (of .i))) + length (print (serviceIn (of .i)) (list (shown (idle (unbOf (of .i)) (of .before)))))
-  pub octets : slice x y s ≡ print (serviceIn (of .i)) (list (joined showMessage (of .run)))
-  pub end : y ≡ x + length (slice x y s)

@@ -79,7 +79,7 @@ module _ (s m r v : List ℕ) where
               let g : z ≡ v = cc in
               record {
                 code = scopeH y;
-                has = record { i = i; read = d; of = message (msg u hs b ts) n; there = x .0; name = x .1; header = y; within = w .0; ref = w .1; scope = refl };
+                has = record { i = i; read = d; of = message (msg u hs b ts) n; there = x .0; name = x .1 .0; header = y; within = w .0; ref = w .1; scope = refl };
                 t = valueText (msg u hs b ts) r;
                 stands = text-so u hs b ts n r (filterH y) z j;
                 reads = j ∙ ap some g;

@@ -3,8 +3,8 @@
 // (Valid.antt, with the rules of Rules.antt, Elements.antt and Loads.antt), `verdictOf` and `totalsOf` (Verdict.antt), `countedIn` (Counted.antt);
 // of `ranges` `scope1Of`, `scope2Of` (Ranges.antt), of `f01` `f01Of` (F01.antt); of `values` `valueOf` (Values.antt); of `sealing` `sealOf`,
 // `sealOctetsOf` and `sealed` (Sealing.antt); of `register` `registerOf`, `checkNumbers`, `toldCheck` (Register.antt); of `writing` `Writes`
-// (Written.antt); and here `Printed.antt`, `Sealed.antt`, `Range.antt` (the grammars of what is sealed) and `Read.antt`.
-ghost use Prim.Native.Nat.{ℕ, _≤_};
+// (Written.antt); and here `Printed.antt`, `Companion.antt`, `Reported.antt`, `Sealed.antt`, `Range.antt` (the grammars of what is sealed) and `Read.antt`.
+ghost use Prim.Native.Nat.{ℕ, _+_, _-_, _≤_};
 ghost use mathlib.Core.Path.{_≡_};
 ghost use mathlib.Core.List.{List, _++_};
 ghost use mathlib.Core.Logic.{_↔_};
@@ -34,11 +34,13 @@ ghost use Rattle.register.specs.declared.register.Checked.the-variants.{Same};
 ghost use Rattle.listing.specs.Listing.{Lists};
 ghost use Rattle.gurandepi.specs.Answers.{Gives};
 ghost use Rattle.gurandepi.specs.declared.Written.{Written as Exported};
-ghost use Rattle.demands.specs.Stated.{In, HasHeader, headersOf, trailersOf, Pairs, CountsAgree, number0036, Refers, RunOf};
+ghost use Rattle.demands.specs.Stated.{In, HasHeader, headersOf, trailersOf, Pairs, CountsAgree, number0036, Refers};
 ghost use Rattle.demands.specs.Sewn.{Sewn};
 ghost use Rattle.demands.specs.Allowed.{Allows, Seals};
 ghost use Rattle.demands.specs.Valued.{Valued};
 ghost use Rattle.demands.specs.Printed.{Scope1, Scope2, F01};
+ghost use Rattle.demands.specs.Reported.{Reported};
+ghost use Rattle.demands.specs.Companion.{Companion1, CompanionRun};
 ghost use Rattle.demands.specs.Sealed.{Accepted, Signed, Kept};
 ghost use Rattle.demands.specs.Range.{Reads, Range1, scope1, Range2, scope2, f01};
 ghost use Rattle.demands.specs.Read.{syntaxOf, Read1, Alike1, Read2, Alike2, ReadF, AlikeF};
@@ -119,11 +121,6 @@ pub fn f01_is_given()
     ensures { λ _. ⌜ ((a s m r : List ℕ) → ((p : Run) × (f01Of a s m r ≡ given p)) ↔ Refers a s m r) ⌝ }
 {}
 
-// F01 by its meaning: what is given is the run of messages that are no AUTACK, from the first UNH to the last UNT, of the interchange that is referred to.
-pub fn f01_is_meant()
-    ensures { λ _. ⌜ ((a s m r : List ℕ) (x y : ℕ) → f01Of a s m r ≡ given (run x y) → RunOf a s m r x y) ⌝ }
-{}
-
 // The value call gives v if and only if s is accepted and has the message and the header that are named, and the header's filter reads v from the text of
 // its seal: 0560 of the USR after the UST, or in an AUTACK of the first USY that names the header.
 pub fn value_is_given()
@@ -141,9 +138,25 @@ pub fn scope2_is_printed()
     ensures { λ _. ⌜ ((s m r : List ℕ) (a b : ℕ) → scope2Of s m r ≡ given (run a b) → Scope2 s m r a b) ⌝ }
 {}
 
-// F01: of the messages of the run, in the interchange that is referred to.
+// F01: of the run of messages that are no AUTACK, from the first UNH to the last UNT, of the interchange that is referred to.
 pub fn f01_is_printed()
-    ensures { λ _. ⌜ ((t s m r : List ℕ) (a b : ℕ) → f01Of t s m r ≡ given (run a b) → F01 s a b) ⌝ }
+    ensures { λ _. ⌜ ((a s m r : List ℕ) (x y : ℕ) → f01Of a s m r ≡ given (run x y) → F01 a s m r x y) ⌝ }
+{}
+
+// "A companion call gives start and end. On refusal the part is empty and starts at 0": the calls that hand back a part tell no number of their own; for
+// every input the part is that from the companion's start to its end. Scope 1, scope 2 and F01.
+pub fn part_is_companion()
+    ensures { λ _. ⌜ ((a s m r : List ℕ) → Companion1 s (scope1Of s m r) × (CompanionRun s (scope2Of s m r) × CompanionRun s (f01Of a s m r))) ⌝ }
+{}
+
+// "seal A1 scope 1 octets 82": the number in a seal line of the report is how many octets the range call hands back. Scope 1: of both parts together.
+pub fn report_counts_scope1()
+    ensures { λ _. ⌜ ((s m r : List ℕ) (a b c d : ℕ) → scope1Of s m r ≡ given (parts a b c d) → Reported s m r (octets "1") (length (slice a b s ++ slice c d s)) × (length (slice a b s ++ slice c d s) ≡ b - a + (d - c))) ⌝ }
+{}
+
+// Scope 2: of the run.
+pub fn report_counts_scope2()
+    ensures { λ _. ⌜ ((s m r : List ℕ) (a b : ℕ) → scope2Of s m r ≡ given (run a b) → Reported s m r (octets "2") (length (slice a b s)) × (length (slice a b s) ≡ b - a)) ⌝ }
 {}
 
 // D2d. Sealing has a text, not only a right one: the octets to be signed, if and only if s is accepted and none of 13 and 16 holds
@@ -234,9 +247,9 @@ pub fn f01_one_reading()
 {}
 
 pub fn f01_is_read()
-    ensures { λ _. ⌜ ((t s m r : List ℕ) (a b : ℕ) → f01Of t s m r ≡ given (run a b) → ReadF s a b) ⌝ }
+    ensures { λ _. ⌜ ((t s m r : List ℕ) (a b : ℕ) → f01Of t s m r ≡ given (run a b) → ReadF t s m r a b) ⌝ }
 {}
 
 pub fn f01_reads_alike()
-    ensures { λ _. ⌜ ((t s m r t′ s′ m′ r′ : List ℕ) (a b a′ b′ : ℕ) → f01Of t s m r ≡ given (run a b) → f01Of t′ s′ m′ r′ ≡ given (run a′ b′) → syntaxOf s ≡ syntaxOf s′ → slice a b s ≡ slice a′ b′ s′ → AlikeF s a b s′ a′ b′) ⌝ }
+    ensures { λ _. ⌜ ((t s m r t′ s′ m′ r′ : List ℕ) (a b a′ b′ : ℕ) → f01Of t s m r ≡ given (run a b) → f01Of t′ s′ m′ r′ ≡ given (run a′ b′) → syntaxOf s ≡ syntaxOf s′ → slice a b s ≡ slice a′ b′ s′ → AlikeF t s m r a b t′ s′ m′ r′ a′ b′) ⌝ }
 {}

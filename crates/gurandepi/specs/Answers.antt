@@ -2,7 +2,7 @@
 use Prim.Native.Nat.{ℕ}
 use mathlib.Core.List.{List, [], _∷_}
 use mathlib.Core.Path.{_≡_}
-use Rattle.writing.specs.Written.{Text, writtenAs, leftIn, toldWritten}
+use Rattle.writing.specs.Written.{Text, leftIn, writtenNumbers}
 use Rattle.gurandepi.specs.declared.Answer.{Answer}
 use Rattle.gurandepi.specs.declared.Loads.{Loads}
 use Rattle.gurandepi.specs.declared.Parts.{Parts}
@@ -26,5 +26,5 @@ writtenFields r = r .number ∷ r .place ∷ r .length ∷ []
 
 -- the answer r and the octets out′ of an exported call that is to write x into out
 pub record Gives (x : Text) (out : List ℕ) (r : Written) (out′ : List ℕ) : Type 0 where
-  pub answer : writtenFields r ≡ toldWritten (writtenAs x out)
+  pub answer : writtenFields r ≡ writtenNumbers x out
   pub octets : out′ ≡ leftIn x out

@@ -7,6 +7,7 @@ use mathlib.Core.Path.{_≡_}
 use lib.Dec.{ltb}
 use lib.ListN.{length, drop}
 use Rattle.syntax.specs.Octets.{octets}
+use Rattle.syntax.specs.Refusals.{atZero}
 use Rattle.syntax.specs.declared.Service.{Service}
 use Rattle.grammar.specs.Lists.{Snoc, nil, _▷_, size}
 use Rattle.grammar.specs.Grams.{sum}
@@ -19,7 +20,7 @@ use Rattle.grammar.specs.Places.{wide, headersIn}
 use Rattle.groups.specs.Groups.{Chosen, chosen}
 use Rattle.groups.specs.Parts.{trailerNamed, scopeH, headerAt, trailerAt, bodyIn}
 use Rattle.groups.specs.Calls.{serviceIn}
-use Rattle.writing.specs.Written.{refusedAs}
+use Rattle.writing.specs.Written.{refusedAs, lengthNumbers, refusalNumbers, toldWritten}
 use Rattle.writing.specs.declared.Written.{Written}
 use Rattle.writing.specs.declared.Written.the-variants.{Length}
 use Rattle.lines.specs.Words.{refusalLine, acceptedLine, messageLine, sealLine}
@@ -81,6 +82,11 @@ listedAs t out = cond (ltb (length out) (length t)) (refusedAs 15) (Length (leng
 abbrev pub leftIn : List ℕ → List ℕ → List ℕ
 leftIn t out = cond (ltb (length out) (length t)) out (t ++ drop (length t) out)
 
+-- the paper's numbers
+abbrev pub listedNumbers : List ℕ → List ℕ → List ℕ
+listedNumbers t out = cond (ltb (length out) (length t)) (refusalNumbers (atZero 15)) (lengthNumbers (length t))
+
 pub record Lists (t out : List ℕ) (r : Written) (out′ : List ℕ) : Type 0 where
   pub answer : r ≡ listedAs t out
+  pub numbers : toldWritten r ≡ listedNumbers t out
   pub octets : out′ ≡ leftIn t out

@@ -4,7 +4,7 @@ use native.Mathlib.Omega.{arith}
 use mathlib.Core.Bool.{Bool, true, false}
 use mathlib.Core.List.{List, _++_, append-nil}
 use mathlib.Core.Path.{_≡_, refl, ap, sym, _∙_, subst}
-use lib.Dec.{T}
+use lib.Dec.{T, ltb}
 use lib.ListN.{length}
 use borrow.Author.Tests.{lt-ltb, le-ltb}
 use Rattle.syntax.specs.Service.{fit}
@@ -39,11 +39,12 @@ use Rattle.groups.specs.Groups.{nameAt}
 use Rattle.groups.specs.CallsLaws.{begins as begun-so}
 use Rattle.writing.specs.Laid.{Laid}
 use Rattle.writing.specs.LaidLaws.{laid-same, laid-length, laid-all, laid-front, laid-more, laid-none}
-use Rattle.writing.specs.Written.{refusedAs}
+use Rattle.writing.specs.Written.{refusedAs, toldWritten}
+use Rattle.writing.specs.WrittenLaws.{told-by}
 use Rattle.writing.specs.declared.Written.{Written}
 use Rattle.writing.specs.declared.Written.the-variants.{Length, Refused}
 use Rattle.lines.specs.Words.{acceptedLine, refusalLine, messageLine}
-use Rattle.listing.specs.Listing.{messageOf, acceptedOf, listingBy, listingOf, Lists}
+use Rattle.listing.specs.Listing.{messageOf, acceptedOf, listingBy, listingOf, listedAs, leftIn, Lists}
 use Rattle.lines.specs.Seals.{Near, sealsAt}
 use Rattle.listing.specs.Laying.{sectionAt, messagesRead, LaysAll}
 use Rattle.listing.specs.LayingLaws.{near-laid, section-lines}
@@ -172,14 +173,18 @@ lays-told {y} {s} {from} g k f a =
 
 -- ---- the call: a text is measured, refused where it is too long, and then laid
 
+-- the answer and the octets settle the numbers
+lists : {t out left : List ℕ} {r : Written} → r ≡ listedAs t out → left ≡ leftIn t out → Lists t out r left
+lists {t} {out} e d = record { answer = e; numbers = ap toldWritten e ∙ told-by (ltb (length out) (length t)) (length t); octets = d }
+
 module _ {t : List ℕ} {m : ℕ} (e : m ≡ length t) where
   pub lists-full : {out : List ℕ} {r : Written} → length out < m → r ≡ refusedAs 15 → Lists t out r out
-  lists-full h q = record { answer = q ∙ rw (← e, lt-ltb _ _ h); octets = rw (← e, lt-ltb _ _ h) }
+  lists-full h q = lists (q ∙ rw (← e, lt-ltb _ _ h)) (rw (← e, lt-ltb _ _ h))
 
   pub lists-done : {out out′ : List ℕ} {k : ℕ} → m ≤ length out → Laid out 0 t k out′ → Lists t out (Length m) out′
   lists-done {out} h g =
       let f : length t ≤ length out = omega arith in
-      record { answer = rw (← e, le-ltb _ _ h); octets = laid-front g f ∙ rw (← e, le-ltb _ _ h) }
+      lists (rw (← e, le-ltb _ _ h)) (laid-front g f ∙ rw (← e, le-ltb _ _ h))
 
 pub lists-same : {t u out : List ℕ} {r : Written} {out′ : List ℕ} → t ≡ u → Lists t out r out′ → Lists u out r out′
 lists-same e g = rw e at g

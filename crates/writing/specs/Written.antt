@@ -32,12 +32,26 @@ abbrev pub leftIn : Text → List ℕ → List ℕ
 leftIn (noText f) out = out
 leftIn (text t) out = cond (tooLong (length out) (length t)) out (t ++ drop (length t) out)
 
+-- ---- the paper's numbers: number and place, then the length; "on refusal .. every other number given back is 0"
+
+abbrev pub lengthNumbers : ℕ → List ℕ
+lengthNumbers n = 0 ∷ 0 ∷ n ∷ []
+
+abbrev pub refusalNumbers : Refusal → List ℕ
+refusalNumbers f = f .number ∷ f .place ∷ 0 ∷ []
+
+-- of a call that is to write x into out; 15 where it is too long
+abbrev pub writtenNumbers : Text → List ℕ → List ℕ
+writtenNumbers (noText f) out = refusalNumbers f
+writtenNumbers (text t) out = cond (tooLong (length out) (length t)) (refusalNumbers (atZero 15)) (lengthNumbers (length t))
+
+-- as the answer has them
+abbrev pub toldWritten : Written → List ℕ
+toldWritten (Length n) = lengthNumbers n
+toldWritten (Refused f) = refusalNumbers f
+
 -- the answer r and the octets out′ of a call that is to write x into out
 pub record Writes (x : Text) (out : List ℕ) (r : Written) (out′ : List ℕ) : Type 0 where
   pub answer : r ≡ writtenAs x out
+  pub numbers : toldWritten r ≡ writtenNumbers x out
   pub octets : out′ ≡ leftIn x out
-
--- the paper's number and place, then the length; 0 where there is none
-abbrev pub toldWritten : Written → List ℕ
-toldWritten (Length n) = 0 ∷ 0 ∷ n ∷ []
-toldWritten (Refused f) = f .number ∷ f .place ∷ 0 ∷ []
