@@ -36,7 +36,7 @@ static int by_size(const void *a, const void *b) {
 
 static void say(uint64_t v, char *out) {
     if (v == 0) strcpy(out, "ok");
-    else sprintf(out, "refused %u %u", (unsigned)(v >> 32), (unsigned)v);
+    else sprintf(out, "refused %u %u %u", (unsigned)(v >> 40), (unsigned)(v & 0xFFFFF), (unsigned)(v >> 20 & 0xFFFFF));
 }
 
 static int time_file(const char *path) {

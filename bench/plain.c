@@ -1,5 +1,5 @@
 // A plain judge of the same rules, to measure against: one pass, a class table, a hash table for the references.
-// It gives 0 for an accepted interchange, or the refusal's number in the upper 32 bits and its place in the lower ones.
+// It gives 0 for an accepted interchange, or the refusal: its place in the lowest 20 bits, the ordinal of its segment in the next 20, its number above.
 #include <stdbool.h>
 #include <stddef.h>
 #include <stdint.h>
@@ -43,7 +43,7 @@ typedef struct {
 } judge;
 
 #define TAG(a, b, c) ((uint32_t)(a) << 16 | (b) << 8 | (c))
-#define REFUSED(number, place) ((uint64_t)(number) << 32 | (place))
+#define REFUSED(number, place, segment) ((uint64_t)(number) << 40 | (uint64_t)(segment) << 20 | (place))
 #define IS(x, literal) ((x).n == sizeof literal - 1 && memcmp((x).p, literal, sizeof literal - 1) == 0)
 
 static bool same(text a, text b) { return a.n == b.n && memcmp(a.p, b.p, a.n) == 0; }
@@ -460,28 +460,30 @@ static int turn(judge *j, uint32_t tag) {
 
 uint64_t plain_judge(const uint8_t *s, size_t n) {
     judge work, *j = &work;    // the tables are not cleared as a whole
-    if (n == 0 || n > MOST) return REFUSED(1, 0);
+    if (n == 0 || n > MOST) return REFUSED(1, 0, 0);
     j->s = s, j->n = n, j->freed = 0, j->messages = 0, j->group = IDLE;
     j->component = ':', j->separator = '+', j->release = '?', j->repetition = '*', j->end = '\'';
     bool una = n >= 3 && memcmp(s, "UNA", 3) == 0;
-    if (una && !read_una(j)) return REFUSED(2, 0);
+    if (una && !read_una(j)) return REFUSED(2, 0, 0);
     size_t i = una ? 9 : 0;
-    if (i == n) return REFUSED(5, n);
+    if (i == n) return REFUSED(5, n, 1);
     size_t first = i;
     int no = read_unb(j, &i, una);
-    if (no) return REFUSED(no, no == 3 ? j->bad : first);
+    if (no) return REFUSED(no, no == 3 ? j->bad : first, 1);
     for (j->mask = 15; j->mask < n / 8; j->mask = 2 * j->mask + 1);    // a message has 16 octets or more
     memset(j->slot, 0, (j->mask + 1) * sizeof *j->slot);
+    size_t segment = 2;
     while (i < n) {
-        if (!good_tag(j, i)) return REFUSED(4, i);
+        if (!good_tag(j, i)) return REFUSED(4, i, segment);
         uint32_t tag = TAG(s[i], s[i + 1], s[i + 2]);
         size_t e = checked(tag) ? split(j, i + 3) : skip(j, i + 3);
-        if (e == n) return REFUSED(4, i);
-        if (j->bad < n) return REFUSED(3, j->bad);
+        if (e == n) return REFUSED(4, i, segment);
+        if (j->bad < n) return REFUSED(3, j->bad, segment);
         no = turn(j, tag);
-        if (no) return REFUSED(no, i);
+        if (no) return REFUSED(no, i, segment);
         i = e + 1;
-        if (tag == TAG('U', 'N', 'Z')) return i == n ? 0 : REFUSED(7, i);
+        segment++;
+        if (tag == TAG('U', 'N', 'Z')) return i == n ? 0 : REFUSED(7, i, segment);
     }
-    return REFUSED(7, n);
+    return REFUSED(7, n, segment);
 }

@@ -15,9 +15,10 @@ static uint8_t kept[GURANDEPI_LONGEST], octets[GURANDEPI_LONGEST], sealed[GURAND
 /* A reference, as it is lent: its octets and how many. */
 #define LENT(name) (const uint8_t *)(name), strlen(name)
 
-static int refused(const char *what, uint64_t number, uint64_t place) {
+static int refused(const char *what, uint64_t number, uint64_t place, uint64_t segment) {
     if (number == GURANDEPI_OK) return 0;
-    printf("%s: refused %llu at %llu\n", what, (unsigned long long)number, (unsigned long long)place);
+    printf("%s: refused %llu at %llu segment %llu\n", what, (unsigned long long)number, (unsigned long long)place,
+           (unsigned long long)segment);
     return 1;
 }
 
@@ -25,17 +26,17 @@ static int audit(size_t length, const char *message) {
     struct gurandepi_answer verdict = gurandepi_judge(interchange, length);
     struct gurandepi_loads totals;
     struct gurandepi_written written;
-    if (refused("judge", verdict.number, verdict.place)) return 1;
+    if (refused("judge", verdict.number, verdict.place, verdict.segment)) return 1;
     printf("accepted, %zu octets\n", length);
 
     totals = gurandepi_totals(interchange, length, LENT(message));
-    if (refused("totals", totals.number, totals.place)) return 1;
+    if (refused("totals", totals.number, totals.place, totals.segment)) return 1;
     printf("message %s: %llu loads, %llu g\n", message, (unsigned long long)totals.loads, (unsigned long long)totals.grams);
 
     written = gurandepi_register_write(interchange, length, kept, sizeof kept);
-    if (refused("register", written.number, written.place)) return 1;
+    if (refused("register", written.number, written.place, written.segment)) return 1;
     verdict = gurandepi_register_check(interchange, length, kept, (size_t)written.length);
-    if (refused("register check", verdict.number, verdict.place)) return 1;
+    if (refused("register check", verdict.number, verdict.place, verdict.segment)) return 1;
     printf("register of %llu octets, written and checked\n", (unsigned long long)written.length);
     return 0;
 }
@@ -54,12 +55,12 @@ static int check(size_t length, const char *message, const char *header, size_t 
     struct gurandepi_parts parts = gurandepi_scope1(sealed, length, LENT(message), LENT(header));
     size_t first = (size_t)(parts.header_end - parts.header_start), second = (size_t)(parts.body_end - parts.body_start);
     struct gurandepi_written written;
-    if (refused("scope 1", parts.number, parts.place)) return 1;
+    if (refused("scope 1", parts.number, parts.place, parts.segment)) return 1;
     if (first + second != octets_length || memcmp(octets, sealed + parts.header_start, first) != 0 ||
         memcmp(octets + first, sealed + parts.body_start, second) != 0)
         return 1;
     written = gurandepi_value(sealed, length, LENT(message), LENT(header), value, sizeof value);
-    if (refused("value", written.number, written.place)) return 1;
+    if (refused("value", written.number, written.place, written.segment)) return 1;
     if (written.length != signature_length || memcmp(value, signature, signature_length) != 0) return 1;
     printf("checked: %zu and %zu octets sealed, a value of %zu octets\n", first, second, signature_length);
     return 0;
@@ -70,12 +71,12 @@ static int seal(size_t length, const char *message, const char *header) {
     size_t octets_length, signature_length;
     written = gurandepi_seal_octets(interchange, length, LENT(message), LENT(header), GURANDEPI_FILTER_HEX, octets,
                                     sizeof octets);
-    if (refused("seal", written.number, written.place)) return 1;
+    if (refused("seal", written.number, written.place, written.segment)) return 1;
     octets_length = (size_t)written.length;
     signature_length = sign(octets, octets_length, signature);
     written = gurandepi_seal(interchange, length, LENT(message), LENT(header), GURANDEPI_FILTER_HEX, signature,
                              signature_length, sealed, sizeof sealed);
-    if (refused("seal", written.number, written.place)) return 1;
+    if (refused("seal", written.number, written.place, written.segment)) return 1;
     printf("sealed under %s: %llu octets\n", header, (unsigned long long)written.length);
     return check((size_t)written.length, message, header, octets_length, signature_length);
 }

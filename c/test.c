@@ -40,24 +40,25 @@ static void fault(const char *what, const char *more) {
 
 /* ---- answers as the desk prints them */
 
-static void tell(uint64_t refusal, uint64_t place, const uint64_t *own, unsigned count) {
+static void tell(uint64_t refusal, uint64_t place, uint64_t segment, const uint64_t *own, unsigned count) {
     char *to = said;
     unsigned i;
     if (refusal != 0) {
         for (i = 0; i < count; i++)
             if (own[i] != 0) fault("a refusal gives back a number that is not 0", "");
-        snprintf(said, sizeof said, "refused %llu %llu", (unsigned long long)refusal, (unsigned long long)place);
+        snprintf(said, sizeof said, "refused %llu %llu %llu", (unsigned long long)refusal, (unsigned long long)place,
+                 (unsigned long long)segment);
         return;
     }
-    if (place != 0) fault("a place without a refusal", "");
+    if (place != 0 || segment != 0) fault("a place or a segment without a refusal", "");
     to += snprintf(to, 8, "ok");
     for (i = 0; i < count; i++) to += snprintf(to, 32, " %llu", (unsigned long long)own[i]);
 }
 
 static void tell_written(struct gurandepi_written r, unsigned out) {
     size_t i;
-    if (r.number != 0 || r.place != 0 || r.length > lent[out].length) {
-        tell(r.number, r.place, &r.length, 1);
+    if (r.number != 0 || r.place != 0 || r.segment != 0 || r.length > lent[out].length) {
+        tell(r.number, r.place, r.segment, &r.length, 1);
         return;
     }
     written = (size_t)r.length;
@@ -69,32 +70,33 @@ static void tell_written(struct gurandepi_written r, unsigned out) {
 
 static void make_judge(void) {
     struct gurandepi_answer r = gurandepi_judge(OCTETS(0));
-    tell(r.number, r.place, NULL, 0);
+    tell(r.number, r.place, r.segment, NULL, 0);
 }
 
 static void make_totals(void) {
     struct gurandepi_loads r = gurandepi_totals(OCTETS(0), OCTETS(1));
     uint64_t own[] = {r.loads, r.grams};
-    tell(r.number, r.place, own, 2);
+    tell(r.number, r.place, r.segment, own, 2);
 }
 
 static void make_scope1(void) {
     struct gurandepi_parts r = gurandepi_scope1(OCTETS(0), OCTETS(1), OCTETS(2));
     uint64_t own[] = {r.header_start, r.header_end, r.body_start, r.body_end};
-    tell(r.number, r.place, own, 4);
+    tell(r.number, r.place, r.segment, own, 4);
 }
 
 static void make_scope2(void) {
     struct gurandepi_range r = gurandepi_scope2(OCTETS(0), OCTETS(1), OCTETS(2));
     uint64_t own[] = {r.start, r.end};
-    tell(r.number, r.place, own, 2);
+    tell(r.number, r.place, r.segment, own, 2);
 }
 
 /* A refusal with 1 to 12 is that of the AUTACK's interchange where this is refused, else that of the other. */
 static void look_whose(struct gurandepi_range r) {
     struct gurandepi_answer own = gurandepi_judge(OCTETS(0));
     if (own.number == GURANDEPI_OK) own = gurandepi_judge(OCTETS(1));
-    if (r.number != own.number || r.place != own.place) fault("a refusal of neither interchange", "");
+    if (r.number != own.number || r.place != own.place || r.segment != own.segment)
+        fault("a refusal of neither interchange", "");
 }
 
 /* Where the two interchanges are equal, the very same octets may be lent for both. */
@@ -106,7 +108,7 @@ static void make_f01(void) {
         if (memcmp(&r, &one, sizeof r) != 0) fault("another answer where one interchange is lent twice", "");
     }
     if (r.number != GURANDEPI_OK && r.number <= GURANDEPI_BAD_AMOUNT) look_whose(r);
-    tell(r.number, r.place, own, 2);
+    tell(r.number, r.place, r.segment, own, 2);
 }
 
 static void make_value(void) {
@@ -157,7 +159,7 @@ static void check_back(void) {
 
 static void make_check(void) {
     struct gurandepi_answer r = gurandepi_register_check(OCTETS(0), OCTETS(1));
-    tell(r.number, r.place, NULL, 0);
+    tell(r.number, r.place, r.segment, NULL, 0);
 }
 
 /* The arguments: h octets, n a number, c the length of the lent buffer. */
@@ -247,7 +249,7 @@ static int make(const struct call *call, char *words[], size_t room, const char 
 static void fit(const struct call *call, char *words[], const char *answer) {
     size_t length = written;
     make(call, words, length, answer, 0);
-    if (length != 0) make(call, words, length - 1, "refused 15 0", 1);
+    if (length != 0) make(call, words, length - 1, "refused 15 0 0", 1);
 }
 
 static void compare(struct call *call, char *words[], const char *answer) {
@@ -354,10 +356,10 @@ static void long_ones(void) {
     long_register("ok 00000ccc", "ok");
     lend_long(3277, GURANDEPI_LONGEST);
     held("h", make_judge, "ok");
-    long_register("refused 15 0", "refused 13 0");
+    long_register("refused 15 0 0", "refused 13 0 0");
     lend_long(3276, GURANDEPI_LONGEST + 1);
-    held("h", make_judge, "refused 1 0");
-    long_register("refused 1 0", "refused 1 0");
+    held("h", make_judge, "refused 1 0 0");
+    long_register("refused 1 0 0", "refused 1 0 0");
 }
 
 static char *read_all(const char *path, char *to, size_t room) {

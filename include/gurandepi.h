@@ -17,7 +17,9 @@
  *
  *   Every answer is a struct of numbers. `number` is 0 where the call was carried out, else the number of the refusal,
  *   from the table below. `place` says where: the first octet of the segment (or of the octet) that is at fault, counted
- *   from 0 in the lent interchange; 0 where the table says so.
+ *   from 0 in the lent interchange; 0 where the table says so. `segment` says which segment stands at that place, for a
+ *   printed list: UNB is 1, UNA counts as none, and the end of the input, or what stands after UNZ, counts as the next
+ *   segment. It is 0 for the refusals 1 and 2, and for those from 13 on.
  *   Places come as `start` and `end`: from the octet at `start` up to, but not with, the one at `end`.
  *
  *   On a refusal every other number of the answer is 0, and `out` is left as it was, every octet of it. Where a call
@@ -43,7 +45,7 @@ extern "C" {
  * declaration is changed or gone, or for equal octets another answer is given. The library has no version of its own: take
  * both from one tree.
  */
-#define GURANDEPI_MAJOR 1
+#define GURANDEPI_MAJOR 2
 #define GURANDEPI_MINOR 0
 
 /*
@@ -92,12 +94,14 @@ enum gurandepi_filter {
 struct gurandepi_answer {
     uint64_t number;
     uint64_t place;
+    uint64_t segment;
 };
 
 /* The loads of a message and the sum of their amounts, exact, in grams. */
 struct gurandepi_loads {
     uint64_t number;
     uint64_t place;
+    uint64_t segment;
     uint64_t loads;
     uint64_t grams;
 };
@@ -106,6 +110,7 @@ struct gurandepi_loads {
 struct gurandepi_parts {
     uint64_t number;
     uint64_t place;
+    uint64_t segment;
     uint64_t header_start;
     uint64_t header_end;
     uint64_t body_start;
@@ -116,6 +121,7 @@ struct gurandepi_parts {
 struct gurandepi_range {
     uint64_t number;
     uint64_t place;
+    uint64_t segment;
     uint64_t start;
     uint64_t end;
 };
@@ -124,6 +130,7 @@ struct gurandepi_range {
 struct gurandepi_written {
     uint64_t number;
     uint64_t place;
+    uint64_t segment;
     uint64_t length;
 };
 
@@ -157,8 +164,9 @@ struct gurandepi_range gurandepi_scope2(const uint8_t *interchange, size_t inter
  * Refuses with 1 to 12, for `autack` first and then for `referenced`; 13: no such message or header of scope F01, no USY
  * names the header, `referenced` is another interchange than the one referred to, holds no message but AUTACKs, or has an
  * AUTACK between the others.
- * A refusal with 1 to 12 does not say which of the two is refused, and so in which of them `place` lies. gurandepi_judge on
- * `autack` does: where it refuses, this is that refusal; where it accepts, `referenced` is the one refused.
+ * A refusal with 1 to 12 does not say which of the two is refused, and so in which of them `place` lies and `segment` is
+ * counted. gurandepi_judge on `autack` does: where it refuses, this is that refusal; where it accepts, `referenced` is the
+ * one refused.
  */
 struct gurandepi_range gurandepi_f01(const uint8_t *autack, size_t autack_length,
                                      const uint8_t *referenced, size_t referenced_length,

@@ -9,12 +9,14 @@ mod c {
     pub struct Answer {
         pub number: u64,
         pub place: u64,
+        pub segment: u64,
     }
 
     #[repr(C)]
     pub struct Loads {
         pub number: u64,
         pub place: u64,
+        pub segment: u64,
         pub loads: u64,
         pub grams: u64,
     }
@@ -23,6 +25,7 @@ mod c {
     pub struct Parts {
         pub number: u64,
         pub place: u64,
+        pub segment: u64,
         pub header_start: u64,
         pub header_end: u64,
         pub body_start: u64,
@@ -33,6 +36,7 @@ mod c {
     pub struct Range {
         pub number: u64,
         pub place: u64,
+        pub segment: u64,
         pub start: u64,
         pub end: u64,
     }
@@ -41,6 +45,7 @@ mod c {
     pub struct Written {
         pub number: u64,
         pub place: u64,
+        pub segment: u64,
         pub length: u64,
     }
 
@@ -107,10 +112,10 @@ fn reason(number: u64) -> Reason {
     all[number as usize - 1]
 }
 
-fn given<T>(number: u64, place: u64, answer: impl FnOnce() -> T) -> Result<T, Refusal> {
+fn given<T>(number: u64, place: u64, segment: u64, answer: impl FnOnce() -> T) -> Result<T, Refusal> {
     match number {
         0 => Ok(answer()),
-        _ => Err(Refusal { reason: reason(number), place: place as usize }),
+        _ => Err(Refusal { reason: reason(number), place: place as usize, segment: segment as usize }),
     }
 }
 
@@ -119,7 +124,7 @@ fn range(start: u64, end: u64) -> Range<usize> {
 }
 
 fn written(r: c::Written, out: &mut [u8]) -> Result<&mut [u8], Refusal> {
-    given(r.number, r.place, || &mut out[..r.length as usize])
+    given(r.number, r.place, r.segment, || &mut out[..r.length as usize])
 }
 
 /// Is this an interchange without fault?
@@ -129,18 +134,18 @@ fn written(r: c::Written, out: &mut [u8]) -> Result<&mut [u8], Refusal> {
 /// # let p = std::fs::read_to_string("../examples/p.edi").unwrap();
 /// assert!(gurandepi::judge(p.as_bytes()).is_ok());
 /// let refusal = gurandepi::judge(p.replace("UNT+5", "UNT+6").as_bytes()).unwrap_err();
-/// assert_eq!(refusal.to_string(), "refused 10 at 113");
+/// assert_eq!(refusal.to_string(), "refused 10 at 113 segment 6");
 /// ```
 pub fn judge(interchange: &[u8]) -> Result<(), Refusal> {
     let r = unsafe { c::gurandepi_judge(interchange.as_ptr(), interchange.len()) };
-    given(r.number, r.place, || ())
+    given(r.number, r.place, r.segment, || ())
 }
 
 /// The loads of a message. An AUTACK has none.
 pub fn totals(interchange: &[u8], message: &[u8]) -> Result<Totals, Refusal> {
     let (i, m) = (interchange, message);
     let r = unsafe { c::gurandepi_totals(i.as_ptr(), i.len(), m.as_ptr(), m.len()) };
-    given(r.number, r.place, || Totals { loads: r.loads, grams: r.grams })
+    given(r.number, r.place, r.segment, || Totals { loads: r.loads, grams: r.grams })
 }
 
 /// What a header of scope 1 seals: the header group from its USH, and the message's body. An empty body stands at its place.
@@ -177,7 +182,7 @@ pub fn scope1<'a>(interchange: &'a [u8], message: &[u8], header: &[u8]) -> Resul
 pub fn scope1_places(interchange: &[u8], message: &[u8], header: &[u8]) -> Result<Places, Refusal> {
     let (i, m, h) = (interchange, message, header);
     let r = unsafe { c::gurandepi_scope1(i.as_ptr(), i.len(), m.as_ptr(), m.len(), h.as_ptr(), h.len()) };
-    given(r.number, r.place, || Places {
+    given(r.number, r.place, r.segment, || Places {
         header: range(r.header_start, r.header_end),
         body: range(r.body_start, r.body_end),
     })
@@ -192,15 +197,16 @@ pub fn scope2<'a>(interchange: &'a [u8], message: &[u8], header: &[u8]) -> Resul
 pub fn scope2_places(interchange: &[u8], message: &[u8], header: &[u8]) -> Result<Range<usize>, Refusal> {
     let (i, m, h) = (interchange, message, header);
     let r = unsafe { c::gurandepi_scope2(i.as_ptr(), i.len(), m.as_ptr(), m.len(), h.as_ptr(), h.len()) };
-    given(r.number, r.place, || range(r.start, r.end))
+    given(r.number, r.place, r.segment, || range(r.start, r.end))
 }
 
 /// What a header of scope F01 seals: in the interchange that the AUTACK refers to, from the first UNH to the last UNT of the
 /// messages that are no AUTACK. `message` is the AUTACK's 0062. Both interchanges may be the same one; the part belongs to
 /// `referenced`.
 ///
-/// A refusal with 1 to 12 does not say which of the two is refused, and so in which of them its place lies. [`judge`] on
-/// `autack` does: where it refuses, this is that refusal; where it accepts, `referenced` is the one refused.
+/// A refusal with 1 to 12 does not say which of the two is refused, and so in which of them its place lies and its segment
+/// is counted. [`judge`] on `autack` does: where it refuses, this is that refusal; where it accepts, `referenced` is the one
+/// refused.
 ///
 #[cfg_attr(linked, doc = "```")]
 #[cfg_attr(not(linked), doc = "```no_run")]
@@ -231,7 +237,7 @@ pub fn f01_places(autack: &[u8], referenced: &[u8], message: &[u8], header: &[u8
     let (a, i, m, h) = (autack, referenced, message, header);
     let r =
         unsafe { c::gurandepi_f01(a.as_ptr(), a.len(), i.as_ptr(), i.len(), m.as_ptr(), m.len(), h.as_ptr(), h.len()) };
-    given(r.number, r.place, || range(r.start, r.end))
+    given(r.number, r.place, r.segment, || range(r.start, r.end))
 }
 
 /// The value that a header's seal carries, of any scope, read by the filter that the header names; an odd number of
@@ -341,5 +347,5 @@ pub fn register_write<'o>(interchange: &[u8], out: &'o mut [u8]) -> Result<&'o m
 pub fn register_check(interchange: &[u8], kept: &[u8]) -> Result<(), Refusal> {
     let (i, k) = (interchange, kept);
     let r = unsafe { c::gurandepi_register_check(i.as_ptr(), i.len(), k.as_ptr(), k.len()) };
-    given(r.number, r.place, || ())
+    given(r.number, r.place, r.segment, || ())
 }

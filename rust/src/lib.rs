@@ -18,9 +18,9 @@
 //! assert_eq!(judge(p), Ok(()));
 //! assert_eq!(totals(p, b"M1"), Ok(Totals { loads: 2, grams: 57_340_000 }));
 //!
-//! assert_eq!(judge(b""), Err(Refusal { reason: Reason::Length, place: 0 }));
-//! assert_eq!(judge(&p[..122]), Err(Refusal { reason: Reason::Order, place: 122 }));
-//! assert_eq!(totals(p, b"M2"), Err(Refusal { reason: Reason::NotFound, place: 0 }));
+//! assert_eq!(judge(b""), Err(Refusal { reason: Reason::Length, place: 0, segment: 0 }));
+//! assert_eq!(judge(&p[..122]), Err(Refusal { reason: Reason::Order, place: 122, segment: 7 }));
+//! assert_eq!(totals(p, b"M2"), Err(Refusal { reason: Reason::NotFound, place: 0, segment: 0 }));
 //! ```
 #![no_std]
 #![warn(missing_docs)]
@@ -82,6 +82,9 @@ pub struct Refusal {
     pub reason: Reason,
     /// Where.
     pub place: usize,
+    /// Which segment stands there: UNB is 1, UNA counts as none, the end of the input, or what stands after UNZ, counts as the
+    /// next one. 0 for the reasons 1, 2 and 13 to 16.
+    pub segment: usize,
 }
 
 impl Refusal {
@@ -93,7 +96,7 @@ impl Refusal {
 
 impl fmt::Display for Refusal {
     fn fmt(&self, f: &mut fmt::Formatter<'_>) -> fmt::Result {
-        write!(f, "refused {} at {}", self.number(), self.place)
+        write!(f, "refused {} at {} segment {}", self.number(), self.place, self.segment)
     }
 }
 

@@ -23,14 +23,14 @@ fn the_calls() {}
 fn p1_to_p9() {
     let cases = [
         ("P1", P.to_string(), "accepted"),
-        ("P2", String::new(), "refused 1 at 0"),
-        ("P3", P.replace("UNT+5", "UNT+6"), "refused 10 at 113"),
-        ("P4", P[..122].to_string(), "refused 7 at 122"),
-        ("P5", P.replace("27.34", "27.3.4"), "refused 12 at 80"),
-        ("P6", P.replace("30000", "30,000"), "refused 10 at 114"),
+        ("P2", String::new(), "refused 1 at 0 segment 0"),
+        ("P3", P.replace("UNT+5", "UNT+6"), "refused 10 at 113 segment 6"),
+        ("P4", P[..122].to_string(), "refused 7 at 122 segment 7"),
+        ("P5", P.replace("27.34", "27.3.4"), "refused 12 at 80 segment 4"),
+        ("P6", P.replace("30000", "30,000"), "refused 10 at 114 segment 6"),
         ("P7", P7.to_string(), "accepted"),
-        ("P8", P7.replace("UST+A1+4", "UST+A1+3"), "refused 10 at 165"),
-        ("P9", P7.replace("UST+A1", "UST+A2"), "refused 9 at 145"),
+        ("P8", P7.replace("UST+A1+4", "UST+A1+3"), "refused 10 at 165 segment 10"),
+        ("P9", P7.replace("UST+A1", "UST+A2"), "refused 9 at 145 segment 8"),
     ];
     for (name, octets, answer) in cases {
         assert_eq!(said(judge(octets.as_bytes())), answer, "{name}");
@@ -63,7 +63,7 @@ fn scope_2_is_one_part_up_to_the_ust_of_its_own() {
 fn f01_refuses_the_autack_before_the_other() {
     let (file, short) = (F01.as_bytes(), &F01.as_bytes()[..F01.len() - 1]);
     let at = F01.find("UNZ").unwrap();
-    let refusal = Refusal { reason: Reason::Segment, place: at };
+    let refusal = Refusal { reason: Reason::Segment, place: at, segment: F01.matches('\'').count() };
     assert_eq!(f01_places(file, file, b"11", b"1"), Ok(50..91));
     assert_eq!((f01(file, short, b"11", b"1"), judge(file)), (Err(refusal), Ok(())));
     assert_eq!((f01(short, b"", b"11", b"1"), judge(short)), (Err(refusal), Err(refusal)));
@@ -97,5 +97,5 @@ fn a_register_is_written_and_checked() {
     let kept = register_write(P.as_bytes(), &mut out).unwrap();
     assert_eq!(kept[..12], [0, 0, 0, 1, 0, 0, 0, 40, 0, 0, 0, 82]);
     assert_eq!(register_check(P.as_bytes(), kept), Ok(()));
-    assert_eq!(said(register_check(P7.as_bytes(), kept)), "refused 13 at 0");
+    assert_eq!(said(register_check(P7.as_bytes(), kept)), "refused 13 at 0 segment 0");
 }

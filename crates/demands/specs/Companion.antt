@@ -12,7 +12,7 @@ use Rattle.ranges.specs.Told.{partNumbers, runNumbers, headerPart, bodyPart, ru
 
 -- the companion's own numbers: those behind the refusal's
 abbrev pub own : List ℕ → List ℕ
-own numbers = drop 2 numbers
+own numbers = drop 3 numbers
 
 -- a part of s that is empty and starts at 0
 abbrev pub Empty : List ℕ → Run → Type 0

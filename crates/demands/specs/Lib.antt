@@ -5,6 +5,8 @@ pub mod AskedLaws
 pub mod GivenLaws
 pub mod PrintedLaws
 pub mod NumbersLaws
+pub mod Ordinals
+pub mod OrdinalsLaws
 pub mod CheckedLaws
 -- D2d: what is stated
 pub mod Sealed

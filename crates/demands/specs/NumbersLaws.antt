@@ -38,7 +38,7 @@ abbrev Number : ℕ → Type 0
 Number n = T (within 1 12 n)
 
 -- of either case, so of their choice
-either : {A : Type 0} (P : A → Type 0) (b : Bool) {x y : A} → P x → P y → P (cond b x y)
+pub either : {A : Type 0} (P : A → Type 0) (b : Bool) {x y : A} → P x → P y → P (cond b x y)
 either P true p q = p
 either P false p q = q
 

@@ -34,6 +34,7 @@ ghost use Rattle.register.specs.declared.register.Checked.the-variants.{Same};
 ghost use Rattle.listing.specs.Listing.{Lists};
 ghost use Rattle.gurandepi.specs.Answers.{Gives};
 ghost use Rattle.gurandepi.specs.declared.Written.{Written as Exported};
+ghost use Rattle.demands.specs.Ordinals.{SegmentAt};
 ghost use Rattle.demands.specs.Stated.{In, HasHeader, headersOf, trailersOf, Pairs, CountsAgree, number0036, Refers};
 ghost use Rattle.demands.specs.Sewn.{Sewn};
 ghost use Rattle.demands.specs.Allowed.{Allows, Seals};
@@ -91,6 +92,13 @@ pub fn refused_is_none()
 // The verdict's refusals are the numbers 1 to 12: never 0, which the accepted case has, nor 13 and up, which the calls add.
 pub fn refusals_are_numbered()
     ensures { λ _. ⌜ ((s : List ℕ) (f : Refusal) → verdictOf s ≡ refusedWith f → (1 ≤ f .number) × (f .number ≤ 12)) ⌝ }
+{}
+
+// "Each refusal of 1 to 12 shall carry, beside number and place, the ordinal of the segment at the place: UNB is 1, UNA counts as none, and an end of input counts as the
+// next ordinal. Refusals 1 and 2 carry 0.": for the others the octets from UNB to the place are the printing of one segment fewer than the ordinal; for 3 the octets up to
+// where the segment starts that holds the octet.
+pub fn refusal_names_its_segment()
+    ensures { λ _. ⌜ ((s : List ℕ) (f : Refusal) → verdictOf s ≡ refusedWith f → (f .number ≤ 2 → f .segment ≡ 0) × (3 ≤ f .number → SegmentAt s f)) ⌝ }
 {}
 
 // "Security headers and trailers pair one to one by reference": in every message of an accepted interchange.

@@ -13,7 +13,7 @@
 //     regcheck I REG    ok
 //     report I    ok HEX: the text that the program `report` prints, always
 //
-// Each but the last may answer `refused NUMBER PLACE`. The answer to every other line is `bad`.
+// Each but the last may answer `refused NUMBER PLACE SEGMENT`. The answer to every other line is `bad`.
 use commands::argument;
 use commands::arguments;
 use commands::capacity;

@@ -48,9 +48,9 @@ P9 =
 
 -- ---- one example of each kind of rule
 
--- a verdict's number and place
-abbrev says : List ℕ → ℕ → ℕ → Bool
-says s n p = same (numbers (verdictOf s)) (n ∷ p ∷ [])
+-- a verdict's number and place, and the ordinal of the segment there
+abbrev says : List ℕ → ℕ → ℕ → ℕ → Bool
+says s n p o = same (numbers (verdictOf s)) (n ∷ p ∷ o ∷ [])
 
 -- an interchange of version 4, UNOA, from its UNH on
 abbrev Q : String → List ℕ
@@ -58,27 +58,27 @@ Q x = octets "UNB+UNOA:4+A+B+20240105:0700+R'" ++ octets x
 
 pub rule-table : T (
     -- 3 at the octet: a small letter in UNOA
-    says (Q "UNH+M+X'FTX+a'UNT+3+M'UNZ+1+R'") 3 43
+    says (Q "UNH+M+X'FTX+a'UNT+3+M'UNZ+1+R'") 3 43 3
     -- 7: "0 to 9 header groups"; "Octets after UNZ give 7 at the first of them, unread."
-    && says (Q "UNH+M+X'USH+1+A+1'USH+1+B+1'USH+1+C+1'USH+1+D+1'USH+1+E+1'USH+1+F+1'USH+1+G+1'USH+1+H+1'USH+1+I+1'USH+1+J+1'UNT+1+M'UNZ+1+R'") 7 129
-    && says (Q "UNH+M+X'UNT+2+M'UNZ+1+R'X") 7 55
+    && says (Q "UNH+M+X'USH+1+A+1'USH+1+B+1'USH+1+C+1'USH+1+D+1'USH+1+E+1'USH+1+F+1'USH+1+G+1'USH+1+H+1'USH+1+I+1'USH+1+J+1'UNT+1+M'UNZ+1+R'") 7 129 12
+    && says (Q "UNH+M+X'UNT+2+M'UNZ+1+R'X") 7 55 5
     -- 8 comes before 9: a reference of 15, which no header has
-    && says (Q "UNH+M+X'USH+1+A+1'UST+BBBBBBBBBBBBBBB+2'UNT+4+M'UNZ+1+R'") 8 49
+    && says (Q "UNH+M+X'USH+1+A+1'UST+BBBBBBBBBBBBBBB+2'UNT+4+M'UNZ+1+R'") 8 49 4
     -- "A UST with no header left to name is 9, in a message without headers too."
-    && says (Q "UNH+M+X'FTX'UST+A+2'UNT+4+M'UNZ+1+R'") 9 43
+    && says (Q "UNH+M+X'FTX'UST+A+2'UNT+4+M'UNZ+1+R'") 9 43 4
     -- 0588 counts the trailer's USR too
-    && says (Q "UNH+M+X'USH+1+A+1'FTX'UST+A+3'USR+1:0F'UNT+6+M'UNZ+1+R'") 0 0
-    && says (Q "UNH+M+X'USH+1+A+1'FTX'UST+A+2'USR+1:0F'UNT+6+M'UNZ+1+R'") 10 70
+    && says (Q "UNH+M+X'USH+1+A+1'FTX'UST+A+3'USR+1:0F'UNT+6+M'UNZ+1+R'") 0 0 0
+    && says (Q "UNH+M+X'USH+1+A+1'FTX'UST+A+2'USR+1:0F'UNT+6+M'UNZ+1+R'") 10 70 7
     -- three decimals of a kilogram and six of a tonne are the same grams
-    && says (Q "UNH+M+X'QTY+12:1,234:KGM'CNT+1:0.001234:TNE'UNT+4+M'UNZ+1+R'") 0 0
-    && same (totalNumbers (totalsOf (Q "UNH+M+X'QTY+12:1,234:KGM'UNT+3+M'UNZ+1+R'") (octets "M"))) (0 ∷ 0 ∷ 1 ∷ 1234 ∷ [])
+    && says (Q "UNH+M+X'QTY+12:1,234:KGM'CNT+1:0.001234:TNE'UNT+4+M'UNZ+1+R'") 0 0 0
+    && same (totalNumbers (totalsOf (Q "UNH+M+X'QTY+12:1,234:KGM'UNT+3+M'UNZ+1+R'") (octets "M"))) (0 ∷ 0 ∷ 0 ∷ 1 ∷ 1234 ∷ [])
     -- a CNT that is not the message's load total
-    && says (Q "UNH+M+X'QTY+12:1:KGM'CNT+1:2:KGM'UNT+4+M'UNZ+1+R'") 10 64
+    && says (Q "UNH+M+X'QTY+12:1:KGM'CNT+1:2:KGM'UNT+4+M'UNZ+1+R'") 10 64 5
     -- AUTACK: good; another scope; a USY that names no header; totals of no such message
-    && says (Q "UNH+M+AUTACK'USH+1+A+F01'USB+1'USX+R'USY+A+1:0F'UST+A+2'UNT+7+M'UNZ+1+R'") 0 0
-    && says (Q "UNH+M+AUTACK'USH+1+A+1'USB+1'USX+R'USY+A+1:0F'UST+A+2'UNT+7+M'UNZ+1+R'") 11 44
-    && says (Q "UNH+M+AUTACK'USH+1+A+F01'USB+1'USX+R'USY+B+1:0F'UST+A+2'UNT+7+M'UNZ+1+R'") 9 68
-    && same (totalNumbers (totalsOf (Q "UNH+M+X'UNT+2+M'UNZ+1+R'") (octets "N"))) (13 ∷ 0 ∷ 0 ∷ 0 ∷ [])
+    && says (Q "UNH+M+AUTACK'USH+1+A+F01'USB+1'USX+R'USY+A+1:0F'UST+A+2'UNT+7+M'UNZ+1+R'") 0 0 0
+    && says (Q "UNH+M+AUTACK'USH+1+A+1'USB+1'USX+R'USY+A+1:0F'UST+A+2'UNT+7+M'UNZ+1+R'") 11 44 3
+    && says (Q "UNH+M+AUTACK'USH+1+A+F01'USB+1'USX+R'USY+B+1:0F'UST+A+2'UNT+7+M'UNZ+1+R'") 9 68 6
+    && same (totalNumbers (totalsOf (Q "UNH+M+X'UNT+2+M'UNZ+1+R'") (octets "N"))) (13 ∷ 0 ∷ 0 ∷ 0 ∷ 0 ∷ [])
     )
 unfolding inside
 rule-table = tt

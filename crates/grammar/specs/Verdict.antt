@@ -150,12 +150,12 @@ totalsBy (accepted (interchange n u ms z)) r = totalsIn ms r
 abbrev pub totalsOf : List ℕ → List ℕ → Totals
 totalsOf s r = totalsBy (verdictOf s) (compared r)
 
--- ---- the paper's number and place for each case, 0 where there is none
+-- ---- for each case the paper's number and place, and the ordinal of the segment at the place; 0 where there is none
 
 abbrev pub numbers : Verdict → List ℕ
-numbers (accepted t) = 0 ∷ 0 ∷ []
-numbers (refusedWith f) = f .number ∷ f .place ∷ []
+numbers (accepted t) = 0 ∷ 0 ∷ 0 ∷ []
+numbers (refusedWith f) = f .number ∷ f .place ∷ f .segment ∷ []
 
 abbrev pub totalNumbers : Totals → List ℕ
-totalNumbers (totalled n g) = 0 ∷ 0 ∷ n ∷ g ∷ []
-totalNumbers (refusedTotals f) = f .number ∷ f .place ∷ 0 ∷ 0 ∷ []
+totalNumbers (totalled n g) = 0 ∷ 0 ∷ 0 ∷ n ∷ g ∷ []
+totalNumbers (refusedTotals f) = f .number ∷ f .place ∷ f .segment ∷ 0 ∷ 0 ∷ []

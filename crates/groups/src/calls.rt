@@ -34,6 +34,7 @@ pub fn missing() -> Refusal
     Refusal {
         number: 13,
         place: 0,
+        segment: 0,
     }
 }
 

@@ -1,6 +1,6 @@
 // The exported interface, for C and Rust: include/gurandepi.h says it in C, rust/src/calls.rs in Rust, by the same names, which
 // c/interface compares. Each call takes slices, a pointer and a length in C, and gives a struct of numbers: the number of
-// the refusal, 0 for none, its place, then the call's own. Any octets of any length are allowed everywhere; no call keeps
+// the refusal, 0 for none, its place, the ordinal of the segment there, then the call's own. Any octets of any length are allowed everywhere; no call keeps
 // anything.
 ghost use mathlib.Core.Path.{_≡_};
 ghost use Rattle.grammar.specs.Verdict.{verdictOf, numbers, totalsOf, totalNumbers};
@@ -34,12 +34,14 @@ use values::value;
 pub struct Answer {
     pub number: u64,
     pub place: u64,
+    pub segment: u64,
 }
 
 #[repr(C)]
 pub struct Loads {
     pub number: u64,
     pub place: u64,
+    pub segment: u64,
     pub loads: u64,
     pub grams: u64,
 }
@@ -48,6 +50,7 @@ pub struct Loads {
 pub struct Parts {
     pub number: u64,
     pub place: u64,
+    pub segment: u64,
     pub header_start: u64,
     pub header_end: u64,
     pub body_start: u64,
@@ -58,6 +61,7 @@ pub struct Parts {
 pub struct Range {
     pub number: u64,
     pub place: u64,
+    pub segment: u64,
     pub start: u64,
     pub end: u64,
 }
@@ -67,6 +71,7 @@ pub struct Range {
 pub struct Written {
     pub number: u64,
     pub place: u64,
+    pub segment: u64,
     pub length: u64,
 }
 
@@ -77,10 +82,12 @@ fn verdict_answer(v: Verdict) -> Answer
         Verdict::Accepted => Answer {
             number: 0,
             place: 0,
+            segment: 0,
         },
         Verdict::Refused(f) => Answer {
             number: f.number as u64,
             place: f.place as u64,
+            segment: f.segment as u64,
         },
     }
 }
@@ -92,12 +99,14 @@ fn totals_answer(t: judge::totals::Totals) -> Loads
         judge::totals::Totals::Of(x) => Loads {
             number: 0,
             place: 0,
+            segment: 0,
             loads: x.loads as u64,
             grams: x.grams,
         },
         judge::totals::Totals::Refused(f) => Loads {
             number: f.number as u64,
             place: f.place as u64,
+            segment: f.segment as u64,
             loads: 0,
             grams: 0,
         },
@@ -111,6 +120,7 @@ fn parts_answer(p: Scope1) -> Parts
         Scope1::Of(x) => Parts {
             number: 0,
             place: 0,
+            segment: 0,
             header_start: x.header.start as u64,
             header_end: x.header.end as u64,
             body_start: x.body.start as u64,
@@ -119,6 +129,7 @@ fn parts_answer(p: Scope1) -> Parts
         Scope1::Refused(f) => Parts {
             number: f.number as u64,
             place: f.place as u64,
+            segment: f.segment as u64,
             header_start: 0,
             header_end: 0,
             body_start: 0,
@@ -134,12 +145,14 @@ fn run_answer(p: Run) -> Range
         Run::Of(x) => Range {
             number: 0,
             place: 0,
+            segment: 0,
             start: x.start as u64,
             end: x.end as u64,
         },
         Run::Refused(f) => Range {
             number: f.number as u64,
             place: f.place as u64,
+            segment: f.segment as u64,
             start: 0,
             end: 0,
         },
@@ -153,11 +166,13 @@ fn written_answer(w: writing::Written) -> Written
         writing::Written::Length(n) => Written {
             number: 0,
             place: 0,
+            segment: 0,
             length: n as u64,
         },
         writing::Written::Refused(f) => Written {
             number: f.number as u64,
             place: f.place as u64,
+            segment: f.segment as u64,
             length: 0,
         },
     }
@@ -170,10 +185,12 @@ fn checked_answer(c: Checked) -> Answer
         Checked::Same => Answer {
             number: 0,
             place: 0,
+            segment: 0,
         },
         Checked::Refused(f) => Answer {
             number: f.number as u64,
             place: f.place as u64,
+            segment: f.segment as u64,
         },
     }
 }

@@ -6,7 +6,7 @@ use Rattle.grammar.specs.Verdict.{Verdict as Judged, accepted, refusedWith, Ans
 use Rattle.judge.specs.declared.run.Verdict.{Verdict}
 use Rattle.judge.specs.declared.run.Verdict.the-variants.{Accepted, Refused}
 
--- "a verdict enum carries a refusal struct": its number and place; of an accepted interchange the reading is not handed out
+-- "a verdict enum carries a refusal struct": its number, place and segment; of an accepted interchange the reading is not handed out
 abbrev pub verdictAs : Judged → Verdict
 verdictAs (accepted t) = Accepted
 verdictAs (refusedWith f) = Refused f
@@ -15,7 +15,7 @@ verdictAs (refusedWith f) = Refused f
 abbrev pub walkedAs : List ℕ → Answer → Verdict
 walkedAs s a = verdictAs (concluded s none a)
 
--- the paper's number and place, 0 where there is none
+-- the paper's number and place, and the segment; 0 where there is none
 abbrev pub toldVerdict : Verdict → List ℕ
-toldVerdict Accepted = 0 ∷ 0 ∷ []
-toldVerdict (Refused f) = f .number ∷ f .place ∷ []
+toldVerdict Accepted = 0 ∷ 0 ∷ 0 ∷ []
+toldVerdict (Refused f) = f .number ∷ f .place ∷ f .segment ∷ []

@@ -14,12 +14,12 @@ totalledBy s (Here c) = Of (record { loads = c .loads; grams = c .grams })
 totalledBy s Missing = Refused (atZero 13)
 totalledBy s (NotRead f) = Refused (refusalAt s (f .number) (f .place))
 
--- the totals as the call answers them: loads and grams, or the refusal's number and place
+-- the totals as the call answers them: loads and grams, or the refusal
 abbrev pub totalsAs : Totalled → Totals
 totalsAs (totalled loads grams) = Of (record { loads = loads; grams = grams })
 totalsAs (refusedTotals f) = Refused f
 
--- the paper's number and place, then loads and grams; 0 where there is none
+-- the paper's number and place, the segment, then loads and grams; 0 where there is none
 abbrev pub toldTotals : Totals → List ℕ
-toldTotals (Of x) = 0 ∷ 0 ∷ x .loads ∷ x .grams ∷ []
-toldTotals (Refused f) = f .number ∷ f .place ∷ 0 ∷ 0 ∷ []
+toldTotals (Of x) = 0 ∷ 0 ∷ 0 ∷ x .loads ∷ x .grams ∷ []
+toldTotals (Refused f) = f .number ∷ f .place ∷ f .segment ∷ 0 ∷ 0 ∷ []

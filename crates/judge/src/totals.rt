@@ -31,6 +31,7 @@ fn totalled(s: &[u8], f: Found) -> Totals
         Found::Missing => Totals::Refused(Refusal {
             number: 13,
             place: 0,
+            segment: 0,
         }),
         Found::Refused(g) => Totals::Refused(refusal(s, g)),
     }

@@ -11,8 +11,10 @@ use Rattle.writing.specs.Laid.{together}
 abbrev pub feed : List ℕ
 feed = octets "\n"
 
+-- "The report prints `refused 10 at 113 segment 6`."
 abbrev pub refusalLine : Refusal → List ℕ
-refusalLine f = together (octets "refused " ∷ decimalOf (f .number) ∷ octets " at " ∷ decimalOf (f .place) ∷ feed ∷ [])
+refusalLine f =
+    together (octets "refused " ∷ decimalOf (f .number) ∷ octets " at " ∷ decimalOf (f .place) ∷ octets " segment " ∷ decimalOf (f .segment) ∷ feed ∷ [])
 
 abbrev pub acceptedLine : List ℕ → List ℕ
 acceptedLine reference = together (octets "accepted " ∷ reference ∷ feed ∷ [])

@@ -14,7 +14,7 @@ use syntax::Syntax;
 use writing::put;
 use writing::put_number;
 
-// "refused 10 at 113"
+// "refused 10 at 113 segment 6"
 pub fn refusal_line(out: &mut [u8], f: Refusal) -> usize
     ensures { λ r. ⌜ Laid (now (out .entry)) 0 (refusalLine f) r (now (out .exit)) ⌝ }
 {
@@ -22,7 +22,9 @@ pub fn refusal_line(out: &mut [u8], f: Refusal) -> usize
     let b = put_number(&mut *out, a, f.number as u64);
     let c = put(&mut *out, b, b" at ");
     let d = put_number(&mut *out, c, f.place as u64);
-    put(&mut *out, d, b"\n")
+    let e = put(&mut *out, d, b" segment ");
+    let g = put_number(&mut *out, e, f.segment as u64);
+    put(&mut *out, g, b"\n")
 }
 
 // "accepted R1": the reference of the interchange whose UNB stands at `from`.

@@ -11,6 +11,6 @@ pub p7-printed : listingOf P7 ≡ octets "accepted R1" ++ feed ++ octets "messag
 unfolding inside
 p7-printed = refl
 
-pub p3-printed : listingOf P3 ≡ octets "refused 10 at 113" ++ feed
+pub p3-printed : listingOf P3 ≡ octets "refused 10 at 113 segment 6" ++ feed
 unfolding inside
 p3-printed = refl

@@ -65,7 +65,7 @@ messagesOf σ p u (ms ▷ m) = messagesOf σ p u ms ++ messageOf σ (p + wide σ
 abbrev pub acceptedOf : Service → ℕ → Leaf → Snoc Message → List ℕ
 acceptedOf σ p u ms = acceptedLine (unb0020Text u) ++ messagesOf σ p u ms
 
--- "A refusal prints only `refused 10 at 113`."
+-- "A refusal prints only" its line
 abbrev pub listingBy : Verdict → List ℕ
 listingBy (refusedWith f) = refusalLine f
 listingBy (accepted (interchange n u ms z)) = acceptedOf (serviceIn (interchange n u ms z)) (openingIn n .at) u ms

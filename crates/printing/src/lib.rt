@@ -35,21 +35,29 @@ pub fn number(out: &mut [u8; 4096], n: usize, v: u64) -> usize {
     text(out, n, &digits[..k])
 }
 
-// The two forms of a refusal differ only in what stands between the number and the place.
-fn print_refusal_with(out: &mut [u8; 4096], n: usize, f: Refusal, between: &[u8]) -> usize {
+// The two forms of a refusal differ only in what stands before the place and before the segment.
+fn print_refusal_with(
+    out: &mut [u8; 4096],
+    n: usize,
+    f: Refusal,
+    at: &[u8],
+    segment: &[u8],
+) -> usize {
     let mut k = text(out, n, b"refused ");
     k = number(out, k, f.number as u64);
-    k = text(out, k, between);
+    k = text(out, k, at);
     k = number(out, k, f.place as u64);
+    k = text(out, k, segment);
+    k = number(out, k, f.segment as u64);
     put(out, k, b'\n')
 }
 
-// A line as `refused 10 at 113`, for people.
+// A line as `refused 10 at 113 segment 6`, for people.
 pub fn print_refusal_at(out: &mut [u8; 4096], n: usize, f: Refusal) -> usize {
-    print_refusal_with(out, n, f, b" at ")
+    print_refusal_with(out, n, f, b" at ", b" segment ")
 }
 
-// A line as `refused 10 113`, as the desk answers.
+// A line as `refused 10 113 6`, as the desk answers.
 pub fn print_refusal(out: &mut [u8; 4096], n: usize, f: Refusal) -> usize {
-    print_refusal_with(out, n, f, b" ")
+    print_refusal_with(out, n, f, b" ", b" ")
 }

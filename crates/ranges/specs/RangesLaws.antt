@@ -198,16 +198,16 @@ module _ {s m : List ℕ} {y : Syntax} {c : Layout} {rows : List ℕ} (h : Holds
 
 -- ---- the part that is handed back is told by the numbers
 
-module _ {n p a b c d : ℕ} where
-  pub header-part : (x : Answered Parts) → n ∷ p ∷ a ∷ b ∷ c ∷ d ∷ [] ≡ partNumbers x → run a b ≡ headerPart x
+module _ {n p g a b c d : ℕ} where
+  pub header-part : (x : Answered Parts) → n ∷ p ∷ g ∷ a ∷ b ∷ c ∷ d ∷ [] ≡ partNumbers x → run a b ≡ headerPart x
   header-part (given (parts a′ b′ c′ d′)) e = cc
   header-part (refusedAs f′) e = cc
 
-  pub body-part : (x : Answered Parts) → n ∷ p ∷ a ∷ b ∷ c ∷ d ∷ [] ≡ partNumbers x → run c d ≡ bodyPart x
+  pub body-part : (x : Answered Parts) → n ∷ p ∷ g ∷ a ∷ b ∷ c ∷ d ∷ [] ≡ partNumbers x → run c d ≡ bodyPart x
   body-part (given (parts a′ b′ c′ d′)) e = cc
   body-part (refusedAs f′) e = cc
 
-pub run-part : {n p a b : ℕ} (x : Answered Run) → n ∷ p ∷ a ∷ b ∷ [] ≡ runNumbers x → run a b ≡ runPart x
+pub run-part : {n p g a b : ℕ} (x : Answered Run) → n ∷ p ∷ g ∷ a ∷ b ∷ [] ≡ runNumbers x → run a b ≡ runPart x
 run-part (given (run a′ b′)) e = cc
 run-part (refusedAs f′) e = cc
 

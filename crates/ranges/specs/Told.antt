@@ -1,4 +1,4 @@
--- What is sealed as the calls answer it, and the paper's numbers for each case of the answers: number, place, then the call's own; "on refusal .. every
+-- What is sealed as the calls answer it, and the paper's numbers for each case of the answers: number, place, segment, then the call's own; "on refusal .. every
 -- other number given back is 0".
 use Prim.Native.Nat.{ℕ, _≤_}
 use mathlib.Core.List.{List, [], _∷_}
@@ -17,7 +17,7 @@ use Rattle.ranges.specs.declared.scopes.Scope1.the-variants.{Of as Parte
 use Rattle.ranges.specs.declared.scopes.Run.{Run as Ran}
 use Rattle.ranges.specs.declared.scopes.Run.the-variants.{Of as RunOf, Refused as RunRefused}
 
--- "A companion call gives start and end", of the header part and of the body part; or the refusal's number and place
+-- "A companion call gives start and end", of the header part and of the body part; or the refusal
 abbrev pub partsAs : Answered Parts → Scope1
 partsAs (given (parts a b c d)) = Parted (record { header = record { start = a; end = b }; body = record { start = c; end = d } })
 partsAs (refusedAs f) = PartsRefused f
@@ -30,20 +30,20 @@ runAs (refusedAs f) = RunRefused f
 -- ---- the numbers
 
 abbrev pub partNumbers : Answered Parts → List ℕ
-partNumbers (given (parts a b c d)) = 0 ∷ 0 ∷ a ∷ b ∷ c ∷ d ∷ []
-partNumbers (refusedAs f) = f .number ∷ f .place ∷ 0 ∷ 0 ∷ 0 ∷ 0 ∷ []
+partNumbers (given (parts a b c d)) = 0 ∷ 0 ∷ 0 ∷ a ∷ b ∷ c ∷ d ∷ []
+partNumbers (refusedAs f) = f .number ∷ f .place ∷ f .segment ∷ 0 ∷ 0 ∷ 0 ∷ 0 ∷ []
 
 abbrev pub toldParts : Scope1 → List ℕ
-toldParts (Parted x) = 0 ∷ 0 ∷ x .header .start ∷ x .header .end ∷ x .body .start ∷ x .body .end ∷ []
-toldParts (PartsRefused f) = f .number ∷ f .place ∷ 0 ∷ 0 ∷ 0 ∷ 0 ∷ []
+toldParts (Parted x) = 0 ∷ 0 ∷ 0 ∷ x .header .start ∷ x .header .end ∷ x .body .start ∷ x .body .end ∷ []
+toldParts (PartsRefused f) = f .number ∷ f .place ∷ f .segment ∷ 0 ∷ 0 ∷ 0 ∷ 0 ∷ []
 
 abbrev pub runNumbers : Answered Run → List ℕ
-runNumbers (given (run a b)) = 0 ∷ 0 ∷ a ∷ b ∷ []
-runNumbers (refusedAs f) = f .number ∷ f .place ∷ 0 ∷ 0 ∷ []
+runNumbers (given (run a b)) = 0 ∷ 0 ∷ 0 ∷ a ∷ b ∷ []
+runNumbers (refusedAs f) = f .number ∷ f .place ∷ f .segment ∷ 0 ∷ 0 ∷ []
 
 abbrev pub toldRun : Ran → List ℕ
-toldRun (RunOf x) = 0 ∷ 0 ∷ x .start ∷ x .end ∷ []
-toldRun (RunRefused f) = f .number ∷ f .place ∷ 0 ∷ 0 ∷ []
+toldRun (RunOf x) = 0 ∷ 0 ∷ 0 ∷ x .start ∷ x .end ∷ []
+toldRun (RunRefused f) = f .number ∷ f .place ∷ f .segment ∷ 0 ∷ 0 ∷ []
 
 -- "Range calls hand back the caller's own octets: for scope 1 the header part and the body part, each a part of the lent interchange". Where the parts lie; on
 -- refusal "the part is empty and starts at 0"

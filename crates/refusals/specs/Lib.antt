@@ -1,1 +1,3 @@
+pub mod Counting
+pub mod OrdinalLaws
 pub mod Refused

@@ -78,10 +78,10 @@ abbrev pub checkedAs : Text → List ℕ → Checked
 checkedAs (noText f) r = Differs f
 checkedAs (text t) r = cond (ltb 65535 (length t)) (Differs (atZero 13)) (cond (same t r) Same (Differs (atZero 13)))
 
--- the paper's number and place for each case, 0 where there is none
+-- for each case the paper's number and place, and the segment; 0 where there is none
 abbrev pub toldCheck : Checked → List ℕ
-toldCheck Same = 0 ∷ 0 ∷ []
-toldCheck (Differs f) = f .number ∷ f .place ∷ []
+toldCheck Same = 0 ∷ 0 ∷ 0 ∷ []
+toldCheck (Differs f) = f .number ∷ f .place ∷ f .segment ∷ []
 
 abbrev pub checkNumbers : Text → List ℕ → List ℕ
 checkNumbers x r = toldCheck (checkedAs x r)

@@ -253,6 +253,7 @@ fn differs() -> Checked
     Checked::Refused(Refusal {
         number: 13,
         place: 0,
+        segment: 0,
     })
 }
 

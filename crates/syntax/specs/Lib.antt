@@ -6,6 +6,7 @@ pub mod Cutting
 pub mod Content
 pub mod Segment
 pub mod Opening
+pub mod Ordinal
 pub mod Refusals
 pub mod Tree
 pub mod Reader

@@ -12,10 +12,11 @@ pub struct Breach {
     pub place: usize,
 }
 
-// What a call gives back: a breach, or one of the numbers that the calls add.
+// What a call gives back: a breach, or one of the numbers that the calls add. `segment` is the ordinal of the segment at the place, 0 where there is none.
 pub struct Refusal {
     pub number: u8,
     pub place: usize,
+    pub segment: usize,
 }
 
 // The service characters. A release or a repetition that is a space, 32, is not in force.

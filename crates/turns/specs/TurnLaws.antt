@@ -201,7 +201,7 @@ before-one (some h) g e = let k : h ≡ g = cc in ap some k
 print-one : (σ : Service) (g : Segment) → print σ (g ∷ []) ≡ printS σ g
 print-one σ g = ap (spells σ) (append-nil (flatS g))
 
-print-some : (σ : Service) (g : Segment) → 0 < length (printS σ g)
+pub print-some : (σ : Service) (g : Segment) → 0 < length (printS σ g)
 print-some σ (segment a b c es) = omega arith
 
 -- the chain of s is open, o is what is cut there, and r is behind it

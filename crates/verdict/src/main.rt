@@ -1,4 +1,4 @@
-// For an interchange on standard input: `accepted`, or the refusal with its place.
+// For an interchange on standard input: `accepted`, or the refusal with its place and segment.
 use input::drain;
 use judge::run::Verdict;
 use judge::run::judge;

@@ -35,10 +35,10 @@ leftIn (text t) out = cond (tooLong (length out) (length t)) out (t ++ drop (len
 -- ---- the paper's numbers: number and place, then the length; "on refusal .. every other number given back is 0"
 
 abbrev pub lengthNumbers : ℕ → List ℕ
-lengthNumbers n = 0 ∷ 0 ∷ n ∷ []
+lengthNumbers n = 0 ∷ 0 ∷ 0 ∷ n ∷ []
 
 abbrev pub refusalNumbers : Refusal → List ℕ
-refusalNumbers f = f .number ∷ f .place ∷ 0 ∷ []
+refusalNumbers f = f .number ∷ f .place ∷ f .segment ∷ 0 ∷ []
 
 -- of a call that is to write x into out; 15 where it is too long
 abbrev pub writtenNumbers : Text → List ℕ → List ℕ

@@ -17,7 +17,11 @@ pub enum Written {
 pub fn refused(number: u8) -> Written
     ensures { λ r. ⌜ r ≡ refusedAs number ⌝ }
 {
-    Written::Refused(Refusal { number, place: 0 })
+    Written::Refused(Refusal {
+        number,
+        place: 0,
+        segment: 0,
+    })
 }
 
 // Whether `n` octets are too long to be written: number 15.
