@@ -54,9 +54,14 @@ def released(ref):
     return b"".join(bytes([63, b]) for b in ref)
 
 
-def acknowledgement():
-    """AUTACK with nine headers whose references differ in their last octet; each USY names the last one."""
-    refs = [b"AAAAAAAAAAAAA%d" % k for k in range(1, 10)]
+def padded(ref):
+    """As the weighbridges pad it: to fourteen places."""
+    return ref.ljust(14)
+
+
+def acknowledgement(same, shown=lambda ref: ref):
+    """AUTACK with nine headers whose references differ in their last octet only, or in the last before spaces; each USY names the last one."""
+    refs = [shown(same + b"%d" % k) for k in range(1, 10)]
     usy = b"USY+" + refs[8] + b"+1'"
     tail = b"".join(b"UST+" + r + b"+2'" for r in refs)
     head = UNB + b"UNH+1+AUTACK'" + b"".join(b"USH+1+" + r + b"+F01'" for r in refs) + b"USB+1'USX+R'"
@@ -68,7 +73,9 @@ def main(folder):
     files = {f"deep-{n}": interchange(first(n)) for n in (4, 5, 6, 7, 8, 10, 12, 14)}
     files["deep-halves"] = interchange(first_of_each())
     files["deep-8-freed"] = interchange(first(8), released)
-    files["autack"] = acknowledgement()
+    files["deep-5-padded"] = interchange(first(5), padded)
+    files["autack"] = acknowledgement(b"A" * 13)
+    files["autack-padded"] = acknowledgement(b"A" * 6, padded)
     for name, octets in files.items():
         assert len(octets) <= MOST
         with open(f"{folder}/worst-{name}", "wb") as f:

@@ -177,6 +177,16 @@ static bool single(const judge *j, unsigned e, size_t least, size_t most) {
     return composite(j, e, least, most) && j->e[e].parts <= 1;
 }
 
+// A reference as it is compared: spaces at its end don't count.
+static text reference(const judge *j, unsigned e) {
+    text x = at(j, e, 0);
+    while (x.n > 0 && x.p[x.n - 1] == ' ') x.n--;
+    return x;
+}
+
+// Spaces count in its length, and it is not made only of them.
+static bool named(const judge *j, unsigned e, size_t most) { return single(j, e, 1, most) && reference(j, e).n > 0; }
+
 static bool count(const judge *j, unsigned e) {
     return !j->e[e].repeats && j->e[e].parts <= 1 && digits(j, e, 0, 1, 6);
 }
@@ -241,8 +251,8 @@ static bool even(const judge *j) { return j->named == NULL || j->claim == j->nam
 
 static int on_unh(judge *j) {
     if (j->group != IDLE) return 7;
-    if (!single(j, 0, 1, 14) || !composite(j, 1, 1, 6)) return 8;
-    j->unh = at(j, 0, 0);
+    if (!named(j, 0, 14) || !composite(j, 1, 1, 6)) return 8;
+    j->unh = reference(j, 0);
     if (!use(j, j->unh)) return 9;
     j->group = OPENED;
     j->autack = IS(at(j, 1, 0), "AUTACK");
@@ -256,8 +266,8 @@ static int on_unh(judge *j) {
 
 static int on_unt(judge *j) {
     if (!may_close(j)) return 7;
-    if (!count(j, 0) || !single(j, 1, 1, MOST)) return 8;
-    if (!same(at(j, 1, 0), j->unh)) return 9;
+    if (!count(j, 0) || !named(j, 1, MOST)) return 8;
+    if (!same(reference(j, 1), j->unh)) return 9;
     for (unsigned i = 0; i < j->headers; i++)
         if (!j->h[i].named) return 9;
     if (number(at(j, 0, 0)) != j->segments || j->uneven || !even(j)) return 10;
@@ -268,15 +278,15 @@ static int on_unt(judge *j) {
 
 static int on_unz(judge *j) {
     if (j->group != IDLE || j->messages == 0) return 7;
-    if (!count(j, 0) || !single(j, 1, 1, MOST)) return 8;
-    if (!same(at(j, 1, 0), j->unb)) return 9;
+    if (!count(j, 0) || !named(j, 1, MOST)) return 8;
+    if (!same(reference(j, 1), j->unb)) return 9;
     return number(at(j, 0, 0)) == j->messages ? 0 : 10;
 }
 
 static int on_ush(judge *j) {
     if (!in_heads(j) || j->headers == HEADERS) return 7;
-    if (!single(j, 0, 1, 3) || !single(j, 1, 1, 14) || !single(j, 2, 1, 3) || !single(j, 3, 0, 3) || !single(j, 4, 0, 3)) return 8;
-    text ref = at(j, 1, 0), scope = at(j, 2, 0);
+    if (!single(j, 0, 1, 3) || !named(j, 1, 14) || !single(j, 2, 1, 3) || !single(j, 3, 0, 3) || !single(j, 4, 0, 3)) return 8;
+    text ref = reference(j, 1), scope = at(j, 2, 0);
     if (find(j, ref)) return 9;
     if (j->autack ? !IS(scope, "F01") : !IS(scope, "1") && !IS(scope, "2")) return 11;
     j->h[j->headers++] = (header){ref, 1, false};
@@ -313,8 +323,8 @@ static int on_usr(judge *j) {
 
 static int on_ust(judge *j) {
     if (!may_close(j)) return 7;
-    if (!single(j, 0, 1, 14) || !count(j, 1)) return 8;
-    header *h = find(j, at(j, 0, 0));
+    if (!named(j, 0, 14) || !count(j, 1)) return 8;
+    header *h = find(j, reference(j, 0));
     if (h == NULL || h->named) return 9;
     if (!even(j)) j->uneven = true;
     h->named = true;
@@ -336,7 +346,7 @@ static int on_usb(judge *j) {
 
 static int on_usx(judge *j) {
     if (j->group != ACK || (j->any && !j->filled)) return 7;
-    if (!single(j, 0, 1, 14)) return 8;
+    if (!named(j, 0, 14)) return 8;
     j->any = true;
     j->filled = false;
     return 0;
@@ -344,9 +354,9 @@ static int on_usx(judge *j) {
 
 static int on_usy(judge *j) {
     if (j->group != ACK || !j->any) return 7;
-    if (!single(j, 0, 1, 14) || !value(j, 1)) return 8;
+    if (!named(j, 0, 14) || !value(j, 1)) return 8;
     j->filled = true;
-    return find(j, at(j, 0, 0)) ? 0 : 9;
+    return find(j, reference(j, 0)) ? 0 : 9;
 }
 
 static int on_item(judge *j) {
@@ -420,8 +430,8 @@ static int read_unb(judge *j, size_t *i, bool una) {
     if (j->bad < j->n) return 3;
     size_t date = j->version == 3 ? 6 : 8;
     if (j->e[0].repeats || !composite(j, 1, 1, 35) || !composite(j, 2, 1, 35) || j->e[3].repeats) return 8;
-    if (!digits(j, 3, 0, date, date) || !digits(j, 3, 1, 4, 4) || !single(j, 4, 1, 14)) return 8;
-    j->unb = at(j, 4, 0);
+    if (!digits(j, 3, 0, date, date) || !digits(j, 3, 1, 4, 4) || !named(j, 4, 14)) return 8;
+    j->unb = reference(j, 4);
     return 0;
 }
 

@@ -8,7 +8,7 @@
  *     the length is 0 ("" serves). What is lent as `const` is only read, and may be lent twice in one call.
  *   - An interchange is the whole file: UNA where there is one, UNB to UNZ, nothing else.
  *   - `message` is the content of a message's 0062 (in UNH), `header` the content of a security header's 0534 (in USH):
- *     the octets without release characters, and without a final 0.
+ *     the octets without release characters, and without a final 0. Spaces at the end don't count.
  *   - `out` is the caller's own buffer for a result. It overlaps nothing else that is lent in the same call.
  *   - A call keeps nothing, allocates nothing and writes nothing but `out`: any number of threads may call at a time. It
  *     takes less than 1 MB of stack.
@@ -45,7 +45,7 @@ extern "C" {
  * declaration is changed or gone, or for equal octets another answer is given. The library has no version of its own: take
  * both from one tree.
  */
-#define GURANDEPI_MAJOR 2
+#define GURANDEPI_MAJOR 3
 #define GURANDEPI_MINOR 0
 
 /*

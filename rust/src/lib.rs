@@ -4,7 +4,7 @@
 //! program that makes a call does not link.
 //!
 //! An interchange is the whole file as octets. A message is named by the content of its 0062, a security header by the
-//! content of its 0534. Every call judges the interchange first; the first fault decides and is given back as a [`Refusal`].
+//! content of its 0534; spaces at the end don't count. Every call judges the interchange first; the first fault decides and is given back as a [`Refusal`].
 //! For equal octets the answer is always the same, and it is proved what it is.
 //!
 //! The example of the rules paper, with its first variants:

@@ -6,6 +6,7 @@ use mathlib.Core.Option.{some}
 use mathlib.Core.Path.{_≡_}
 use lib.Dec.{T, eqb}
 use lib.ListN.{length}
+use Rattle.syntax.specs.Content.{compared}
 use Rattle.syntax.specs.Octets.{allPass}
 use Rattle.syntax.specs.Repertoire.{tagOctet}
 use Rattle.syntax.specs.declared.Syntax.{Syntax}
@@ -26,11 +27,11 @@ pub record Allows (s m r : List ℕ) (f : ℕ) : Type 0 where
   pub read : verdictOf s ≡ accepted i
   pub of : Message
   pub there : In of (messagesIn i)
-  pub name : refM of ≡ m
+  pub name : refM of ≡ compared m
   -- not 16: "REF is 1 to 14 of A to Z and 0 to 9, new in the message"
   pub ref-size : (1 ≤ length r) × (length r ≤ 14)
   pub ref-octets : T (allPass tagOctet r)
-  pub ref-new : (h : Header) → In h (headersOf of) → refH h ≡ r → ⊥
+  pub ref-new : (h : Header) → In h (headersOf of) → refH h ≡ compared r → ⊥
   -- "F is 2 or 7."
   pub filter : T (eqb f 2 || eqb f 7)
   -- not "nine headers already; AUTACK"

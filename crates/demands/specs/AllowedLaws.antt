@@ -8,6 +8,7 @@ use mathlib.Core.Option.{Option, none, some}
 use mathlib.Core.Bool.{Bool, true, false, cond, not, _&&_, _||_}
 use lib.Dec.{T, T-not, eqb, leb, leb→le, le→leb}
 use lib.ListN.{length}
+use Rattle.syntax.specs.Content.{compared}
 use Rattle.syntax.specs.Refusals.{atZero}
 use Rattle.syntax.specs.Octets.{allPass, within}
 use Rattle.syntax.specs.Repertoire.{tagOctet}
@@ -86,7 +87,7 @@ module _ (s m r : List ℕ) (f : ℕ) where
           name = x .1 .0;
           ref-size = within-so 1 14 (length r) (and-left (within 1 14 (length r)) (allPass tagOctet r) ref);
           ref-octets = and-right (within 1 14 (length r)) (allPass tagOctet r) ref;
-          ref-new = new-so hs r (t .1 .1 .1);
+          ref-new = new-so hs (compared r) (t .1 .1 .1);
           filter = t .1 .0;
           few = leb→le (size hs) 8 (and-right (not (autack u)) (leb (size hs) 8) more);
           other = off-so (autack u) (and-left (not (autack u)) (leb (size hs) 8) more);
@@ -105,7 +106,7 @@ module _ (s m r : List ℕ) (f : ℕ) where
   allows-of : (w : Allows s m r f) → Passes (w .i)
   allows-of w = by (w .of) (w .there) (w .name) (w .ref-new) (w .few) (w .other)
     where
-      by : (x : Message) → In x (messagesIn (w .i)) → refM x ≡ m → ((h : Header) → In h (headersOf x) → refH h ≡ r → ⊥) → size (headersOf x) ≤ 8 → autackM x ≡ false → Passes (w .i)
+      by : (x : Message) → In x (messagesIn (w .i)) → refM x ≡ compared m → ((h : Header) → In h (headersOf x) → refH h ≡ compared r → ⊥) → size (headersOf x) ≤ 8 → autackM x ≡ false → Passes (w .i)
       by (message (msg u hs b ts) n) t e new few other =
           let k = message-at (w .i) m (verdict-exact s (w .i) .0 (w .read) .0) t e in
           record {
@@ -119,7 +120,7 @@ module _ (s m r : List ℕ) (f : ℕ) where
                 (and-both (within 1 14 (length r)) (allPass tagOctet r) (within-of 1 14 (length r) (w .ref-size)) (w .ref-octets))
                 (w .filter)
                 (and-both (not (autack u)) (leb (size hs) 8) (subst (λ (c : Bool). T (not c)) (sym other) tt) (le→leb (size hs) 8 few))
-                (new-of hs r new));
+                (new-of hs (compared r) new));
           }
 
   -- ---- the octets to be signed

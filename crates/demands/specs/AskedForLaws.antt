@@ -7,6 +7,7 @@ use mathlib.Core.Logic.{_↔_}
 use mathlib.Core.Option.{some}
 use mathlib.Core.Bool.{Bool, true, false, cond}
 use lib.Dec.{T}
+use Rattle.syntax.specs.Content.{compared}
 use Rattle.syntax.specs.Octets.{octets, same}
 use Rattle.syntax.specs.ContentLaws.{same-self}
 use Rattle.syntax.specs.declared.Service.{Service}
@@ -55,10 +56,10 @@ module _ (σ : Service) (p : ℕ) (u : Leaf) (r : List ℕ) where
       by false d f e = let w = f e in (record { before = w .0 .before; behind = w .0 .behind ▷ x; whole = ap (λ (s : Snoc Message). s ▷ x) (w .0 .whole) }, w .1)
 
 pub message-in : (i : Interchange) (m : List ℕ) {x : Message} {q : ℕ} → messageIn i m ≡ some (placed x q)
-    → (w : In x (messagesIn i)) × ((refM x ≡ m) × (q ≡ placeBehind i (w .before)))
+    → (w : In x (messagesIn i)) × ((refM x ≡ compared m) × (q ≡ placeBehind i (w .before)))
 message-in (interchange n u ms z) m e =
     let σ : Service = serviceIn (interchange n u ms z) in
-    let w = placed-in σ (openingIn n .at) u m ms e in
+    let w = placed-in σ (openingIn n .at) u (compared m) ms e in
     (w .0, (w .1 .0, omega (arith, w .1 .1, una-length n, wide-list σ (shown (idle u (w .0 .before))))))
 
 -- the message that is named, and where it stands
@@ -75,11 +76,11 @@ message-of s m i o t q e k = record {
   named = k;
 }
 
-pub message-at : (i : Interchange) (m : List ℕ) → Valid i → {x : Message} → In x (messagesIn i) → refM x ≡ m → (q : ℕ) × (messageIn i m ≡ some (placed x q))
+pub message-at : (i : Interchange) (m : List ℕ) → Valid i → {x : Message} → In x (messagesIn i) → refM x ≡ compared m → (q : ℕ) × (messageIn i m ≡ some (placed x q))
 message-at (interchange n u ms z) m v {x} w e =
     let σ : Service = serviceIn (interchange n u ms z) in
     let p : ℕ = openingIn n .at in
-    (p + wide σ (shown (idle u (w .before))), found-once refM m (λ s. placedIn σ p u s m) (λ s y. some (placed y (p + wide σ (shown (idle u s))))) (λ s y. refl) w e (v .references .0))
+    (p + wide σ (shown (idle u (w .before))), found-once refM (compared m) (λ s. placedIn σ p u s (compared m)) (λ s y. some (placed y (p + wide σ (shown (idle u s))))) (λ s y. refl) w e (v .references .0))
 
 -- ---- what is asked for is there
 
@@ -90,7 +91,7 @@ module _ (s m r code : List ℕ) where
   pub has-asked : Asks s m r code → HasHeader s m r code
   has-asked w =
       let x = message-in (w .i) m (w .named) in
-      let c = chosen-in refH r (w .hs) (w .chose) in
+      let c = chosen-in refH (compared r) (w .hs) (w .chose) in
       record {
         i = w .i;
         read = w .read;
@@ -109,7 +110,7 @@ module _ (s m r code : List ℕ) where
       v : Valid (w .i)
       v = verdict-exact s (w .i) .0 (w .read) .0
 
-      by : (x : Message) → In x (messagesIn (w .i)) → refM x ≡ m → In (w .header) (headersOf x) → Asks s m r code
+      by : (x : Message) → In x (messagesIn (w .i)) → refM x ≡ compared m → In (w .header) (headersOf x) → Asks s m r code
       by (message (msg u hs b ts) n) t e c =
           let k = message-at (w .i) m v t e in
           record {
@@ -124,7 +125,7 @@ module _ (s m r code : List ℕ) where
             named = k .1;
             ys = c .before;
             y = w .header;
-            chose = chosen-once refH r c (w .ref) (refs-of (w .i) v t .0 .0);
+            chose = chosen-once refH (compared r) c (w .ref) (refs-of (w .i) v t .0 .0);
             scoped = ap (λ (x : List ℕ). same x code) (w .scope) ∙ same-self code;
           }
 
@@ -152,8 +153,8 @@ given2 s m r = (λ (h : (p : Run) × (scope2Of s m r ≡ given p)). there (h .0)
         let w = asks-for s m r (octets "2") h in
         let v : Valid (w .i) = verdict-exact s (w .i) .0 (w .read) .0 in
         let x = message-in (w .i) m (w .named) in
-        let c = chosen-in refH r (w .hs) (w .chose) in
-        let a = chosen-among refH r (w .hs) (w .chose) in
+        let c = chosen-in refH (compared r) (w .hs) (w .chose) in
+        let a = chosen-among refH (compared r) (w .hs) (w .chose) in
         let k : T (among (each refT (w .ts)) (refH (w .y))) = every-in (one (each refT (w .ts))) (refs-of (w .i) v (x .0) .1 .1) (each-in refH (c .0)) in
         let l = among-chosen refT (refH (w .y)) (w .ts) k in
         let t = there2 s m r w (a .rest) (l .0) (l .1 .0) (a .whole) (subst (λ (n : List ℕ). chosenBy refT (w .ts) n ≡ some (chosen (l .0) (l .1 .0))) (c .1) (l .1 .1)) in

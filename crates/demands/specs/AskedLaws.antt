@@ -8,6 +8,7 @@ use mathlib.Core.Bool.{Bool, true, false, cond}
 use lib.Dec.{T}
 use lib.ListN.{length}
 use lib.Seq.{slice}
+use Rattle.syntax.specs.Content.{compared}
 use Rattle.syntax.specs.declared.Refusal.{Refusal}
 use Rattle.syntax.specs.Octets.{octets, same}
 use Rattle.syntax.specs.Opening.{begunOf}
@@ -78,7 +79,7 @@ read-stands s i e = by (begunOf s) refl e
 pub message-stands : (s m : List ℕ) (i : Interchange) {o : Open} {t : Leaf} {q : ℕ} → verdictOf s ≡ accepted i → messageIn i m ≡ some (placed (message o t) q)
     → Stand (serviceIn i) s q (showMessage (message o t))
 message-stands s m (interchange n u ms z) e d =
-    placed-stands (serviceIn (interchange n u ms z)) (openingIn n .at) u m s ms d
+    placed-stands (serviceIn (interchange n u ms z)) (openingIn n .at) u (compared m) s ms d
     (stand-front (serviceIn (interchange n u ms z)) s (openingIn n .at) (shown (idle u ms)) (nil ▷ seg Unz z) (read-stands s (interchange n u ms z) e))
 
 -- what stands there, in other brackets
@@ -125,19 +126,19 @@ pub record Asks (s k r code : List ℕ) : Type 0 where
   pub named : messageIn i k ≡ some (placed (message (msg u hs b ts) n) q)
   pub ys : Snoc Header
   pub y : Header
-  pub chose : chosenBy refH hs r ≡ some (chosen ys y)
+  pub chose : chosenBy refH hs (compared r) ≡ some (chosen ys y)
   pub scoped : same (scopeH y) code ≡ true
 
 pub header-in : (code r : List ℕ) (u : Leaf) (hs : Snoc Header) (b : Body) (ts : Snoc Trailer) {ys : Snoc Header} {y : Header}
-    → chosenBy refH hs r ≡ some (chosen ys y) → same (scopeH y) code ≡ true → headerIn code (msg u hs b ts) r ≡ some (chosen ys y)
+    → chosenBy refH hs (compared r) ≡ some (chosen ys y) → same (scopeH y) code ≡ true → headerIn code (msg u hs b ts) r ≡ some (chosen ys y)
 header-in code r u hs b ts {ys} {y} c d = ap (λ (o : Option (Chosen Header)). then o (ofScope code)) c ∙ ap (λ (t : Bool). cond t (some (chosen ys y)) none) d
 
 module _ (s k r : List ℕ) where
   asks-at : {X : Type 0} (code : List ℕ) (i : Interchange) (p : Placed) (give : (o : Open) (q : ℕ) → Chosen Header → Option X) (at : Placed → Option X) {x : X}
       → ((o : Open) (n : Leaf) (q : ℕ) → at (placed (message o n) q) ≡ then (headerIn code o r) (give o q)) → verdictOf s ≡ accepted i → messageIn i k ≡ some p → at p ≡ some x → Asks s k r code
-  asks-at {X} code i (placed (message (msg u hs b ts) n) q) give at {x} f v m e = by (chosenBy refH hs r) refl (sym (f (msg u hs b ts) n q) ∙ e)
+  asks-at {X} code i (placed (message (msg u hs b ts) n) q) give at {x} f v m e = by (chosenBy refH hs (compared r)) refl (sym (f (msg u hs b ts) n q) ∙ e)
     where
-      by : (c : Option (Chosen Header)) → chosenBy refH hs r ≡ c → then (then c (ofScope code)) (give (msg u hs b ts) q) ≡ some x → Asks s k r code
+      by : (c : Option (Chosen Header)) → chosenBy refH hs (compared r) ≡ c → then (then c (ofScope code)) (give (msg u hs b ts) q) ≡ some x → Asks s k r code
       by none c e = none-some e
       by (some (chosen ys y)) c e = each (same (scopeH y) code) refl e
         where

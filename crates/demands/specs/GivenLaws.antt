@@ -4,6 +4,7 @@ use native.Mathlib.Omega.{arith}
 use mathlib.Core.Path.{_≡_, refl, ap, _∙_, sym}
 use mathlib.Core.List.{List, [], append-assoc}
 use mathlib.Core.Option.{Option, none, some}
+use Rattle.syntax.specs.Content.{compared}
 use Rattle.syntax.specs.Octets.{octets}
 use Rattle.syntax.specs.Tree.{Segment}
 use Rattle.syntax.specs.declared.Service.{Service}
@@ -68,7 +69,7 @@ module _ (s k r : List ℕ) (w : Asks s k r (octets "1")) where
         range = range1;
         header-part =
             part σ s (headerAt σ (w .q) o (chosen (w .ys) (w .y))) (showHeader (w .y))
-            (chosen-stands showHeader refH σ s [] 0 2 r (headsAt σ (w .q) o) (w .hs) (w .chose) (headers-stand σ s (w .q) (w .u) (w .hs) (w .b) (w .ts) (w .n) st));
+            (chosen-stands showHeader refH σ s [] 0 2 (compared r) (headsAt σ (w .q) o) (w .hs) (w .chose) (headers-stand σ s (w .q) (w .u) (w .hs) (w .b) (w .ts) (w .n) st));
         body-part = part σ s (bodyAt σ (w .q) o) (showBody (w .b)) (body-stands σ s (w .q) (w .u) (w .hs) (w .b) (w .ts) (w .n) st);
       }
 
@@ -103,7 +104,7 @@ pub record There2 (s k r : List ℕ) (σ : Service) (g : Snoc Segment) : Type 0 
   pub stands : Part σ s start end g
 
 module _ (s k r : List ℕ) (w : Asks s k r (octets "2")) where
-  range2 : (es : Snoc Trailer) (e : Trailer) → chosenBy refT (w .ts) r ≡ some (chosen es e)
+  range2 : (es : Snoc Trailer) (e : Trailer) → chosenBy refT (w .ts) (compared r) ≡ some (chosen es e)
       → let σ : Service = serviceIn (w .i) in
       let o : Open = msg (w .u) (w .hs) (w .b) (w .ts) in
       scope2Of s k r ≡ given (run (headerAt σ (w .q) o (chosen (w .ys) (w .y))) (trailerAt σ (w .q) o (chosen es e)))
@@ -116,18 +117,18 @@ module _ (s k r : List ℕ) (w : Asks s k r (octets "2")) where
       ∙ ap (λ (x : Option (Chosen Trailer)). orMissing (then x (λ x. some (run (headerAt σ (w .q) o (chosen (w .ys) (w .y))) (trailerAt σ (w .q) o x))))) l
 
   -- where the run starts, and where it ends
-  pub starts2 : (es : Snoc Trailer) (e : Trailer) → chosenBy refT (w .ts) r ≡ some (chosen es e) → {a b : ℕ} → scope2Of s k r ≡ given (run a b)
+  pub starts2 : (es : Snoc Trailer) (e : Trailer) → chosenBy refT (w .ts) (compared r) ≡ some (chosen es e) → {a b : ℕ} → scope2Of s k r ≡ given (run a b)
       → (a ≡ headerAt (serviceIn (w .i)) (w .q) (msg (w .u) (w .hs) (w .b) (w .ts)) (chosen (w .ys) (w .y)))
       × (b ≡ trailerAt (serviceIn (w .i)) (w .q) (msg (w .u) (w .hs) (w .b) (w .ts)) (chosen es e))
   starts2 es e l q = let g = sym q ∙ range2 es e l in (cc, cc)
 
-  pub there2 : (rest : Snoc Header) (es : Snoc Trailer) (e : Trailer) → w .hs ≡ w .ys ▷ w .y +++ rest → chosenBy refT (w .ts) r ≡ some (chosen es e)
+  pub there2 : (rest : Snoc Header) (es : Snoc Trailer) (e : Trailer) → w .hs ≡ w .ys ▷ w .y +++ rest → chosenBy refT (w .ts) (compared r) ≡ some (chosen es e)
       → There2 s k r (serviceIn (w .i)) (runOf (w .y) rest (w .b) es)
   there2 rest es e wh l =
       let σ : Service = serviceIn (w .i) in
       let o : Open = msg (w .u) (w .hs) (w .b) (w .ts) in
       let st = message-stands s k (w .i) (w .read) (w .named) in
-      let t = chosen-among refT r (w .ts) l in
+      let t = chosen-among refT (compared r) (w .ts) l in
       let later : Snoc Trailer = t .rest in
       let y : Header = w .y in
       let b : Body = w .b in
@@ -165,24 +166,24 @@ module _ (s k r : List ℕ) (w : Asks s k r (octets "2")) where
       }
 
   -- the trailer of the run that is given
-  pub tail-so : {a b : ℕ} → scope2Of s k r ≡ given (run a b) → (es : Snoc Trailer) × ((e : Trailer) × (chosenBy refT (w .ts) r ≡ some (chosen es e)))
+  pub tail-so : {a b : ℕ} → scope2Of s k r ≡ given (run a b) → (es : Snoc Trailer) × ((e : Trailer) × (chosenBy refT (w .ts) (compared r) ≡ some (chosen es e)))
   tail-so {a} {b} g =
-      by (chosenBy refT (w .ts) r) refl
+      by (chosenBy refT (w .ts) (compared r)) refl
       (sym (asked-of s k (λ i p. scope2At (serviceIn i) p r) (w .i) (placed (message (msg (w .u) (w .hs) (w .b) (w .ts)) (w .n)) (w .q)) (w .read) (w .named)
-      ∙ ap (λ (x : Option (Chosen Header)). orMissing (then x (give (chosenBy refT (w .ts) r)))) (header-in (octets "2") r (w .u) (w .hs) (w .b) (w .ts) (w .chose) (w .scoped)))
+      ∙ ap (λ (x : Option (Chosen Header)). orMissing (then x (give (chosenBy refT (w .ts) (compared r))))) (header-in (octets "2") r (w .u) (w .hs) (w .b) (w .ts) (w .chose) (w .scoped)))
       ∙ g)
     where
       give : Option (Chosen Trailer) → Chosen Header → Option Run
       give c h =
           then c (λ x. some (run (headerAt (serviceIn (w .i)) (w .q) (msg (w .u) (w .hs) (w .b) (w .ts)) h) (trailerAt (serviceIn (w .i)) (w .q) (msg (w .u) (w .hs) (w .b) (w .ts)) x)))
 
-      by : (c : Option (Chosen Trailer)) → chosenBy refT (w .ts) r ≡ c → orMissing (give c (chosen (w .ys) (w .y))) ≡ given (run a b)
-          → (es : Snoc Trailer) × ((e : Trailer) × (chosenBy refT (w .ts) r ≡ some (chosen es e)))
+      by : (c : Option (Chosen Trailer)) → chosenBy refT (w .ts) (compared r) ≡ c → orMissing (give c (chosen (w .ys) (w .y))) ≡ given (run a b)
+          → (es : Snoc Trailer) × ((e : Trailer) × (chosenBy refT (w .ts) (compared r) ≡ some (chosen es e)))
       by none c e = missing-given e
       by (some (chosen es x)) c e = (es, (x, c))
 
   -- so the run stands in what was given
-  pub stands2 : (rest : Snoc Header) (es : Snoc Trailer) (e : Trailer) → w .hs ≡ w .ys ▷ w .y +++ rest → chosenBy refT (w .ts) r ≡ some (chosen es e)
+  pub stands2 : (rest : Snoc Header) (es : Snoc Trailer) (e : Trailer) → w .hs ≡ w .ys ▷ w .y +++ rest → chosenBy refT (w .ts) (compared r) ≡ some (chosen es e)
       → {a b : ℕ} → scope2Of s k r ≡ given (run a b) → Part (serviceIn (w .i)) s a b (runOf (w .y) rest (w .b) es)
   stands2 rest es e wh l {a} {b} q =
       let t = there2 rest es e wh l in

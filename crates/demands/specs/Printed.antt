@@ -5,6 +5,7 @@ use mathlib.Core.List.{List}
 use mathlib.Core.Option.{some}
 use lib.ListN.{length}
 use lib.Seq.{slice}
+use Rattle.syntax.specs.Content.{compared}
 use Rattle.syntax.specs.Octets.{octets as written}
 use Rattle.syntax.specs.Tree.{print}
 use Rattle.grammar.specs.Lists.{Snoc, nil, _▷_, _+++_, joined, list}
@@ -27,7 +28,7 @@ pub record MessageOf (s m : List ℕ) : Type 0 where
   pub o : Open
   pub t : Leaf
   pub there : In (message o t) (messagesIn i)
-  pub name : refM (message o t) ≡ m
+  pub name : refM (message o t) ≡ compared m
   -- its UNH stands at q: behind UNA, UNB and the messages before it
   pub q : ℕ
   pub place : q ≡ placeBehind i (there .before)
@@ -49,7 +50,7 @@ pub record Scope1 (s m r : List ℕ) (a b c d : ℕ) : Type 0 where
   pub header : Header
   pub behind : Snoc Header
   pub whole : headersIn (of .o) ≡ before ▷ header +++ behind
-  pub ref : refH header ≡ r
+  pub ref : refH header ≡ compared r
   pub scope : scopeH header ≡ written "1"
   -- the header group starts behind UNH and the headers before it, the body behind UNH and all headers
   pub header-start : a ≡ placeWithin of before
@@ -67,13 +68,13 @@ pub record Scope2 (s m r : List ℕ) (a b : ℕ) : Type 0 where
   pub header : Header
   pub behind : Snoc Header
   pub headers : headersIn (of .o) ≡ before ▷ header +++ behind
-  pub ref : refH header ≡ r
+  pub ref : refH header ≡ compared r
   pub scope : scopeH header ≡ written "2"
   pub earlier : Snoc Trailer
   pub trailer : Trailer
   pub later : Snoc Trailer
   pub trailers : trailersIn (of .o) ≡ earlier ▷ trailer +++ later
-  pub paired : refT trailer ≡ r
+  pub paired : refT trailer ≡ compared r
   -- it starts behind UNH and the headers before it
   pub start : a ≡ placeWithin of before
   pub octets : slice a b s

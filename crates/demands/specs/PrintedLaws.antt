@@ -3,6 +3,7 @@ use Prim.Native.Nat.{ℕ, _+_}
 use native.Mathlib.Omega.{arith}
 use mathlib.Core.Path.{_≡_}
 use mathlib.Core.List.{List}
+use Rattle.syntax.specs.Content.{compared}
 use Rattle.syntax.specs.Octets.{octets, same}
 use Rattle.syntax.specs.Tree.{Segment}
 use Rattle.syntax.specs.declared.Service.{Service}
@@ -45,7 +46,7 @@ scope1-printed s m r a b c d e =
     let w = asks1 s m r e in
     let t = stands1 s m r w e in
     let p = starts1 s m r w e in
-    let x = chosen-among refH r (w .hs) (w .chose) in
+    let x = chosen-among refH (compared r) (w .hs) (w .chose) in
     record {
       of = asked-message w;
       before = w .ys;
@@ -68,8 +69,8 @@ pub scope2-printed : (s m r : List ℕ) (a b : ℕ) → scope2Of s m r ≡ given
 scope2-printed s m r a b e =
     let w = asks2 s m r e in
     let l = tail-so s m r w e in
-    let x = chosen-among refH r (w .hs) (w .chose) in
-    let z = chosen-among refT r (w .ts) (l .1 .1) in
+    let x = chosen-among refH (compared r) (w .hs) (w .chose) in
+    let z = chosen-among refT (compared r) (w .ts) (l .1 .1) in
     let t = stands2 s m r w (x .rest) (l .0) (l .1 .0) (x .whole) (l .1 .1) e in
     record {
       of = asked-message w;

@@ -8,6 +8,8 @@ use mathlib.Core.Bool.{Bool, true, false, cond, not}
 use lib.Dec.{T, T-not, leb→le, le→leb}
 use lib.ListN.{length}
 use lib.Seq.{slice}
+use Rattle.syntax.specs.BareLaws.{compared-twice}
+use Rattle.syntax.specs.Content.{compared}
 use Rattle.syntax.specs.Octets.{octets, same}
 use Rattle.syntax.specs.Service.{fit}
 use Rattle.syntax.specs.Tree.{Segment, print, well}
@@ -17,7 +19,7 @@ use Rattle.syntax.specs.declared.Service.{Service}
 use Rattle.syntax.specs.declared.Syntax.{Syntax}
 use Rattle.grammar.specs.Lists.{Snoc, nil, _▷_, _+++_, joined, list, each, size, any, check, among, holds, every, few, distinct}
 use Rattle.grammar.specs.Grams.{sum}
-use Rattle.grammar.specs.Segments.{Unb, Unh, Unt, Unz, seg}
+use Rattle.grammar.specs.Segments.{Unb, Unh, Unt, Unz, seg, unh0062Text}
 use Rattle.grammar.specs.Interchange.{Leaf, Header, header, Trailer, Body, plain, ack, Open, msg, Message, message, showHeader, showTrailer, showBody, showOpen, showMessage, shown, idle}
 use Rattle.grammar.specs.declared.Subset.{Subset}
 use Rattle.grammar.specs.declared.Subset.the-variants.{None, F01 as AckF01}
@@ -107,10 +109,10 @@ facts-so s m (interchange n u ms z) o t q e d =
     let σ : Service = serviceIn (interchange n u ms z) in
     record {
       fits = fits-so (interchange n u ms z) v;
-      ordered = placed-every σ (openingIn n .at) u m okMessage ms d (v .inOrder .0);
-      scoped = placed-every σ (openingIn n .at) u m scopesMessage ms d (v .scoped);
+      ordered = placed-every σ (openingIn n .at) u (compared m) okMessage ms d (v .inOrder .0);
+      scoped = placed-every σ (openingIn n .at) u (compared m) scopesMessage ms d (v .scoped);
       written = message-stands s m (interchange n u ms z) e d .written;
-      totals = ap (λ (x : Verdict). totalsBy x m) e ∙ totals-placed σ (openingIn n .at) u ms m ∙ ap totalsAt d;
+      totals = ap (λ (x : Verdict). totalsBy x (compared m)) e ∙ totals-placed σ (openingIn n .at) u ms (compared m) ∙ ap totalsAt d;
     }
 
 -- ---- its body: a header of scope 1 or 2 is in no AUTACK
@@ -322,6 +324,10 @@ among-there : (bs ls : Snoc Message) (x : Message) → T (among (each refM (bs �
 among-there bs nil x = or-left (same (refM x) (refM x)) (among (each refM bs) (refM x)) (passes (same (refM x) (refM x)) (same-self (refM x)))
 among-there bs (ls ▷ l) x = or-right (same (refM l) (refM x)) (among (each refM (bs ▷ x +++ ls)) (refM x)) (among-there bs ls x)
 
+-- what a message is compared by is bare already
+bare-message : (x : Message) → compared (refM x) ≡ refM x
+bare-message (message (msg h hs b ts) t) = compared-twice (unh0062Text h)
+
 totals-at : (bs ls : Snoc Message) (x : Message) → holds (distinct (each refM (bs ▷ x +++ ls))) → totalsIn (bs ▷ x +++ ls) (refM x) ≡ totalsFor (loadsM x)
 totals-at bs nil x d = rw (same-self (refM x))
 totals-at bs (ls ▷ l) x d = by (same (refM l) (refM x)) (same-eq (refM l) (refM x)) (totals-at bs ls x (d .0))
@@ -400,7 +406,7 @@ module _ (t s m r : List ℕ) (a b : ℕ) where
         reads = k;
         only = λ z q. one-reading-f01 σ (fits-so (p .of .i) v) (slice a b s) z (p .of .run) q k;
         totals =
-            each-as (λ (m : Message). totalsOf s (refM m)) (λ (m : Message). totalsIn (messagesIn (p .of .i)) (refM m)) (λ m. totals-read s (p .of .i) (refM m) v (verdict-exact s (p .of .i) .0 (p .of .read) .1)) (p .of .run)
+            each-as (λ (m : Message). totalsOf s (refM m)) (λ (m : Message). totalsIn (messagesIn (p .of .i)) (refM m)) (λ m. totals-read s (p .of .i) (refM m) v (verdict-exact s (p .of .i) .0 (p .of .read) .1) ∙ ap (totalsIn (messagesIn (p .of .i))) (bare-message m)) (p .of .run)
             ∙ totals-each (messagesIn (p .of .i)) (p .of .before) (p .of .run) (p .of .behind) w (messages-distinct (p .of .i) v);
         total = sum-each (p .of .run);
       }

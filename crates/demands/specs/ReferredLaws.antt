@@ -7,6 +7,7 @@ use mathlib.Core.Logic.{_↔_}
 use mathlib.Core.Option.{Option, none, some}
 use mathlib.Core.Bool.{Bool, true, false, cond}
 use lib.Dec.{T}
+use Rattle.syntax.specs.Content.{compared}
 use Rattle.syntax.specs.Octets.{octets, same}
 use Rattle.syntax.specs.ContentLaws.{same-self}
 use Rattle.syntax.specs.Tree.{Segment}
@@ -47,16 +48,16 @@ use Rattle.demands.specs.PartedLaws.{each-autack, each-other, some-there
 
 -- ---- the header of a scope, as it is found
 
-header-so : (code r : List ℕ) (o : Open) (c : Chosen Header) → headerIn code o r ≡ some c → (h : Header) × (In h (headersIn o) × ((refH h ≡ r) × (scopeH h ≡ code)))
+header-so : (code r : List ℕ) (o : Open) (c : Chosen Header) → headerIn code o r ≡ some c → (h : Header) × (In h (headersIn o) × ((refH h ≡ compared r) × (scopeH h ≡ code)))
 header-so code r (msg u hs b ts) c e =
-    let t = then-so (chosenBy refH hs r) (ofScope code) c e in
+    let t = then-so (chosenBy refH hs (compared r)) (ofScope code) c e in
     by (t .a) (t .first) (t .second)
   where
-    by : (k : Chosen Header) → chosenBy refH hs r ≡ some k → ofScope code k ≡ some c → (h : Header) × (In h hs × ((refH h ≡ r) × (scopeH h ≡ code)))
+    by : (k : Chosen Header) → chosenBy refH hs (compared r) ≡ some k → ofScope code k ≡ some c → (h : Header) × (In h hs × ((refH h ≡ compared r) × (scopeH h ≡ code)))
     by (chosen ys y) d e = each (same (scopeH y) code) refl e
       where
-        each : (b : Bool) → same (scopeH y) code ≡ b → cond b (some (chosen ys y)) none ≡ some c → (h : Header) × (In h hs × ((refH h ≡ r) × (scopeH h ≡ code)))
-        each true q e = let w = chosen-in refH r hs d in (y, (w .0, (w .1, same-eq (scopeH y) code (passes (same (scopeH y) code) q))))
+        each : (b : Bool) → same (scopeH y) code ≡ b → cond b (some (chosen ys y)) none ≡ some c → (h : Header) × (In h hs × ((refH h ≡ compared r) × (scopeH h ≡ code)))
+        each true q e = let w = chosen-in refH (compared r) hs d in (y, (w .0, (w .1, same-eq (scopeH y) code (passes (same (scopeH y) code) q))))
         each false q e = none-some e
 
 -- ---- the AUTACK's side
@@ -80,7 +81,7 @@ module _ (a m r : List ℕ) where
           let l = then-so (tieIn (bodyIn o) r) (λ x. some (usxReference x)) k (t .second) in
           each (h .0) (h .1) (l .a) (l .first) (l .second)
         where
-          each : (h : Header) → In h (headersIn o) × ((refH h ≡ r) × (scopeH h ≡ octets "F01")) → (x : Tie) → tieIn (bodyIn o) r ≡ some x → some (usxReference x) ≡ some k → Names k
+          each : (h : Header) → In h (headersIn o) × ((refH h ≡ compared r) × (scopeH h ≡ octets "F01")) → (x : Tie) → tieIn (bodyIn o) r ≡ some x → some (usxReference x) ≡ some k → Names k
           each h g (tie x y) f e =
               let w = message-in j m d in
               let z = tie-so (bodyIn o) r f in
@@ -97,10 +98,10 @@ module _ (a m r : List ℕ) where
       v : Valid (w .i)
       v = verdict-exact a (w .i) .0 (w .read) .0
 
-      by : (x : Message) → In x (messagesIn (w .i)) → refM x ≡ m → In (w .header) (headersOf x) → (t : FirstUsx (bodyOf x) r) → referenceIn (w .i) m r ≡ some (usx0020 (t .usx))
+      by : (x : Message) → In x (messagesIn (w .i)) → refM x ≡ compared m → In (w .header) (headersOf x) → (t : FirstUsx (bodyOf x) r) → referenceIn (w .i) m r ≡ some (usx0020 (t .usx))
       by (message (msg u hs b ts) n) g e c t =
           let k = message-at (w .i) m v g e in
-          let h = header-in (octets "F01") r u hs b ts (chosen-once refH r c (w .ref) (refs-of (w .i) v g .0 .0)) (ap (λ (x : List ℕ). same x (octets "F01")) (w .scope) ∙ same-self (octets "F01")) in
+          let h = header-in (octets "F01") r u hs b ts (chosen-once refH (compared r) c (w .ref) (refs-of (w .i) v g .0 .0)) (ap (λ (x : List ℕ). same x (octets "F01")) (w .scope) ∙ same-self (octets "F01")) in
           ap (λ (o : Option Placed). then o (λ p. referenceAt p r)) (k .1)
           ∙ ap (λ (o : Option (Chosen Header)). then o (λ h. then (tieIn b r) (λ x. some (usxReference x)))) h
           ∙ ap (λ (o : Option Tie). then o (λ x. some (usxReference x))) (tie-there b r t)

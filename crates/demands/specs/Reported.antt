@@ -2,6 +2,7 @@
 use Prim.Native.Nat.{ℕ}
 use mathlib.Core.Path.{_≡_}
 use mathlib.Core.List.{List, [], _∷_, _++_}
+use Rattle.syntax.specs.Content.{compared}
 use Rattle.grammar.specs.Lists.{Snoc, _▷_, _+++_, size}
 use Rattle.grammar.specs.Grams.{sum}
 use Rattle.grammar.specs.Interchange.{Header, message}
@@ -35,6 +36,6 @@ pub record Reported (s m r code : List ℕ) (n : ℕ) : Type 0 where
   pub header : Header
   pub behind : Snoc Header
   pub whole : headersIn (of .o) ≡ before ▷ header +++ behind
-  pub ref : refH header ≡ r
+  pub ref : refH header ≡ compared r
   pub rest : List ℕ
   pub report : listingOf s ≡ linesTo of ++ (lineOf of ++ (sealsOf (serviceIn (of .i)) (of .q) (of .o) before ++ (sealOctets header code n ++ rest)))

@@ -19,6 +19,8 @@ use Rattle.grammar.specs.Places.{wide, headersIn}
 use Rattle.grammar.specs.PlacesLaws.{wide-list}
 use Rattle.grammar.specs.Counted.{messagesIn}
 use Rattle.groups.specs.Groups.{Chosen, chosen, chosenBy}
+use Rattle.syntax.specs.Content.{compared}
+use Rattle.syntax.specs.BareLaws.{compared-twice}
 use Rattle.groups.specs.GroupsLaws.{chosen-among}
 use Rattle.groups.specs.Parts.{headerAt, trailerAt}
 use Rattle.groups.specs.Calls.{given, serviceIn}
@@ -84,7 +86,7 @@ module _ {s m r code : List ℕ} (w : Asks s m r code) where
   reported : {n : ℕ} → sealLineOf (serviceIn (w .i)) (w .q) opened (w .ys) (w .y) ≡ sealOctets (w .y) code n → Reported s m r code n
   reported {n} e =
       let of = asked-message w in
-      let x = chosen-among refH r (w .hs) (w .chose) in
+      let x = chosen-among refH (compared r) (w .hs) (w .chose) in
       let a = message-told (w .i) (message opened (w .n)) (of .there .before) (of .there .behind) (w .q) (of .there .whole) (of .place) in
       let b = seal-told (serviceIn (w .i)) (w .q) opened (w .n) (w .ys) (x .rest) (w .y) (x .whole) in
       let seals : List ℕ = sealsOf (serviceIn (w .i)) (w .q) opened (w .ys) in
@@ -113,7 +115,7 @@ scope1-reported s m r a b c d e =
     let t = stands1 s m r w e in
     let σ : Service = serviceIn (w .i) in
     let o : Open = msg (w .u) (w .hs) (w .b) (w .ts) in
-    let two : ℕ = toTrailer σ (w .q) o (chosen (w .ys) (w .y)) (chosenBy refT (w .ts) (refH (w .y))) in
+    let two : ℕ = toTrailer σ (w .q) o (chosen (w .ys) (w .y)) (chosenBy refT (w .ts) (compared (refH (w .y)))) in
     let l = length-append (slice a b s) (slice c d s) in
     let n : wide σ (showHeader (w .y)) + wide σ (showBody (w .b)) ≡ length (slice a b s ++ slice c d s) =
     omega (arith, l, ap length (t .0 .octets), ap length (t .1 .octets), wide-list σ (showHeader (w .y)), wide-list σ (showBody (w .b))) in (
@@ -128,7 +130,7 @@ pub scope2-reported : (s m r : List ℕ) (a b : ℕ) → scope2Of s m r ≡ give
 scope2-reported s m r a b e =
     let w = asks2 s m r e in
     let l = tail-so s m r w e in
-    let x = chosen-among refH r (w .hs) (w .chose) in
+    let x = chosen-among refH (compared r) (w .hs) (w .chose) in
     let t = stands2 s m r w (x .rest) (l .0) (l .1 .0) (x .whole) (l .1 .1) e in
     let p = starts2 s m r w (l .0) (l .1 .0) (l .1 .1) e in
     let σ : Service = serviceIn (w .i) in
@@ -138,8 +140,9 @@ scope2-reported s m r a b e =
     let k : length (slice a b s) ≡ b - a = omega (arith, t .end) in
     let n : trailerAt σ (w .q) o (chosen (l .0) (l .1 .0)) - headerAt σ (w .q) o (chosen (w .ys) (w .y)) ≡ length (slice a b s) = omega (arith, p .0, p .1, k) in (
       reported w
-          (ap (λ (c : List ℕ). sealLine (writtenH (w .y)) c one (two (chosenBy refT (w .ts) (refH (w .y))))) (scope-of w)
-          ∙ ap (λ (h : List ℕ). sealOctets (w .y) (octets "2") (two (chosenBy refT (w .ts) h))) (x .ref)
+          (ap (λ (c : List ℕ). sealLine (writtenH (w .y)) c one (two (chosenBy refT (w .ts) (compared (refH (w .y)))))) (scope-of w)
+          ∙ ap (λ (h : List ℕ). sealOctets (w .y) (octets "2") (two (chosenBy refT (w .ts) (compared h)))) (x .ref)
+          ∙ ap (λ (h : List ℕ). sealOctets (w .y) (octets "2") (two (chosenBy refT (w .ts) h))) (compared-twice r)
           ∙ ap (λ (h : Option (Chosen Trailer)). sealOctets (w .y) (octets "2") (two h)) (l .1 .1)
           ∙ ap (sealOctets (w .y) (octets "2")) n),
       k,

@@ -7,6 +7,7 @@ use mathlib.Core.Option.{Option, none, some}
 use mathlib.Core.Bool.{Bool, true, false, cond, _&&_}
 use lib.Dec.{T}
 use lib.ListN.{length}
+use Rattle.syntax.specs.Content.{compared}
 use Rattle.syntax.specs.declared.Refusal.{Refusal}
 use Rattle.syntax.specs.Refusals.{atZero}
 use Rattle.syntax.specs.TreeLaws.{and-left, and-right}
@@ -116,7 +117,7 @@ module _ (s m r : List ℕ) (f : ℕ) (v x : List ℕ) where
           let i : Interchange = interchange k u ms z in
           let H : Header = newHeader r f in
           let R : Trailer = newTrailer (serviceIn (interchange k u ms z)) r (textBy f v) in
-          let g = around (serviceIn i) (openingIn k .at) u H R m ms e in
+          let g = around (serviceIn i) (openingIn k .at) u H R (compared m) ms e in
           record {
             of = message-of s m i (msg (w .u) (w .hs) (w .b) (w .ts)) (w .n) (w .q) d e;
             reads = a;
@@ -124,7 +125,7 @@ module _ (s m r : List ℕ) (f : ℕ) (v x : List ℕ) where
             behind = g .after;
             old = g .was;
             new = g .becomes;
-            counts = grown-number (w .n) (small k u ms z (verdict-exact s i .0 d .0) m r f (textBy f v) (serviceIn i) (openingIn k .at) (w .u) (w .hs) (w .b) (w .ts) (w .n) (w .q) e);
-            stays = placed-sealed H R m (serviceIn i) (openingIn k .at) u ms e;
+            counts = grown-number (w .n) (small k u ms z (verdict-exact s i .0 d .0) (compared m) r f (textBy f v) (serviceIn i) (openingIn k .at) (w .u) (w .hs) (w .b) (w .ts) (w .n) (w .q) e);
+            stays = placed-sealed H R (compared m) (serviceIn i) (openingIn k .at) u ms e;
             settled = refl;
           }

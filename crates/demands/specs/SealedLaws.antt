@@ -9,6 +9,7 @@ use lib.Dec.{T, eqb, leb, leb→le}
 use lib.ListN.{length}
 use lib.Seq.{slice}
 use borrow.Author.Tests.{eqb-true, ne-eqb}
+use Rattle.syntax.specs.Content.{compared}
 use Rattle.syntax.specs.Refusals.{atZero}
 use Rattle.syntax.specs.Octets.{octets, same}
 use Rattle.syntax.specs.Tree.{print}
@@ -77,8 +78,8 @@ module _ (s m r : List ℕ) (f : ℕ) (v x : List ℕ) (w : Succeeds s m r f v x
   stays : messageIn (sealedBy (w .i) m r f v) m ≡ some (placed (message (msg (w .u) (front H (w .hs)) (w .b) (w .ts ▷ R)) (grown (w .n))) (w .q))
   stays = message-sealed (w .i) m H R (w .named)
 
-  chose : chosenBy refH (front H (w .hs)) r ≡ some (chosen nil H)
-  chose = chosen-new refH H (w .hs) r (ref-header r f) (asked .new)
+  chose : chosenBy refH (front H (w .hs)) (compared r) ≡ some (chosen nil H)
+  chose = chosen-new refH H (w .hs) (compared r) (ref-header r f) (asked .new)
 
   -- ---- "the new header's range in the sealed interchange is what the first call wrote"
 
@@ -126,21 +127,21 @@ module _ (s m r : List ℕ) (f : ℕ) (v x : List ℕ) (w : Succeeds s m r f v x
   pub sealed-value : Octets v → valueOf x m r ≡ text v
   sealed-value o =
       let O : Open = msg (w .u) (front H (w .hs)) (w .b) (w .ts ▷ R) in
-      let z : same (refT R) r ≡ true = ap (λ (y : List ℕ). same y r) (ref-trailer (serviceIn (w .i)) r (textBy f v)) ∙ same-self r in
+      let z : same (refT R) (compared r) ≡ true = ap (λ (y : List ℕ). same y (compared r)) (ref-trailer (serviceIn (w .i)) r (textBy f v)) ∙ same-self (compared r) in
       ap answered (asked-of x m (λ i p. some (valueAt p r)) (sealedBy (w .i) m r f v) (placed (message O (grown (w .n))) (w .q)) (sealed-read s m r f v x w l) stays)
-      ∙ ap (λ (c : Bool). orNoHeader (chosenBy refH (front H (w .hs)) r) (cond c (linkText (w .b) r) (behind (chosenBy refT (w .ts ▷ R) r)))) (off (autack (w .u)) (asked .other))
-      ∙ ap (λ (c : Option (Chosen Header)). orNoHeader c (behind (chosenBy refT (w .ts ▷ R) r))) chose
-      ∙ ap (λ (c : Bool). filtered (chosen nil H) (behind (cond c (some (chosen (w .ts) R)) (chosenBy refT (w .ts) r)))) z
+      ∙ ap (λ (c : Bool). orNoHeader (chosenBy refH (front H (w .hs)) (compared r)) (cond c (linkText (w .b) r) (behind (chosenBy refT (w .ts ▷ R) (compared r))))) (off (autack (w .u)) (asked .other))
+      ∙ ap (λ (c : Option (Chosen Header)). orNoHeader c (behind (chosenBy refT (w .ts ▷ R) (compared r)))) chose
+      ∙ ap (λ (c : Bool). filtered (chosen nil H) (behind (cond c (some (chosen (w .ts) R)) (chosenBy refT (w .ts) (compared r))))) z
       ∙ ap (λ (t : List ℕ). orBad (valueBy (filterH H) t)) (released-content (serviceIn (w .i)) (textBy f v))
       ∙ text-value r f v o (asked .filter) (w .long)
 
   -- ---- the REF is new in the message that is named
 
-  new-ref : (u : Leaf) (hs : Snoc Header) (b : Body) (ts : Snoc Trailer) (n : Leaf) (q : ℕ) → messageIn (w .i) m ≡ some (placed (message (msg u hs b ts) n) q) → T (not (among (each refH hs) r))
+  new-ref : (u : Leaf) (hs : Snoc Header) (b : Body) (ts : Snoc Trailer) (n : Leaf) (q : ℕ) → messageIn (w .i) m ≡ some (placed (message (msg u hs b ts) n) q) → T (not (among (each refH hs) (compared r)))
   new-ref u hs b ts n q e =
       let d : some (placed (message (msg (w .u) (w .hs) (w .b) (w .ts)) (w .n)) (w .q)) ≡ some (placed (message (msg u hs b ts) n) q) = sym (w .named) ∙ e in
       let k : w .hs ≡ hs = cc in
-      subst (λ (z : Snoc Header). T (not (among (each refH z) r))) k (asked .new)
+      subst (λ (z : Snoc Header). T (not (among (each refH z) (compared r)))) k (asked .new)
 
 -- ---- for every input on which `seal` succeeds
 

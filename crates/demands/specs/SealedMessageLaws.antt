@@ -6,6 +6,7 @@ use mathlib.Core.List.{List}
 use mathlib.Core.Bool.{Bool, true, false, not, cond, _&&_, _||_}
 use lib.Dec.{T, eqb, leb, T-not, leb→le, le→leb, eqb→eq}
 use borrow.Author.Tests.{eq-eqb}
+use Rattle.syntax.specs.Content.{compared}
 use Rattle.syntax.specs.Octets.{same}
 use Rattle.syntax.specs.ContentLaws.{same-self}
 use Rattle.syntax.specs.TreeLaws.{off, and-left, and-right}
@@ -28,7 +29,7 @@ pub record May (u : Leaf) (hs : Snoc Header) (r : List ℕ) (f : ℕ) : Type 0 w
   pub filter : T (filterRight f)
   pub other : T (not (autack u))
   pub few : T (leb (size hs) 8)
-  pub new : T (not (among (each refH hs) r))
+  pub new : T (not (among (each refH hs) (compared r)))
 
 pub may : (u : Leaf) (hs : Snoc Header) (b : Body) (ts : Snoc Trailer) (r : List ℕ) (f : ℕ) → T (maySeal (msg u hs b ts) r f) → May u hs r f
 may u hs b ts r f h =
@@ -120,23 +121,23 @@ module _ (r : List ℕ) (f : ℕ) (σ : Service) (t : List ℕ) (u : Leaf) (hs :
   refs-sealed o k =
       let hr : Snoc (List ℕ) = each refH hs in
       let tr : Snoc (List ℕ) = each refT ts in
-      let eh : each refH (front (newHeader r f) hs) ≡ front r hr = each-front refH (newHeader r f) hs ∙ ap (λ (x : List ℕ). front x (each refH hs)) (ref-header r f) in
-      let w : holds (refsAs (front r hr) (tr ▷ r) (same (unt0062 n) (unh0062 u))) = (
+      let eh : each refH (front (newHeader r f) hs) ≡ front (compared r) hr = each-front refH (newHeader r f) hs ∙ ap (λ (x : List ℕ). front x (each refH hs)) (ref-header r f) in
+      let w : holds (refsAs (front (compared r) hr) (tr ▷ compared r) (same (unt0062 n) (unh0062 u))) = (
         (
-          distinct-front r hr (k .0 .0) (q .new),
+          distinct-front (compared r) hr (k .0 .0) (q .new),
           (
-            unlinked b (front r hr) (o .0 .1 .1 .0),
-            ((k .0 .1 .1 .0, aways hr r tr (q .new) (k .0 .1 .1 .1)), (wider r hr tr (k .0 .1 .1 .1), first-among r hr)),
+            unlinked b (front (compared r) hr) (o .0 .1 .1 .0),
+            ((k .0 .1 .1 .0, aways hr (compared r) tr (q .new) (k .0 .1 .1 .1)), (wider (compared r) hr tr (k .0 .1 .1 .1), first-among (compared r) hr)),
           ),
         ),
-        (k .1 .0, every-front (one (tr ▷ r)) r hr (last-among tr) (longer r tr hr (k .1 .1))),
+        (k .1 .0, every-front (one (tr ▷ compared r)) (compared r) hr (last-among tr) (longer (compared r) tr hr (k .1 .1))),
       ) in
       subst (λ (s : List ℕ). holds (refsAs (each refH (front (newHeader r f) hs)) (each refT ts ▷ refT (newTrailer σ r t)) (same s (unh0062 u)))) (sym (grown-0062 n))
       (subst (λ (x : List ℕ). holds (refsAs (each refH (front (newHeader r f) hs)) (each refT ts ▷ x) (same (unt0062 n) (unh0062 u)))) (sym (ref-trailer σ r t))
-      (subst (λ (x : Snoc (List ℕ)). holds (refsAs x (each refT ts ▷ r) (same (unt0062 n) (unh0062 u)))) (sym eh) w))
+      (subst (λ (x : Snoc (List ℕ)). holds (refsAs x (each refT ts ▷ compared r) (same (unt0062 n) (unh0062 u)))) (sym eh) w))
     where
-      last-among : (s : Snoc (List ℕ)) → T (among (s ▷ r) r)
-      last-among s = subst (λ (c : Bool). T (c || among s r)) (sym (same-self r)) tt
+      last-among : (s : Snoc (List ℕ)) → T (among (s ▷ compared r) (compared r))
+      last-among s = subst (λ (c : Bool). T (c || among s (compared r))) (sym (same-self (compared r))) tt
 
   -- 10
   pub counts-sealed : (v : Version) → number n 1 + 4 < 1000000 → holds (refsMessage was) → holds (countsMessage v was) → holds (countsMessage v is)
@@ -146,8 +147,8 @@ module _ (r : List ℕ) (f : ℕ) (σ : Service) (t : List ℕ) (u : Leaf) (hs :
         passes (eqb (number (grown n) 1) (size (showMessage is))) (eq-eqb (number (grown n) 1) (size (showMessage is)) z),
         (
           (
-            recount r (newHeader r f) hs ts (ref-header r f) (q .new) (k .0 .1 .1 .1) (c .1 .0),
-            subst (λ (m : ℕ). T (eqb 4 (m + 2))) (sym (ap (λ (x : List ℕ). sizeAt x (front (newHeader r f) hs)) (ref-trailer σ r t) ∙ size-new r (newHeader r f) hs (ref-header r f) (q .new))) tt,
+            recount (compared r) (newHeader r f) hs ts (ref-header r f) (q .new) (k .0 .1 .1 .1) (c .1 .0),
+            subst (λ (m : ℕ). T (eqb 4 (m + 2))) (sym (ap (λ (x : List ℕ). sizeAt x (front (newHeader r f) hs)) (ref-trailer σ r t) ∙ size-new (compared r) (newHeader r f) hs (ref-header r f) (q .new))) tt,
           ),
           c .1 .1,
         ),

@@ -7,7 +7,7 @@ use mathlib.Core.Bool.{Bool, true, false, cond}
 use lib.Dec.{ltb}
 use lib.ListN.{length}
 use borrow.Author.Tests.{lt-ltb}
-use Rattle.syntax.specs.Content.{valueFrom}
+use Rattle.syntax.specs.Content.{valueFrom, compared}
 use Rattle.syntax.specs.ContentLaws.{power}
 use Rattle.syntax.specs.Service.{serves}
 use Rattle.syntax.specs.Tree.{octetIn, contentIn}
@@ -34,11 +34,11 @@ released-content σ (b ∷ t) = by (serves σ b) ∙ ap (λ (l : List ℕ). b �
     by true = refl
     by false = refl
 
-pub ref-header : (r : List ℕ) (f : ℕ) → refH (newHeader r f) ≡ r
-ref-header r f = plains-content r
+pub ref-header : (r : List ℕ) (f : ℕ) → refH (newHeader r f) ≡ compared r
+ref-header r f = ap compared (plains-content r)
 
-pub ref-trailer : (σ : Service) (r t : List ℕ) → refT (newTrailer σ r t) ≡ r
-ref-trailer σ r t = plains-content r
+pub ref-trailer : (σ : Service) (r t : List ℕ) → refT (newTrailer σ r t) ≡ compared r
+ref-trailer σ r t = ap compared (plains-content r)
 
 -- ---- numbers of few digits
 

@@ -3,7 +3,7 @@ use Prim.Native.Nat.{ℕ, _+_, _≤_, _<_}
 use native.Mathlib.Omega.{arith}
 use mathlib.Core.Path.{_≡_, refl, ap, _∙_, sym, subst}
 use mathlib.Core.List.{List, [], _∷_}
-use mathlib.Core.Bool.{Bool, true, false, cond, _&&_, _||_}
+use mathlib.Core.Bool.{Bool, true, false, cond, not, _&&_, _||_}
 use lib.Dec.{T, eqb, leb, leb→le, le→leb}
 use lib.ListN.{length, drop}
 use borrow.Author.Tests.{eqb-true}
@@ -11,7 +11,7 @@ use Rattle.syntax.specs.Octets as octets
 use Rattle.syntax.specs.Octets.{within}
 use Rattle.syntax.specs.Service.{fit}
 use Rattle.syntax.specs.Repertoire.{tagOctet}
-use Rattle.syntax.specs.Content.{allDigits}
+use Rattle.syntax.specs.Content.{allDigits, blank}
 use Rattle.syntax.specs.Tree.{Segment, ok, contentIn}
 use Rattle.syntax.specs.TreeLaws.{and-left, and-right, and-both}
 use Rattle.syntax.specs.declared.Service.{Service}
@@ -20,7 +20,7 @@ use Rattle.syntax.specs.declared.Version.{Version}
 use Rattle.grammar.specs.Lists.{Snoc, nil, _▷_, _+++_, joined, Rule, holds, every}
 use Rattle.grammar.specs.Segments.{Unh, Unt, Ush, Usa, Usr, Ust, seg, asked, number}
 use Rattle.grammar.specs.Elements as table
-use Rattle.grammar.specs.Elements.{simple, notEmptyReference, formedAs, formedRow, formed}
+use Rattle.grammar.specs.Elements.{reference, inRange, simple, notEmptyReference, formedAs, formedRow, formed}
 use Rattle.grammar.specs.Interchange.{Leaf, Header, Trailer, Body, msg, message, showHeader, showTrailer, showBody, showMessage}
 use Rattle.grammar.specs.Rules.{insideS, formedS, amountS}
 use Rattle.writing.specs.Decimal.{decimalOf}
@@ -78,19 +78,28 @@ here : (b : Bool) → b ≡ true → T (b && true && true && true)
 here true e = tt
 here false e = passes false e
 
-ush-formed : (v : Version) (r : List ℕ) (f : ℕ) → T (within 1 14 (length r)) → T (filterRight f) → T (formed v (asked (seg Ush (ushLeaf r f))))
+ush-formed : (v : Version) (r : List ℕ) (f : ℕ) → T (inRange (reference 1 14) r) → T (filterRight f) → T (formed v (asked (seg Ush (ushLeaf r f))))
 ush-formed v r f h k = by (eqb f 2) refl (eqb f 7) refl k
   where
-    long : within 1 14 (length (contentIn (plains r))) ≡ true
-    long = ap (λ (l : List ℕ). within 1 14 (length l)) (plains-content r) ∙ is-true (within 1 14 (length r)) h
+    long : inRange (reference 1 14) (contentIn (plains r)) ≡ true
+    long = ap (inRange (reference 1 14)) (plains-content r) ∙ is-true (inRange (reference 1 14) r) h
 
     by : (a : Bool) → eqb f 2 ≡ a → (c : Bool) → eqb f 7 ≡ c → T (a || c) → T (formed v (asked (seg Ush (ushLeaf r f))))
-    by true d c e k = subst (λ (f : ℕ). T (formed v (asked (seg Ush (ushLeaf r f))))) (sym (eqb-true f 2 d)) (here (within 1 14 (length (contentIn (plains r)))) long)
-    by false d true e k = subst (λ (f : ℕ). T (formed v (asked (seg Ush (ushLeaf r f))))) (sym (eqb-true f 7 e)) (here (within 1 14 (length (contentIn (plains r)))) long)
+    by true d c e k = subst (λ (f : ℕ). T (formed v (asked (seg Ush (ushLeaf r f))))) (sym (eqb-true f 2 d)) (here (inRange (reference 1 14) (contentIn (plains r))) long)
+    by false d true e k = subst (λ (f : ℕ). T (formed v (asked (seg Ush (ushLeaf r f))))) (sym (eqb-true f 7 e)) (here (inRange (reference 1 14) (contentIn (plains r))) long)
     by false d false e k = absurd k
 
-ust-formed : (v : Version) (r : List ℕ) → T (within 1 14 (length r)) → T (formed v (asked (seg Ust (ustLeaf r))))
-ust-formed v r h = here (within 1 14 (length (contentIn (plains r)))) (ap (λ (l : List ℕ). within 1 14 (length l)) (plains-content r) ∙ is-true (within 1 14 (length r)) h)
+ust-formed : (v : Version) (r : List ℕ) → T (inRange (reference 1 14) r) → T (formed v (asked (seg Ust (ustLeaf r))))
+ust-formed v r h = here (inRange (reference 1 14) (contentIn (plains r))) (ap (inRange (reference 1 14)) (plains-content r) ∙ is-true (inRange (reference 1 14) r) h)
+
+-- A to Z and 0 to 9 are no spaces
+not-blank : (r : List ℕ) → T (within 1 14 (length r)) → T (octets.allPass tagOctet r) → T (not (blank r))
+not-blank [] h k = absurd h
+not-blank (b ∷ r) h k = by (eqb b 32) refl
+  where
+    by : (c : Bool) → eqb b 32 ≡ c → T (not (c && blank r))
+    by true e = absurd (subst (λ (x : ℕ). T (tagOctet x)) (eqb-true b 32 e) (and-left (tagOctet b) (octets.allPass tagOctet r) k))
+    by false e = tt
 
 usr-formed : (v : Version) (σ : Service) (t : List ℕ) → length t ≤ 512 → T (formed v (asked (seg Usr (usrLeaf σ t))))
 usr-formed v σ t h = here (within 0 512 (length (contentIn (released σ t)))) long
@@ -150,8 +159,10 @@ module _ (y : Syntax) (fits : T (fit (y .service))) (r : List ℕ) (f : ℕ) (t 
   letters : T (octets.allPass tagOctet r)
   letters = and-right (within 1 14 (length r)) (octets.allPass tagOctet r) ref
 
-  long : T (within 1 14 (length r))
-  long = and-left (within 1 14 (length r)) (octets.allPass tagOctet r) ref
+  long : T (inRange (reference 1 14) r)
+  long =
+      let h = and-left (within 1 14 (length r)) (octets.allPass tagOctet r) ref in
+      and-both (within 1 14 (length r)) (not (blank r)) h (not-blank r h letters)
 
   number-digits : T (octets.allPass tagOctet (decimalOf (number n 1 + 4)))
   number-digits = digits-tag (decimalOf (number n 1 + 4)) (passes (allDigits (decimalOf (number n 1 + 4))) (decimal-digits (number n 1 + 4) (omega (arith, small))))

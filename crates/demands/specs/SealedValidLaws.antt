@@ -7,6 +7,7 @@ use mathlib.Core.Option.{Option, some}
 use mathlib.Core.Bool.{Bool, true, false, cond}
 use lib.Dec.{T, eqb, leb, leb→le, le→leb, eqb→eq}
 use lib.ListN.{length, length-append}
+use Rattle.syntax.specs.Content.{compared}
 use Rattle.syntax.specs.Octets as octets
 use Rattle.syntax.specs.Octets.{same}
 use Rattle.syntax.specs.Tree as syntax
@@ -136,5 +137,5 @@ sealed-valid (interchange k u ms z) v m r f t w hs b ts n {q} e a c s l =
     let σ : Service = serviceIn (interchange k u ms z) in
     let d : serviceIn (interchange k u ms z) ≡ v .y .service = ap inForce (v .named) in
     subst (λ (x : Service). Valid (sealed (interchange k u ms z) m (newHeader r f) (newTrailer x r t))) (sym d)
-    (valid-at k u ms z v m r f t σ (openingIn k .at) w hs b ts n q e (may w hs b ts r f a) (subst (λ (x : Option Syntax). T (writable x t)) (v .named) c) s
+    (valid-at k u ms z v (compared m) r f t σ (openingIn k .at) w hs b ts n q e (may w hs b ts r f a) (subst (λ (x : Option Syntax). T (writable x t)) (v .named) c) s
     (subst (λ (x : Service). length (printInterchange (sealed (interchange k u ms z) m (newHeader r f) (newTrailer x r t))) ≤ 65535) d l))

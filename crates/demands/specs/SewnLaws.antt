@@ -8,6 +8,7 @@ use mathlib.Core.Path.{_≡_, refl, ap, _∙_, sym, subst}
 use lib.Dec.{T}
 use lib.ListN.{length, length-append}
 use lib.Seq.{slice}
+use Rattle.syntax.specs.Content.{compared}
 use Rattle.syntax.specs.Service.{fit}
 use Rattle.syntax.specs.Tree.{Segment, flatE, spells, printS, print}
 use Rattle.syntax.specs.TreeLaws.{print-cons}
@@ -152,7 +153,7 @@ module _ (s m r : List ℕ) (f : ℕ) (v x : List ℕ) where
       let g : Trailer = newTrailer (serviceIn (interchange n u ms z)) r (textBy f v) in
       let w = verdict-exact s (interchange n u ms z) .0 e in
       let fits : T (fit (serviceIn (interchange n u ms z))) = subst (λ (y : Option Syntax). T (fit (inForce y))) (sym (w .0 .named)) (fit-in-force (interchange n u ms z) (w .0)) in
-      let y = around σ (openingIn n .at) u h g m ms named in
+      let y = around σ (openingIn n .at) u h g (compared m) ms named in
       let P : List ℕ = printUna n in
       let I : List ℕ = print σ (list (shown (idle u (y .before)))) in
       let W : List ℕ = printS σ (seg Unh a) in

@@ -4,6 +4,7 @@ use mathlib.Core.Path.{_≡_}
 use mathlib.Core.Bool.{true, false}
 use mathlib.Core.List.{List, _++_}
 use lib.ListN.{length}
+use Rattle.syntax.specs.Content.{compared}
 use Rattle.syntax.specs.Octets.{octets as written}
 use Rattle.syntax.specs.Tree.{print}
 use Rattle.grammar.specs.Lists.{Snoc, nil, _▷_, _+++_, list, any, size}
@@ -47,10 +48,10 @@ pub record HasHeader (s m r code : List ℕ) : Type 0 where
   pub read : verdictOf s ≡ accepted i
   pub of : Message
   pub there : In of (messagesIn i)
-  pub name : refM of ≡ m
+  pub name : refM of ≡ compared m
   pub header : Header
   pub within : In header (headersOf of)
-  pub ref : refH header ≡ r
+  pub ref : refH header ≡ compared r
   pub scope : scopeH header ≡ code
 
 -- ---- "security headers and trailers pair one to one by reference"
@@ -112,10 +113,10 @@ pub record FirstUsx (b : Body) (r : List ℕ) : Type 0 where
   -- a USY under it names the header, and none before that USY does
   pub usy : Leaf
   pub under : In usy usys
-  pub names : usy0534 usy ≡ r
-  pub first-under : (y : Leaf) → In y (under .before) → usy0534 y ≡ r → ⊥
+  pub names : usy0534 usy ≡ compared r
+  pub first-under : (y : Leaf) → In y (under .before) → usy0534 y ≡ compared r → ⊥
   -- nor does one under a USX before it
-  pub first : (l : Link) → In l (there .before) → (y : Leaf) → In y (usysOf l) → usy0534 y ≡ r → ⊥
+  pub first : (l : Link) → In l (there .before) → (y : Leaf) → In y (usysOf l) → usy0534 y ≡ compared r → ⊥
 
 -- the AUTACK's interchange a has the message m with the header r of scope F01; and it refers to the interchange s, which has a run
 pub record Refers (a s m r : List ℕ) : Type 0 where

@@ -5,6 +5,7 @@ use mathlib.Core.List.{List}
 use mathlib.Core.Option.{Option, none, some}
 use mathlib.Core.Bool.{Bool, true, false, cond, false≢true}
 use lib.Dec.{T}
+use Rattle.syntax.specs.Content.{compared}
 use Rattle.syntax.specs.Octets.{same}
 use Rattle.syntax.specs.ContentLaws.{same-self}
 use Rattle.grammar.specs.Lists.{Snoc, nil, _▷_, _+++_}
@@ -136,10 +137,10 @@ module _ (r : List ℕ) where
 pub tie-so : (b : Body) (r : List ℕ) {x y : Leaf} → tieIn b r ≡ some (tie x y) → (w : FirstUsx b r) × ((w .usx ≡ x) × (w .usy ≡ y))
 tie-so (plain b) r e = none-some e
 tie-so (ack c ls) r {x} {y} e =
-    let w = link-so r ls e in
+    let w = link-so (compared r) ls e in
     (record { usb = c; links = ls; body = refl; usx = x; usys = w .usys; there = w .there; usy = y; under = w .under; names = w .names; first-under = w .first-under; first = w .first }, (refl, refl))
 
 pub tie-there : (b : Body) (r : List ℕ) (w : FirstUsx b r) → tieIn b r ≡ some (tie (w .usx) (w .usy))
 tie-there b r w =
-    ap (λ (v : Body). tieIn v r) (w .body) ∙ ap (λ (v : Snoc Link). firstLink v r) (w .there .whole)
-    ∙ link-there r (w .usx) (w .usys) (w .under) (w .names) (w .first-under) (w .there .before) (w .there .behind) (w .first)
+    ap (λ (v : Body). tieIn v r) (w .body) ∙ ap (λ (v : Snoc Link). firstLink v (compared r)) (w .there .whole)
+    ∙ link-there (compared r) (w .usx) (w .usys) (w .under) (w .names) (w .first-under) (w .there .before) (w .there .behind) (w .first)

@@ -4,6 +4,7 @@ use mathlib.Core.Bool.{Bool, true, false}
 use mathlib.Core.List.{List}
 use mathlib.Core.Option.{some}
 use mathlib.Core.Path.{_≡_}
+use Rattle.syntax.specs.Content.{compared}
 use Rattle.grammar.specs.Segments.{ust0534, usr0560, usy0560}
 use Rattle.grammar.specs.Interchange.{Leaf, trailer, Message}
 use Rattle.spans.specs.Span.{autackM}
@@ -16,7 +17,7 @@ pub record AfterUst (m : Message) (r t : List ℕ) : Type 0 where
   pub ust : Leaf
   pub usr : Leaf
   pub there : In (trailer ust (some usr)) (trailersOf m)
-  pub ref : ust0534 ust ≡ r
+  pub ref : ust0534 ust ≡ compared r
   pub is : usr0560 usr ≡ t
 
 -- the first USY that names the header r has the 0560 t

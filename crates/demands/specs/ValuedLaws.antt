@@ -6,6 +6,7 @@ use mathlib.Core.List.{List, []}
 use mathlib.Core.Logic.{_↔_}
 use mathlib.Core.Option.{Option, none, some}
 use mathlib.Core.Bool.{Bool, true, false, cond}
+use Rattle.syntax.specs.Content.{compared}
 use Rattle.grammar.specs.Segments.{usy0560}
 use Rattle.grammar.specs.Lists.{Snoc, holds}
 use Rattle.grammar.specs.Interchange.{Leaf, Header, Trailer, trailer, Body, Open, msg, Message, message}
@@ -44,30 +45,30 @@ module _ (u : Leaf) (hs : Snoc Header) (b : Body) (ts : Snoc Trailer) (n : Leaf)
       linked none d e = none-some e
       linked (some (tie x y)) d e = let w = tie-so b r d in record { tied = w .0; is = ap usy0560 (w .1 .1) }
 
-      trailed : (o : Option (Chosen Trailer)) → chosenBy refT ts r ≡ o → valueBy code (behind o) ≡ some v → AfterUst (message (msg u hs b ts) n) r (behind o)
+      trailed : (o : Option (Chosen Trailer)) → chosenBy refT ts (compared r) ≡ o → valueBy code (behind o) ≡ some v → AfterUst (message (msg u hs b ts) n) r (behind o)
       trailed none d e = none-some e
       trailed (some (chosen ys (trailer c none))) d e = none-some e
-      trailed (some (chosen ys (trailer c (some k)))) d e = let w = chosen-in refT r ts d in record { ust = c; usr = k; there = w .0; ref = w .1; is = refl }
+      trailed (some (chosen ys (trailer c (some k)))) d e = let w = chosen-in refT (compared r) ts d in record { ust = c; usr = k; there = w .0; ref = w .1; is = refl }
 
       by : (c : Bool) → valueBy code (cond c (linkText b r) (trailerText (msg u hs b ts) r)) ≡ some v
           → SealText c (message (msg u hs b ts) n) r (cond c (linkText b r) (trailerText (msg u hs b ts) r))
       by true e = linked (tieIn b r) refl e
-      by false e = trailed (chosenBy refT ts r) refl e
+      by false e = trailed (chosenBy refT ts (compared r)) refl e
 
   text-of : (t : List ℕ) → holds (refsMessage (message (msg u hs b ts) n)) → SealText (autack u) (message (msg u hs b ts) n) r t → valueText (msg u hs b ts) r ≡ t
   text-of t q w = by (autack u) w
     where
       by : (c : Bool) → SealText c (message (msg u hs b ts) n) r t → cond c (linkText b r) (trailerText (msg u hs b ts) r) ≡ t
       by true w = ap usyText (tie-there b r (w .tied)) ∙ w .is
-      by false w = ap behind (chosen-once refT r (w .there) (w .ref) (q .0 .1 .1 .0)) ∙ w .is
+      by false w = ap behind (chosen-once refT (compared r) (w .there) (w .ref) (q .0 .1 .1 .0)) ∙ w .is
 
 -- ---- the call
 
 module _ (s m r v : List ℕ) where
   value-at : (i : Interchange) (p : Placed) → verdictOf s ≡ accepted i → messageIn i m ≡ some p → valueAt p r ≡ text v → Valued s m r v
-  value-at i (placed (message (msg u hs b ts) n) q) d k e = by (chosenBy refH hs r) refl e
+  value-at i (placed (message (msg u hs b ts) n) q) d k e = by (chosenBy refH hs (compared r)) refl e
     where
-      by : (o : Option (Chosen Header)) → chosenBy refH hs r ≡ o → orNoHeader o (valueText (msg u hs b ts) r) ≡ text v → Valued s m r v
+      by : (o : Option (Chosen Header)) → chosenBy refH hs (compared r) ≡ o → orNoHeader o (valueText (msg u hs b ts) r) ≡ text v → Valued s m r v
       by none c e = no-text e
       by (some (chosen ys y)) c e = each (valueBy (filterH y) (valueText (msg u hs b ts) r)) refl e
         where
@@ -75,7 +76,7 @@ module _ (s m r v : List ℕ) where
           each none j e = no-text e
           each (some z) j e =
               let x = message-in i m k in
-              let w = chosen-in refH r hs c in
+              let w = chosen-in refH (compared r) hs c in
               let g : z ≡ v = cc in
               record {
                 code = scopeH y;
@@ -104,12 +105,12 @@ module _ (s m r v : List ℕ) where
       valid : Valid (w .has .i)
       valid = verdict-exact s (w .has .i) .0 (w .has .read) .0
 
-      by : (x : Message) → In x (messagesIn (w .has .i)) → refM x ≡ m → In (w .has .header) (headersOf x) → SealText (autackM x) x r (w .t) → valueOf s m r ≡ text v
+      by : (x : Message) → In x (messagesIn (w .has .i)) → refM x ≡ compared m → In (w .has .header) (headersOf x) → SealText (autackM x) x r (w .t) → valueOf s m r ≡ text v
       by (message (msg u hs b ts) n) g e c t =
           let k = message-at (w .has .i) m valid g e in
           let q = refs-of (w .has .i) valid g in
           ap answered (asked-of s m (λ i p. some (valueAt p r)) (w .has .i) (placed (message (msg u hs b ts) n) (k .0)) (w .has .read) (k .1))
-          ∙ ap (λ (o : Option (Chosen Header)). orNoHeader o (valueText (msg u hs b ts) r)) (chosen-once refH r c (w .has .ref) (q .0 .0))
+          ∙ ap (λ (o : Option (Chosen Header)). orNoHeader o (valueText (msg u hs b ts) r)) (chosen-once refH (compared r) c (w .has .ref) (q .0 .0))
           ∙ ap (λ (x : List ℕ). orBad (valueBy (filterH (w .has .header)) x)) (text-of u hs b ts n r (w .t) q t)
           ∙ ap orBad (w .reads)
 

@@ -11,6 +11,7 @@ ghost use mathlib.Core.Logic.{_↔_};
 ghost use lib.Dec.{T};
 ghost use lib.ListN.{length, take, drop};
 ghost use lib.Seq.{slice};
+ghost use Rattle.syntax.specs.Content.{compared};
 ghost use Rattle.syntax.specs.Octets.{octets};
 ghost use Rattle.syntax.specs.Service.{fit};
 ghost use Rattle.syntax.specs.declared.Refusal.{Refusal};
@@ -81,7 +82,7 @@ pub fn reading_is_counted()
 
 // .. and the totals that are given back for a 0062 are those of that reading's message.
 pub fn totals_are_read()
-    ensures { λ _. ⌜ ((s : List ℕ) (v : Interchange) (r : List ℕ) → Valid v → printInterchange v ≡ s → totalsOf s r ≡ totalsIn (messagesIn v) r) ⌝ }
+    ensures { λ _. ⌜ ((s : List ℕ) (v : Interchange) (r : List ℕ) → Valid v → printInterchange v ≡ s → totalsOf s r ≡ totalsIn (messagesIn v) (compared r)) ⌝ }
 {}
 
 // A refused input is the printing of no valid interchange.

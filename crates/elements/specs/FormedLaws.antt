@@ -9,7 +9,7 @@ use borrow.Author.Tests.{le-leb, lt-leb, eq-eqb, ne-eqb}
 use lib.Dec.{eqb, leb}
 use lib.ListN.{length, getD, drop}
 use Rattle.syntax.specs.Octets.{octets, same, within}
-use Rattle.syntax.specs.Content.{releases, contentFrom, content, allDigits}
+use Rattle.syntax.specs.Content.{releases, contentFrom, content, allDigits, blank}
 use Rattle.syntax.specs.Scanning.{nextOf}
 use Rattle.syntax.specs.ContentLaws.{Digital, digital-end, digital-below, digital-above, digital-on, Lengthening, lengthening-end, lengthening-less, lengthening-fits, lengthening-on}
 use Rattle.syntax.specs.Segment.{piecesAt, atElement, componentAt, partOf, components, repeats, anyRepeats}
@@ -20,7 +20,7 @@ use Rattle.syntax.specs.declared.Version.{Version}
 use Rattle.grammar.specs.Segments as named
 use Rattle.grammar.specs.Segments.{Named, Free, Asked, kindIn, tags}
 use Rattle.grammar.specs.Loads.{Shape, shape, amountRight, grams, unit, threePart, controlUnit, controlBy}
-use Rattle.grammar.specs.Elements.{Range, anyText, notEmpty, digits, simple, composite, inRange, formedAs, formed, formedKind}
+use Rattle.grammar.specs.Elements.{Range, anyText, notEmpty, notEmptyReference, digits, reference, simple, composite, inRange, formedAs, formed, formedKind}
 use Rattle.grammar.specs.PlacingLaws.{same-eq}
 use Rattle.elements.specs.Octets.{textAt, partsAt, repeatedAt, askedAt}
 use Rattle.elements.specs.Kinds.{ofKind, tagKind}
@@ -155,6 +155,21 @@ filled-one ρ (b ∷ x) h e = pick (eqb b 32) (eqb b ρ) e
 pub there-so : (ρ : ℕ) (x : List ℕ) → 1 ≤ length (content ρ x) → true ≡ inRange notEmpty (content ρ x)
 there-so ρ x l = sym (le-leb 1 (length (content ρ x)) l)
 
+-- an octet that is neither a space nor a release is content, and no space
+pub visible-one : (ρ : ℕ) (x : List ℕ) → (length x ≡ 0 → ⊥) → (getD x 0 0 ≡ 32 → ⊥) → not (eqb (getD x 0 0) ρ) ≡ true → blank (content ρ x) ≡ false
+visible-one ρ [] h s e = absurd (h refl)
+visible-one ρ (b ∷ x) h s e = pick (eqb b 32) (ne-eqb b 32 s) (eqb b ρ) e
+  where
+    pick : (z : Bool) → z ≡ false → (q : Bool) → not q ≡ true → blank (cond (cond z false q) (contentFrom ρ true x) (b ∷ contentFrom ρ false x)) ≡ false
+    pick true d q e = absurd (false≢true (sym d))
+    pick false d true e = absurd (false≢true e)
+    pick false d false e = rw (ne-eqb b 32 s)
+
+-- what is not blank has an octet
+some-octet : (s : List ℕ) → blank s ≡ false → 1 ≤ length s
+some-octet [] e = absurd (false≢true (sym e))
+some-octet (b ∷ s) e = omega arith
+
 module _ (ρ : ℕ) (x : List ℕ) (least most : ℕ) where
   module _ (h : length x ≤ most) where
     sized-by : least ≤ length (content ρ x) → true ≡ inRange (anyText least most) (content ρ x)
@@ -165,6 +180,9 @@ module _ (ρ : ℕ) (x : List ℕ) (least most : ℕ) where
 
     pub sized-some : least ≡ 1 → 1 ≤ length (content ρ x) → true ≡ inRange (anyText least most) (content ρ x)
     sized-some e l = sized-by (omega arith)
+
+    pub reference-seen : least ≡ 1 → blank (content ρ x) ≡ false → true ≡ inRange (reference least most) (content ρ x)
+    reference-seen e b = sized-some e (some-octet (content ρ x) b) ∙ sym (rw b (and-true (within least most (length (content ρ x)))))
 
   module _ {n : ℕ} (q : n ≡ length (content ρ x)) where
     pub sized-few : n < least → false ≡ inRange (anyText least most) (content ρ x)

@@ -13,14 +13,15 @@ use syntax::Version;
 use syntax::content::Next;
 use syntax::content::content_is;
 use syntax::content::content_length;
+use syntax::content::is_blank;
 use syntax::content::next_octet;
 ghost use mathlib.Core.Path.{_≡_};
-ghost use mathlib.Core.Bool.{true, not, _&&_};
+ghost use mathlib.Core.Bool.{true, false, not, _&&_};
 ghost use mathlib.Core.List.{[], _∷_};
 ghost use Prim.Native.Nat.{_≤_, _+_};
 ghost use lib.ListN.{length};
 ghost use lib.Seq.{slice};
-ghost use Rattle.syntax.specs.Content.{content};
+ghost use Rattle.syntax.specs.Content.{blank, content};
 ghost use Rattle.syntax.specs.Octets.{within};
 ghost use Rattle.syntax.specs.Segment.{piecesAt, anyRepeats};
 ghost use Rattle.grammar.specs.Segments as named;
@@ -75,6 +76,49 @@ fn not_empty(x: &[u8], release: u8) -> bool
         return true;
     }
     1 <= content_length(x, release)
+}
+
+// Whether a glance tells that the content has an octet that is no space: its first one is none, nor a release.
+fn visible(x: &[u8], release: u8) -> bool
+    ensures { λ r. ⌜ (r ≡ true → blank (content release (now (x .entry))) ≡ false) ⌝ }
+{
+    if x.len() == 0 {
+        return false;
+    }
+    let first = x[0];
+    if first == 32 {
+        return false;
+    }
+    first != release
+}
+
+// Whether the content of a reference has so many octets, spaces included, and is not made only of spaces.
+fn reference_within(x: &[u8], release: u8, least: usize, most: usize) -> bool
+    ensures { λ r. ⌜ r ≡ inRange (checked.reference least most) (content release (now (x .entry))) ⌝ }
+{
+    if x.len() <= most {
+        if least == 1 {
+            if visible(x, release) {
+                return true;
+            }
+        }
+    }
+    if sized(x, release, least, most) {
+        let b = is_blank(x, release);
+        return !b;
+    }
+    false
+}
+
+// Whether a reference of which no length is printed is there: it is not made only of spaces.
+fn reference_there(x: &[u8], release: u8) -> bool
+    ensures { λ r. ⌜ r ≡ inRange checked.notEmptyReference (content release (now (x .entry))) ⌝ }
+{
+    if visible(x, release) {
+        return true;
+    }
+    let b = is_blank(x, release);
+    !b
 }
 
 // Whether the content is digits, and so many: one pass for both.
@@ -205,7 +249,32 @@ fn single_there(s: &[u8], at: usize, y: Syntax, marks: &[usize], p: usize) -> bo
     if 1 < parts(s, at, y, marks, p) {
         return false;
     }
-    there(s, at, y, marks, p, 0)
+    let v = y.service;
+    reference_there(field(s, at, y, marks, p, 0), v.release)
+}
+
+// An element of one component that is a reference.
+fn single_reference(
+    s: &[u8],
+    at: usize,
+    y: Syntax,
+    marks: &[usize],
+    p: usize,
+    least: usize,
+    most: usize,
+) -> bool
+    requires { ⌜ Marked (y .service) (now s) at (now marks) ⌝ }
+    requires { ⌜ (1 ≤ p) × (p ≤ 5) ⌝ }
+    ensures { λ r. ⌜ r ≡ formedAs (checked.simple (checked.reference least most ∷ [])) (askedAt (y .service) (now (s .entry)) at) p ⌝ }
+{
+    if repeated(s, at, y, marks, p) {
+        return false;
+    }
+    if 1 < parts(s, at, y, marks, p) {
+        return false;
+    }
+    let v = y.service;
+    reference_within(field(s, at, y, marks, p, 0), v.release, least, most)
 }
 
 fn single_digits(
@@ -296,7 +365,7 @@ pub fn unb_formed(s: &[u8], at: usize, y: Syntax, marks: &[usize]) -> bool
     if !date_formed(s, at, y, marks, date_digits(v)) {
         return false;
     }
-    single(s, at, y, marks, 5, 1, 14)
+    single_reference(s, at, y, marks, 5, 1, 14)
 }
 
 // UNH
@@ -304,7 +373,7 @@ pub fn unh_formed(s: &[u8], at: usize, y: Syntax, marks: &[usize]) -> bool
     requires { ⌜ Marked (y .service) (now s) at (now marks) ⌝ }
     ensures { λ r. ⌜ r ≡ formedRow (row (y .version) named.Unh) (askedAt (y .service) (now (s .entry)) at) 1 ⌝ }
 {
-    if single(s, at, y, marks, 1, 1, 14) {
+    if single_reference(s, at, y, marks, 1, 1, 14) {
         return composite(s, at, y, marks, 2, 1, 6);
     }
     false
@@ -328,7 +397,7 @@ fn ush_formed(s: &[u8], at: usize, y: Syntax, marks: &[usize]) -> bool
     if !single(s, at, y, marks, 1, 1, 3) {
         return false;
     }
-    if !single(s, at, y, marks, 2, 1, 14) {
+    if !single_reference(s, at, y, marks, 2, 1, 14) {
         return false;
     }
     if !single(s, at, y, marks, 3, 1, 3) {
@@ -344,7 +413,7 @@ fn ust_formed(s: &[u8], at: usize, y: Syntax, marks: &[usize]) -> bool
     requires { ⌜ Marked (y .service) (now s) at (now marks) ⌝ }
     ensures { λ r. ⌜ r ≡ formedRow (row (y .version) named.Ust) (askedAt (y .service) (now (s .entry)) at) 1 ⌝ }
 {
-    if single(s, at, y, marks, 1, 1, 14) {
+    if single_reference(s, at, y, marks, 1, 1, 14) {
         return single_digits(s, at, y, marks, 2, 1, 6);
     }
     false
@@ -354,7 +423,7 @@ fn usy_formed(s: &[u8], at: usize, y: Syntax, marks: &[usize]) -> bool
     requires { ⌜ Marked (y .service) (now s) at (now marks) ⌝ }
     ensures { λ r. ⌜ r ≡ formedRow (row (y .version) named.Usy) (askedAt (y .service) (now (s .entry)) at) 1 ⌝ }
 {
-    if single(s, at, y, marks, 1, 1, 14) {
+    if single_reference(s, at, y, marks, 1, 1, 14) {
         return value_formed(s, at, y, marks, 2);
     }
     false
@@ -413,7 +482,7 @@ pub fn is_formed(s: &[u8], at: usize, y: Syntax, marks: &[usize], f: Shape, k: K
         Kind::Usr => value_formed(s, at, y, marks, 1),
         Kind::Ust => ust_formed(s, at, y, marks),
         Kind::Usb => single(s, at, y, marks, 1, 1, 3),
-        Kind::Usx => single(s, at, y, marks, 1, 1, 14),
+        Kind::Usx => single_reference(s, at, y, marks, 1, 1, 14),
         Kind::Usy => usy_formed(s, at, y, marks),
         Kind::Reserved => true,
         Kind::Qty => !f.repeats,

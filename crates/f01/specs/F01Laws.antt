@@ -9,7 +9,7 @@ use lib.ListN.{length}
 use lib.Seq.{slice}
 use Rattle.syntax.specs.Refusals.{refusalAt, atZero}
 use Rattle.syntax.specs.Octets.{octets, same}
-use Rattle.syntax.specs.Content.{content}
+use Rattle.syntax.specs.Content.{content, compared}
 use Rattle.syntax.specs.Opening.{begunOf}
 use Rattle.syntax.specs.Segment.{componentAt, partOf}
 use Rattle.syntax.specs.Tree.{Segment}
@@ -23,7 +23,7 @@ use Rattle.syntax.specs.declared.opening.Start.{Start}
 use Rattle.syntax.specs.declared.opening.Begun.{Begun}
 use Rattle.syntax.specs.declared.opening.Begun.the-variants.{Ready as Begins, Refused as Refuses}
 use Rattle.grammar.specs.Lists.{Snoc, nil, _▷_, joined, list}
-use Rattle.grammar.specs.Segments.{Unb, Unz, Usx, seg, elementContent, Asked, usx0020}
+use Rattle.grammar.specs.Segments.{Unb, Unz, Usx, seg, Asked, unb0020, usx0020}
 use Rattle.grammar.specs.Interchange.{Leaf, Header, Message, done, idle, shown, showHeader, showMessage, showBody}
 use Rattle.grammar.specs.Valid.{Interchange, interchange, openingIn}
 use Rattle.grammar.specs.Verdict.{Verdict, accepted, verdictOf, verdictBy, unaAt, read}
@@ -39,7 +39,7 @@ use Rattle.spans.specs.declared.span.Spanned.{Spanned as SpanAnswer}
 use Rattle.spans.specs.declared.span.Spanned.the-variants.{Run as Spans, Missing as NoSpan, Refused as NotSpanned}
 use Rattle.groups.specs.Stand.{Row}
 use Rattle.groups.specs.StandLaws.{stand-front, stand-asked}
-use Rattle.groups.specs.Groups.{Chosen, chosen, nameAt, rangeOf}
+use Rattle.groups.specs.Groups.{Chosen, chosen, refNameAt, rangeOf}
 use Rattle.groups.specs.Parts.{bodyIn}
 use Rattle.groups.specs.PartsLaws.{body-row, body-tied}
 use Rattle.groups.specs.Links.{Tie, tieIn, linkFrom}
@@ -67,12 +67,12 @@ use Rattle.ranges.specs.declared.scopes.Run.the-variants.{Of as RunOf, Refused 
 
 -- read off the component's octets
 pub referred-there : (σ : Service) (s : List ℕ) (usx a e : ℕ) {p : Place} → p ≡ componentAt σ s usx 1 0 → p ≡ Part a e
-    → some (content (σ .release) (slice a e s)) ≡ some (nameAt σ s usx 1)
-referred-there σ s usx a e q d = ap (λ (p : Place). some (content (σ .release) (partOf s p))) (sym d ∙ q)
+    → some (compared (content (σ .release) (slice a e s))) ≡ some (refNameAt σ s usx 1)
+referred-there σ s usx a e q d = ap (λ (p : Place). some (compared (content (σ .release) (partOf s p)))) (sym d ∙ q)
 
 pub referred-absent : (σ : Service) (s : List ℕ) (usx : ℕ) {p : Place} → p ≡ componentAt σ s usx 1 0 → p ≡ Absent
-    → some (content (σ .release) (slice 0 0 s)) ≡ some (nameAt σ s usx 1)
-referred-absent σ s usx q d = ap (λ (p : Place). some (content (σ .release) (partOf s p))) (sym d ∙ q)
+    → some (compared (content (σ .release) (slice 0 0 s))) ≡ some (refNameAt σ s usx 1)
+referred-absent σ s usx q d = ap (λ (p : Place). some (compared (content (σ .release) (partOf s p)))) (sym d ∙ q)
 
 -- ---- what the AUTACK refers to
 
@@ -105,7 +105,7 @@ module _ {s m : List ℕ} {y : Syntax} {c : Layout} {rows : List ℕ} (h : Holds
       (h .i, (h .read, by-parts ∙ ap (λ (o : Option (Chosen Header)). then o (λ k. then (tieIn (bodyIn (h .o)) r) (λ t. some (usxReference t)))) (header-none (sym d ∙ e))))
 
   module _ {x : Sought} {a : Range} (e : x ≡ headerFound (y .service) s c rows (octets "F01") r) (d : x ≡ HeaderAt a)
-      {l : Linked} (k : (gs : List Segment) → Row (y .service) s (c .body) gs (c .tail) → l ≡ linkFrom (y .service) (c .body) (c .body) gs r) where
+      {l : Linked} (k : (gs : List Segment) → Row (y .service) s (c .body) gs (c .tail) → l ≡ linkFrom (y .service) (c .body) (c .body) gs (compared r)) where
     by-link : referenceIn (h .i) m r ≡ then (tieIn (bodyIn (h .o)) r) (λ t. some (usxReference t))
     by-link = by-parts ∙ ap (λ (o : Option (Chosen Header)). then o (λ k. then (tieIn (bodyIn (h .o)) r) (λ t. some (usxReference t)))) (header-some (sym d ∙ e) .1)
 
@@ -114,10 +114,10 @@ module _ {s m : List ℕ} {y : Syntax} {c : Layout} {rows : List ℕ} (h : Holds
         let t : tieIn (bodyIn (h .o)) r ≡ none = tie-none (body-tied h r) (sym q ∙ k (list (showBody (bodyIn (h .o)))) (body-row h r)) in
         (h .i, (h .read, by-link ∙ ap (λ (o : Option Tie). then o (λ t. some (usxReference t))) t))
 
-    pub refers-linked : {z : Places} (w : Reference) → l ≡ LinkedAt z → referredIn s w ≡ some (nameAt (y .service) s (z .usx) 1) → Refers s m r w
+    pub refers-linked : {z : Places} (w : Reference) → l ≡ LinkedAt z → referredIn s w ≡ some (refNameAt (y .service) s (z .usx) 1) → Refers s m r w
     refers-linked {z} w q f =
         let t = tie-there z (body-tied h r) (sym q ∙ k (list (showBody (bodyIn (h .o)))) (body-row h r)) in
-        let u : nameAt (y .service) s (z .usx) 1 ≡ usx0020 (t .x) = ap (λ (v : Asked). v .text 1 0) (stand-asked (y .service) s (z .usx) (h .fits) (seg Usx (t .x)) (t .usx)) in
+        let u : refNameAt (y .service) s (z .usx) 1 ≡ usx0020 (t .x) = ap (λ (v : Asked). compared (v .text 1 0)) (stand-asked (y .service) s (z .usx) (h .fits) (seg Usx (t .x)) (t .usx)) in
         refers-some s m r (usx0020 (t .x)) (h .i) w (h .read) (by-link ∙ ap (λ (o : Option Tie). then o (λ t. some (usxReference t))) (t .tied)) (f ∙ ap some u)
 
 pub refers-missing : (s m r : List ℕ) → (i : Interchange) × ((verdictOf s ≡ accepted i) × (messageIn i m ≡ none)) → Refers s m r Missing
@@ -126,10 +126,10 @@ refers-missing s m r k = (k .0, (k .1 .0, ap (λ (o : Option Placed). then o (λ
 -- ---- whether the 0020 is that one
 
 module _ (a t : List ℕ) {w : Reference} where
-  pub referred-at : {x : Referred} {b : Bool} (o p : List ℕ) (ρ : ℕ) → w ≡ At x → content ρ o ≡ t → p ≡ slice (x .start) (x .end) a → b ≡ same (content ρ o) (content (x .release) p)
+  pub referred-at : {x : Referred} {b : Bool} (o p : List ℕ) (ρ : ℕ) → w ≡ At x → compared (content ρ o) ≡ t → p ≡ slice (x .start) (x .end) a → b ≡ same (compared (content ρ o)) (compared (content (x .release) p))
       → b ≡ isReferred (referredIn a w) t
   referred-at {x} {b} o p ρ e f g d =
-      d ∙ ap (λ (l : List ℕ). same l (content (x .release) p)) f ∙ ap (λ (l : List ℕ). same t (content (x .release) l)) g
+      d ∙ ap (λ (l : List ℕ). same l (compared (content (x .release) p))) f ∙ ap (λ (l : List ℕ). same t (compared (content (x .release) l))) g
       ∙ sym (ap (λ (w : Reference). isReferred (referredIn a w) t) e)
 
   pub referred-missing : w ≡ Missing → false ≡ isReferred (referredIn a w) t
@@ -158,7 +158,7 @@ module _ (s : List ℕ) (o : Option (List ℕ)) where
     record Whole (z : Option Span) : Type 0 where
       i : Interchange
       read : verdictOf s ≡ accepted i
-      runs : (r : List ℕ) → runIn i r ≡ cond (same (nameAt (x .syntax .service) s (x .at) 5) r) (then z (λ k. some (runOf k))) none
+      runs : (r : List ℕ) → runIn i r ≡ cond (same (refNameAt (x .syntax .service) s (x .at) 5) r) (then z (λ k. some (runOf k))) none
 
     whole : (z : Option Span) → WholeBy (x .syntax) s (x .at) z → Whole z
     whole z w = by (w .0) (w .1) (w .2) (w .3 .0) (w .3 .1)
@@ -169,21 +169,21 @@ module _ (s : List ℕ) (o : Option (List ℕ)) where
             let v : verdictOf s ≡ accepted i = verdict-by s e d a in
             let b = begins s i x (sym e ∙ d) v in
             let f = stand-front (x .syntax .service) s (x .at) (nil ▷ seg Unb u) (joined showMessage ms) (stand-front (x .syntax .service) s (x .at) (shown (idle u ms)) (nil ▷ seg Unz l) (b .stands)) in
-            let n : elementContent u 5 0 ≡ nameAt (x .syntax .service) s (x .at) 5 = sym (ap (λ (q : Asked). q .text 5 0) (stand-asked (x .syntax .service) s (x .at) (b .fits) (seg Unb u) f)) in
+            let n : unb0020 u ≡ refNameAt (x .syntax .service) s (x .at) 5 = sym (ap (λ (q : Asked). compared (q .text 5 0)) (stand-asked (x .syntax .service) s (x .at) (b .fits) (seg Unb u) f)) in
             record {
               i = i;
               read = v;
               runs = λ r.
                   ap (λ (t : List ℕ). cond (same t r) (then (spanAt (serviceIn i) (openingIn (unaAt s) .at) u ms) (λ k. some (runOf k))) none) n
-                  ∙ ap (λ (o : Option Span). cond (same (nameAt (x .syntax .service) s (x .at) 5) r) (then o (λ k. some (runOf k))) none)
+                  ∙ ap (λ (o : Option Span). cond (same (refNameAt (x .syntax .service) s (x .at) 5) r) (then o (λ k. some (runOf k))) none)
                   (ap (λ (σ : Service). spanAt σ (openingIn (unaAt s) .at) u ms) (b .service) ∙ ap (λ (p : ℕ). spanAt (x .syntax .service) p u ms) (b .at) ∙ k);
             }
 
     asked-run : {z : Option Span} → Whole z → answeredBy (verdictOf s) asks
-        ≡ orMissing (then o (λ r. cond (same (nameAt (x .syntax .service) s (x .at) 5) r) (then z (λ k. some (runOf k))) none))
+        ≡ orMissing (then o (λ r. cond (same (refNameAt (x .syntax .service) s (x .at) 5) r) (then z (λ k. some (runOf k))) none))
     asked-run {z} w = ap (λ (v : Verdict). answeredBy v asks) (w .read) ∙ by o
       where
-        by : (o : Option (List ℕ)) → orMissing (then o (runIn (w .i))) ≡ orMissing (then o (λ r. cond (same (nameAt (x .syntax .service) s (x .at) 5) r) (then z (λ k. some (runOf k))) none))
+        by : (o : Option (List ℕ)) → orMissing (then o (runIn (w .i))) ≡ orMissing (then o (λ r. cond (same (refNameAt (x .syntax .service) s (x .at) 5) r) (then z (λ k. some (runOf k))) none))
         by none = refl
         by (some r) = ap orMissing (w .runs r)
 
@@ -191,20 +191,20 @@ module _ (s : List ℕ) (o : Option (List ℕ)) where
     run-none {f} j q n =
         ap RunRefused n ∙ sym (ap runAs (asked-run (whole none (subst (SpanIs (x .syntax) s (x .at)) j q)) ∙ by o))
       where
-        by : (o : Option (List ℕ)) → orMissing {A = Run} (then o (λ r. cond (same (nameAt (x .syntax .service) s (x .at) 5) r) none none)) ≡ refusedAs (atZero 13)
+        by : (o : Option (List ℕ)) → orMissing {A = Run} (then o (λ r. cond (same (refNameAt (x .syntax .service) s (x .at) 5) r) none none)) ≡ refusedAs (atZero 13)
         by none = refl
-        by (some r) = each (same (nameAt (x .syntax .service) s (x .at) 5) r)
+        by (some r) = each (same (refNameAt (x .syntax .service) s (x .at) 5) r)
           where
             each : (b : Bool) → orMissing {A = Run} (cond b none none) ≡ refusedAs (atZero 13)
             each true = refl
             each false = refl
 
-    module _ {z : Spanned} {k : SpanAnswer} (j : k ≡ Spans z) (q : SpanIs (x .syntax) s (x .at) k) {b : Bool} (t : b ≡ isReferred o (nameAt (x .syntax .service) s (x .at) 5)) where
+    module _ {z : Spanned} {k : SpanAnswer} (j : k ≡ Spans z) (q : SpanIs (x .syntax) s (x .at) k) {b : Bool} (t : b ≡ isReferred o (refNameAt (x .syntax .service) s (x .at) 5)) where
       spanned : SpanIs (x .syntax) s (x .at) (Spans z)
       spanned = subst (SpanIs (x .syntax) s (x .at)) j q
 
-      by-test : (o : Option (List ℕ)) → orMissing (then o (λ r. cond (same (nameAt (x .syntax .service) s (x .at) 5) r) (some (run (z .start) (z .end))) none))
-          ≡ orMissing (cond (isReferred o (nameAt (x .syntax .service) s (x .at) 5)) (some (run (z .start) (z .end))) none)
+      by-test : (o : Option (List ℕ)) → orMissing (then o (λ r. cond (same (refNameAt (x .syntax .service) s (x .at) 5) r) (some (run (z .start) (z .end))) none))
+          ≡ orMissing (cond (isReferred o (refNameAt (x .syntax .service) s (x .at) 5)) (some (run (z .start) (z .end))) none)
       by-test none = refl
       by-test (some r) = refl
 

@@ -6,16 +6,16 @@ use mathlib.Core.List.{List}
 use mathlib.Core.Option.{Option, none, some}
 use lib.Seq.{slice}
 use Rattle.syntax.specs.Octets.{same}
-use Rattle.syntax.specs.Content.{content}
+use Rattle.syntax.specs.Content.{content, compared}
 use Rattle.grammar.specs.Valid.{Interchange}
 use Rattle.grammar.specs.Verdict.{accepted, refusedWith, verdictOf}
 use Rattle.f01.specs.F01.{referenceIn}
 use Rattle.f01.specs.declared.Reference.{Reference}
 use Rattle.f01.specs.declared.Reference.the-variants.{At, Missing, Refused}
 
--- the 0020 that is referred to, read off the octets a of the AUTACK's interchange
+-- the 0020 that is referred to, as it is compared, read off the octets a of the AUTACK's interchange
 abbrev pub referredIn : List ℕ → Reference → Option (List ℕ)
-referredIn a (At x) = some (content (x .release) (slice (x .start) (x .end) a))
+referredIn a (At x) = some (compared (content (x .release) (slice (x .start) (x .end) a)))
 referredIn a Missing = none
 referredIn a (Refused f) = none
 

@@ -10,7 +10,7 @@ ghost use denote.Ref.{ptr};
 ghost use Rattle.syntax.specs.Service.{fit};
 ghost use Rattle.syntax.specs.Classes.{Table};
 ghost use Rattle.grammar.specs.Verdict.{verdictOf};
-ghost use Rattle.groups.specs.Groups.{nameAt};
+ghost use Rattle.groups.specs.Groups.{refNameAt};
 ghost use Rattle.groups.specs.Calls.{Holds, answeredBy, then};
 ghost use Rattle.f01.specs.F01.{runIn, f01Of};
 ghost use Rattle.f01.specs.Referring.{referredIn, Refers, isReferred};
@@ -57,7 +57,7 @@ pub enum Reference {
 // The 0020 of the USX that stands at `usx`.
 fn usx_reference(s: &[u8], t: &[u8; 256], y: Syntax, usx: usize) -> Reference
     requires { ⌜ Table y (now t) ⌝ }
-    ensures { λ r. ⌜ referredIn (now (s .entry)) r ≡ some (nameAt (y .service) (now (s .entry)) usx 1) ⌝ }
+    ensures { λ r. ⌜ referredIn (now (s .entry)) r ≡ some (refNameAt (y .service) (now (s .entry)) usx 1) ⌝ }
 {
     let v = y.service;
     match component_span(s, usx, t, y, 1, 0) {
@@ -111,7 +111,7 @@ fn reference_named(s: &[u8], message: &[u8], header: &[u8]) -> Reference
 // Whether the 0020 of the UNB at `from` is the one that the AUTACK in `autack` refers to.
 fn is_referred(s: &[u8], from: usize, t: &[u8; 256], y: Syntax, autack: &[u8], r: Reference) -> bool
     requires { ⌜ Table y (now t) ⌝ }
-    ensures { λ b. ⌜ b ≡ isReferred (referredIn (now (autack .entry)) r) (nameAt (y .service) (now (s .entry)) from 5) ⌝ }
+    ensures { λ b. ⌜ b ≡ isReferred (referredIn (now (autack .entry)) r) (refNameAt (y .service) (now (s .entry)) from 5) ⌝ }
 {
     match r {
         Reference::At(x) => {

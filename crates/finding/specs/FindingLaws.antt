@@ -8,7 +8,8 @@ use mathlib.Core.Option.{none, some}
 use lib.ListN.{length, take, drop, getD, set, length-set}
 use lib.Seq.{slice, paste, paste-zero, paste-suc}
 use Rattle.syntax.specs.Octets.{same}
-use Rattle.syntax.specs.Content.{content}
+use Rattle.syntax.specs.BareLaws.{compared-twice}
+use Rattle.syntax.specs.Content.{content, compared}
 use Rattle.syntax.specs.declared.Service.{Service}
 use Rattle.syntax.specs.declared.Syntax.{Syntax}
 use Rattle.grammar.specs.Lists.{Snoc, _▷_}
@@ -146,8 +147,8 @@ keeping-end {rows} {here} {left} {i} n m l k =
 -- ---- whether a section closed the message
 
 module _ (ρ : ℕ) (s r : List ℕ) (c : Layout) {d : Bool} where
-  pub named-closed : {p : List ℕ} {b : Bool} → d ≡ true → p ≡ slice (c .reference .start) (c .reference .end) s → b ≡ same (content ρ p) r → b ≡ namedBy ρ s d c r
-  named-closed e q k = k ∙ ap (λ (x : List ℕ). same (content ρ x) r) q ∙ sym (ap (λ (f : Bool). namedBy ρ s f c r) e)
+  pub named-closed : {p : List ℕ} {b : Bool} → d ≡ true → p ≡ slice (c .reference .start) (c .reference .end) s → b ≡ same (compared (content ρ p)) r → b ≡ namedBy ρ s d c r
+  named-closed e q k = k ∙ ap (λ (x : List ℕ). same (compared (content ρ x)) r) q ∙ sym (ap (λ (f : Bool). namedBy ρ s f c r) e)
 
   pub named-open : d ≡ false → false ≡ namedBy ρ s d c r
   named-open e = sym (ap (λ (f : Bool). namedBy ρ s f c r) e)
@@ -168,3 +169,10 @@ seeks-eq σ s p z r {k} {f} {rows} {left} e h q =
 pub seeks-start : {y : Syntax} {s : List ℕ} {p : ℕ} {x : State} {h l b : List ℕ} {i : ℕ} (w : Walking y s p x h l b i) (r : List ℕ) → x ≡ unreadAs
     → placedAt (y .service) p (w .tree) r ≡ none
 seeks-start {y} {p = p} w r e = ap (λ (z : Reading). placedAt (y .service) p z r) (unread-start w e)
+
+-- ---- the reference as it was given, and its bare part
+
+pub found-bare : (y : Syntax) (s : List ℕ) (from ρ : ℕ) (x z : List ℕ) (f : Found) (rows : List ℕ) → content ρ z ≡ compared (content ρ x)
+    → FoundIs y s from (compared (content ρ z)) f rows → FoundIs y s from (compared (content ρ x)) f rows
+found-bare y s from ρ x z f rows e q =
+    subst (λ (r : List ℕ). FoundIs y s from r f rows) (ap compared e ∙ compared-twice (content ρ x)) q

@@ -10,6 +10,7 @@ ghost use Rattle.walk.specs.Runs.{Fresh};
 ghost use Rattle.finding.specs.Finding.{namedBy, FoundIs};
 use syntax::Breach;
 use syntax::Syntax;
+use syntax::content::bare;
 use syntax::content::part;
 use syntax::content::same_reference;
 use walk::sections::Layout;
@@ -159,7 +160,8 @@ fn find_large(
     )
 }
 
-// The message with the 0062 `reference`, read under the release `other` (32: none), of an interchange whose UNB stands at `from`.
+// The message with the 0062 `reference`, read under the release `other` (32: none), of an interchange whose UNB stands at `from`. However many spaces stand
+// at the reference's end, they are passed over once.
 pub fn find(
     s: &[u8],
     from: usize,
@@ -174,8 +176,9 @@ pub fn find(
     requires { ⌜ (length (now s) ≤ 65535) × (length (now rows) ≡ 18) ⌝ }
     ensures { λ r. ⌜ FoundIs y (now (s .entry)) from (compared (content other (now (reference .entry)))) r (now (rows .exit)) ⌝ }
 {
+    let bared = bare(reference, other);
     if s.len() <= 2048 {
-        return find_small(s, from, t, y, reference, other, rows);
+        return find_small(s, from, t, y, bared, other, rows);
     }
-    find_large(s, from, t, y, reference, other, rows)
+    find_large(s, from, t, y, bared, other, rows)
 }

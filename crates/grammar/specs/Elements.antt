@@ -5,13 +5,13 @@ use mathlib.Core.List.{List, [], _∷_}
 use lib.Dec.{leb}
 use lib.ListN.{length}
 use Rattle.syntax.specs.Octets.{octets, same, within}
-use Rattle.syntax.specs.Content.{allDigits}
+use Rattle.syntax.specs.Content.{allDigits, blank}
 use Rattle.syntax.specs.declared.Version.{Version}
 use Rattle.syntax.specs.declared.Version.the-variants.{Three, Four}
 use Rattle.grammar.specs.Segments.{Name, Unb, Unh, Unt, Unz, Ush, Usa, Usc, Usr, Ust, Usb, Usx, Usy, Kind, Named, Reserved, Free, kindIn, tags, Asked}
 use Rattle.grammar.specs.Loads.{controlRight}
 
--- a component's length, least and most: of any text, of digits, of a reference. Where no length is printed, a text or a reference that is not empty
+-- a component's length, least and most: of any text, of digits, of a reference, whose spaces count. Where no length is printed, a text or a reference that is not empty
 pub data Range : Type 0 where
   anyText digits reference : ℕ → ℕ → Range
   notEmpty notEmptyReference : Range
@@ -58,13 +58,14 @@ row v Usx = simple (reference 1 14 ∷ []) ∷ []
 -- | USY | 0534 1..14; 0563 1..3 : 0560 0..512 |
 row v Usy = simple (reference 1 14 ∷ []) ∷ valueRow v ∷ []
 
--- "lengths of content"; absent is empty, and "missing or malformed" where a length is not printed
+-- "lengths of content"; absent is empty, and "missing or malformed" where a length is not printed. Of a reference: "one made only of spaces is malformed (8)",
+-- and an empty one has no octet that is none
 abbrev pub inRange : Range → List ℕ → Bool
 inRange (anyText a e) s = within a e (length s)
-inRange (reference a e) s = within a e (length s)
+inRange (reference a e) s = within a e (length s) && not (blank s)
 inRange (digits a e) s = allDigits s && within a e (length s)
 inRange notEmpty s = leb 1 (length s)
-inRange notEmptyReference s = leb 1 (length s)
+inRange notEmptyReference s = not (blank s)
 
 -- the components from c on of the element at position p
 abbrev pub inRanges : List Range → Asked → ℕ → ℕ → Bool

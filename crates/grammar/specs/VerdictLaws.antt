@@ -8,6 +8,7 @@ use mathlib.Core.Option.{Option, none, some}
 use mathlib.Core.Path.{_≡_, refl, ap, sym, _∙_, subst}
 use lib.Dec.{T}
 use lib.ListN.{length, drop}
+use Rattle.syntax.specs.Content.{compared}
 use Rattle.syntax.specs.Octets.{within}
 use Rattle.syntax.specs.Opening.{begunOf}
 use Rattle.syntax.specs.Tree as syntax
@@ -147,8 +148,8 @@ totals-of : (v : Interchange) (r : List ℕ) → totalsBy (accepted v) r ≡ tot
 totals-of (interchange n u ms z) r = refl
 
 -- the totals given back are those of the reading's messages
-pub totals-read : (s : List ℕ) (v : Interchange) (r : List ℕ) → Valid v → printInterchange v ≡ s → totalsOf s r ≡ totalsIn (messagesIn v) r
-totals-read s v r b e = ap (λ (d : Verdict). totalsBy d r) (verdict-exact s v .1 (b, e)) ∙ totals-of v r
+pub totals-read : (s : List ℕ) (v : Interchange) (r : List ℕ) → Valid v → printInterchange v ≡ s → totalsOf s r ≡ totalsIn (messagesIn v) (compared r)
+totals-read s v r b e = ap (λ (d : Verdict). totalsBy d (compared r)) (verdict-exact s v .1 (b, e)) ∙ totals-of v (compared r)
 
 -- a refused input is the printing of no valid interchange
 pub refused-none : (s : List ℕ) (f : Refusal) → verdictOf s ≡ refusedWith f → (t : Interchange) → Valid t → printInterchange t ≡ s → ⊥

@@ -7,7 +7,8 @@ use mathlib.Core.Option.{none, some, Option·none-ne-some}
 use mathlib.Core.Bool.{Bool, true, false, cond}
 use lib.Dec.{T}
 use lib.ListN.{drop}
-use Rattle.syntax.specs.Content.{content}
+use Rattle.syntax.specs.ContentLaws.{plain-content}
+use Rattle.syntax.specs.Content.{content, compared}
 use Rattle.syntax.specs.Octets.{same}
 use Rattle.syntax.specs.Service.{fit}
 use Rattle.syntax.specs.Opening.{begunOf}
@@ -33,7 +34,6 @@ use Rattle.grammar.specs.PlacingLaws.{regroup}
 use Rattle.grammar.specs.PairLaws.{few-headers, few-tails}
 use Rattle.grammar.specs.Places.{wide, headersIn, trailersIn}
 use Rattle.grammar.specs.Named.{placed, placedIn}
-use Rattle.walk.specs.SectionLaws.{plain-content}
 use Rattle.walk.specs.RunLaws.{verdict-by}
 use Rattle.walk.specs.Runs.{answerFrom}
 use Rattle.walk.specs.declared.sections.Layout.{Layout}
@@ -125,35 +125,35 @@ module _ (s m : List ℕ) {g : Begun} where
   named-refused t rows e d k = ap (verdictBy s) (sym e ∙ d) ∙ ap refusedWith (sym k)
 
   module _ {x : Start} (e : g ≡ begunOf s) (d : g ≡ Begins x) where
-    found-as : (rows : List ℕ) {r f : Found} → r ≡ f → FoundIs (x .syntax) s (x .at) m r rows → FoundIs (x .syntax) s (x .at) m f rows
-    found-as rows k q = subst (λ (f : Found). FoundIs (x .syntax) s (x .at) m f rows) k q
+    found-as : (rows : List ℕ) {r f : Found} → r ≡ f → FoundIs (x .syntax) s (x .at) (compared m) r rows → FoundIs (x .syntax) s (x .at) (compared m) f rows
+    found-as rows k q = subst (λ (f : Found). FoundIs (x .syntax) s (x .at) (compared m) f rows) k q
 
-    pub named-not-read : (t rows : List ℕ) {r : Found} {f : Breach} {g : Refusal} → r ≡ NotRead f → FoundIs (x .syntax) s (x .at) m r rows
+    pub named-not-read : (t rows : List ℕ) {r : Found} {f : Breach} {g : Refusal} → r ≡ NotRead f → FoundIs (x .syntax) s (x .at) (compared m) r rows
         → g ≡ refusalAt s (f .number) (f .place) → NamedIs s m (NotHere g) t rows
     named-not-read t rows k q h = verdict-by s e d (found-as rows k q) ∙ ap refusedWith (sym h)
 
-    pub named-missing : (t rows : List ℕ) {r : Found} → r ≡ Missing → FoundIs (x .syntax) s (x .at) m r rows → NamedIs s m NoneSuch t rows
+    pub named-missing : (t rows : List ℕ) {r : Found} → r ≡ Missing → FoundIs (x .syntax) s (x .at) (compared m) r rows → NamedIs s m NoneSuch t rows
     named-missing t rows j w =
-        let q : WholeBy Missing (x .syntax) s (x .at) m rows = found-as rows j w in
+        let q : WholeBy Missing (x .syntax) s (x .at) (compared m) rows = found-as rows j w in
         let i : Interchange = interchange (unaAt s) (q .0) (q .1) (q .2) in
         let v : verdictOf s ≡ accepted i = verdict-by s e d (q .3 .0) in
         let b = begins s i x (sym e ∙ d) v in
-        (i, (v, ap (λ (z : Service). placedIn z (openingIn (unaAt s) .at) (q .0) (q .1) m) (b .service) ∙ ap (λ (n : ℕ). placedIn (x .syntax .service) n (q .0) (q .1) m) (b .at) ∙ q .3 .1))
+        (i, (v, ap (λ (z : Service). placedIn z (openingIn (unaAt s) .at) (q .0) (q .1) (compared m)) (b .service) ∙ ap (λ (n : ℕ). placedIn (x .syntax .service) n (q .0) (q .1) (compared m)) (b .at) ∙ q .3 .1))
 
-    pub named-here : (t rows : List ℕ) {c : Layout} {r : Found} → Table (x .syntax) t → r ≡ There c → FoundIs (x .syntax) s (x .at) m r rows
+    pub named-here : (t rows : List ℕ) {c : Layout} {r : Found} → Table (x .syntax) t → r ≡ There c → FoundIs (x .syntax) s (x .at) (compared m) r rows
         → NamedIs s m (Here (record { syntax = x .syntax; layout = c })) t rows
     named-here t rows {c} w j v =
-        let q : WholeBy (There c) (x .syntax) s (x .at) m rows = found-as rows j v in
+        let q : WholeBy (There c) (x .syntax) s (x .at) (compared m) rows = found-as rows j v in
         (w, by (q .0) (q .1) (q .2) (q .3 .0) (q .3 .1))
       where
         by : (u : Leaf) (ms : Snoc Message) (z : Leaf) → answerFrom (x .syntax) s (x .at) ≡ read (done u ms z)
-            → SeeksBy (There c) (x .syntax .service) s (x .at) (done u ms z) m rows → Holds s m (x .syntax) c rows
+            → SeeksBy (There c) (x .syntax .service) s (x .at) (done u ms z) (compared m) rows → Holds s m (x .syntax) c rows
         by u ms z a k =
             let i : Interchange = interchange (unaAt s) u ms z in
             let v : verdictOf s ≡ accepted i = verdict-by s e d a in
             let b = begins s i x (sym e ∙ d) v in
-            let h : size (headersIn (k .0)) ≤ 9 = few-headers (k .0) (k .1) (placed-every (x .syntax .service) (x .at) u m okMessage ms (k .3 .0) (b .valid .inOrder .0)) in
-            let j : size (trailersIn (k .0)) ≤ size (headersIn (k .0)) = few-tails (k .0) (k .1) (placed-every (x .syntax .service) (x .at) u m refsMessage ms (k .3 .0) (b .valid .references .1 .0)) in
+            let h : size (headersIn (k .0)) ≤ 9 = few-headers (k .0) (k .1) (placed-every (x .syntax .service) (x .at) u (compared m) okMessage ms (k .3 .0) (b .valid .inOrder .0)) in
+            let j : size (trailersIn (k .0)) ≤ size (headersIn (k .0)) = few-tails (k .0) (k .1) (placed-every (x .syntax .service) (x .at) u (compared m) refsMessage ms (k .3 .0) (b .valid .references .1 .0)) in
             record {
               i = i;
               o = k .0;
@@ -163,10 +163,10 @@ module _ (s m : List ℕ) {g : Begun} where
               settled = b .settled;
               service = b .service;
               fits = b .fits;
-              named = ap (λ (z : Service). placedIn z (openingIn (unaAt s) .at) u ms m) (b .service) ∙ ap (λ (n : ℕ). placedIn (x .syntax .service) n u ms m) (b .at) ∙ k .3 .0;
+              named = ap (λ (z : Service). placedIn z (openingIn (unaAt s) .at) u ms (compared m)) (b .service) ∙ ap (λ (n : ℕ). placedIn (x .syntax .service) n u ms (compared m)) (b .at) ∙ k .3 .0;
               laid = k .3 .1;
-              stands = placed-stands (x .syntax .service) (x .at) u m s ms (k .3 .0) (stand-front (x .syntax .service) s (x .at) (shown (idle u ms)) (nil ▷ seg Unz z) (b .stands));
-              ordered = placed-every (x .syntax .service) (x .at) u m okMessage ms (k .3 .0) (b .valid .inOrder .0);
+              stands = placed-stands (x .syntax .service) (x .at) u (compared m) s ms (k .3 .0) (stand-front (x .syntax .service) s (x .at) (shown (idle u ms)) (nil ▷ seg Unz z) (b .stands));
+              ordered = placed-every (x .syntax .service) (x .at) u (compared m) okMessage ms (k .3 .0) (b .valid .inOrder .0);
               few = (omega (arith, h, k .3 .1 .headers), omega (arith, h, j, k .3 .1 .trailers), k .3 .1 .starts .long);
             }
 

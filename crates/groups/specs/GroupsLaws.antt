@@ -7,8 +7,9 @@ use mathlib.Core.Option.{some}
 use mathlib.Core.Bool.{Bool, true, false, cond}
 use lib.Dec.{T}
 use lib.ListN.{getD}
+use Rattle.syntax.specs.ContentLaws.{plain-content}
 use Rattle.syntax.specs.Octets.{same}
-use Rattle.syntax.specs.Content.{content}
+use Rattle.syntax.specs.Content.{content, compared}
 use Rattle.syntax.specs.Service.{fit}
 use Rattle.syntax.specs.Tree.{Segment}
 use Rattle.syntax.specs.declared.Service.{Service}
@@ -24,9 +25,8 @@ use Rattle.grammar.specs.PlacesLaws.{wide-join}
 use Rattle.message.specs.Heads.{upto}
 use Rattle.groups.specs.Stand.{Stand}
 use Rattle.groups.specs.StandLaws.{stand-front, stand-back, stand-asked}
-use Rattle.groups.specs.Groups.{chosen, chosenBy, nameAt, soughtIn, rangeOf, headersAs, trailersAs}
+use Rattle.groups.specs.Groups.{chosen, chosenBy, nameAt, refNameAt, soughtIn, rangeOf, headersAs, trailersAs}
 use Rattle.groups.specs.declared.named.Groups.{Groups}
-use Rattle.walk.specs.SectionLaws.{plain-content}
 use Rattle.walk.specs.declared.sections.Layout.{Layout}
 use Rattle.groups.specs.declared.named.Sought.{Sought}
 use Rattle.groups.specs.declared.named.Sought.the-variants.{At, Nowhere}
@@ -40,7 +40,7 @@ pub record Seeking (σ : Service) (s rows : List ℕ) (f e : ℕ) (r : List ℕ)
   pub same : soughtIn σ s rows f e r n z ≡ soughtIn σ s rows f e r i end
 
 module _ {σ : Service} {s rows : List ℕ} {f e : ℕ} {r : List ℕ} {n z i end : ℕ} where
-  pub seeking-on : (k start : ℕ) → Seeking σ s rows f e r n z i end → 0 < i → k ≡ i - 1 → start ≡ getD rows (f + k) 0 → same (nameAt σ s start e) r ≡ false
+  pub seeking-on : (k start : ℕ) → Seeking σ s rows f e r n z i end → 0 < i → k ≡ i - 1 → start ≡ getD rows (f + k) 0 → same (refNameAt σ s start e) r ≡ false
       → Seeking σ s rows f e r n z k start
   seeking-on k start x l a b c = record { room = x .room; fewer = omega (arith, x .fewer, a); same = by i l a (x .same) }
     where
@@ -49,10 +49,10 @@ module _ {σ : Service} {s rows : List ℕ} {f e : ℕ} {r : List ℕ} {n z i en
       by (suc i) l a d =
           let q : i ≡ k = omega (arith, a) in
           let g : getD rows (f + i) 0 ≡ start = ap (λ (j : ℕ). getD rows (f + j) 0) q ∙ sym b in
-          d ∙ ap (λ (j : ℕ). cond (same (nameAt σ s j e) r) (At (record { start = j; end = end })) (soughtIn σ s rows f e r i j)) g
+          d ∙ ap (λ (j : ℕ). cond (same (refNameAt σ s j e) r) (At (record { start = j; end = end })) (soughtIn σ s rows f e r i j)) g
           ∙ ap (λ (v : Bool). cond v (At (record { start = start; end = end })) (soughtIn σ s rows f e r i start)) c ∙ ap (λ (j : ℕ). soughtIn σ s rows f e r j start) q
 
-  pub seeking-hit : (k start : ℕ) → Seeking σ s rows f e r n z i end → 0 < i → k ≡ i - 1 → start ≡ getD rows (f + k) 0 → same (nameAt σ s start e) r ≡ true
+  pub seeking-hit : (k start : ℕ) → Seeking σ s rows f e r n z i end → 0 < i → k ≡ i - 1 → start ≡ getD rows (f + k) 0 → same (refNameAt σ s start e) r ≡ true
       → At (record { start = start; end = end }) ≡ soughtIn σ s rows f e r n z
   seeking-hit k start x l a b c = by i l a (x .same)
     where
@@ -61,7 +61,7 @@ module _ {σ : Service} {s rows : List ℕ} {f e : ℕ} {r : List ℕ} {n z i en
       by (suc i) l a d =
           let q : i ≡ k = omega (arith, a) in
           let g : getD rows (f + i) 0 ≡ start = ap (λ (j : ℕ). getD rows (f + j) 0) q ∙ sym b in
-          sym (d ∙ ap (λ (j : ℕ). cond (same (nameAt σ s j e) r) (At (record { start = j; end = end })) (soughtIn σ s rows f e r i j)) g
+          sym (d ∙ ap (λ (j : ℕ). cond (same (refNameAt σ s j e) r) (At (record { start = j; end = end })) (soughtIn σ s rows f e r i j)) g
           ∙ ap (λ (v : Bool). cond v (At (record { start = start; end = end })) (soughtIn σ s rows f e r i start)) c)
 
   pub seeking-end : Seeking σ s rows f e r n z i end → i ≤ 0 → Nowhere ≡ soughtIn σ s rows f e r n z
@@ -94,14 +94,14 @@ chosen-among {A} name r (xs ▷ x) {ys} {a} e = by (same (name x) r) refl (λ d.
 
 -- ---- the groups of a message, by its layout
 
-pub groups-sought : (σ : Service) (s rows r : List ℕ) {g k : Groups} {x : Sought} → x ≡ soughtIn σ s rows (g .first) (g .element) r (g .count) (g .end) → g ≡ k
-    → x ≡ soughtIn σ s rows (k .first) (k .element) r (k .count) (k .end)
-groups-sought σ s rows r e d = e ∙ ap (λ (g : Groups). soughtIn σ s rows (g .first) (g .element) r (g .count) (g .end)) d
+pub groups-sought : (σ : Service) (s rows r : List ℕ) {g k : Groups} {x : Sought} → x ≡ soughtIn σ s rows (g .first) (g .element) (compared r) (g .count) (g .end) → g ≡ k
+    → x ≡ soughtIn σ s rows (k .first) (k .element) (compared r) (k .count) (k .end)
+groups-sought σ s rows r e d = e ∙ ap (λ (g : Groups). soughtIn σ s rows (g .first) (g .element) (compared r) (g .count) (g .end)) d
 
 -- a reference that is content already
-pub sought-plain : (σ : Service) (s rows r : List ℕ) (g : Groups) {x : Sought} → x ≡ soughtIn σ s rows (g .first) (g .element) (content 32 r) (g .count) (g .end)
-    → x ≡ soughtIn σ s rows (g .first) (g .element) r (g .count) (g .end)
-sought-plain σ s rows r g d = d ∙ ap (λ (t : List ℕ). soughtIn σ s rows (g .first) (g .element) t (g .count) (g .end)) (plain-content r)
+pub sought-plain : (σ : Service) (s rows r : List ℕ) (g : Groups) {x : Sought} → x ≡ soughtIn σ s rows (g .first) (g .element) (compared (content 32 r)) (g .count) (g .end)
+    → x ≡ soughtIn σ s rows (g .first) (g .element) (compared r) (g .count) (g .end)
+sought-plain σ s rows r g d = d ∙ ap (λ (t : List ℕ). soughtIn σ s rows (g .first) (g .element) (compared t) (g .count) (g .end)) (plain-content r)
 
 pub trailers-room : (c : Layout) {g : Groups} → g ≡ trailersAs c → c .trailers ≤ 9 → g .first + g .count ≤ 18
 trailers-room c e l = subst (λ (g : Groups). g .first + g .count ≤ 18) (sym e) (omega (arith, l))
@@ -115,7 +115,7 @@ module _ {A : Type 0} (show : A → Snoc Segment) (name : A → List ℕ) (σ : 
   -- the octets give each group's reference
   abbrev pub Names : Snoc A → Type 0
   Names nil = Unit {0}
-  Names (xs ▷ a) = Names xs × (nameAt σ s (p + wide σ (joined show xs)) e ≡ name a)
+  Names (xs ▷ a) = Names xs × (refNameAt σ s (p + wide σ (joined show xs)) e ≡ name a)
 
   pub sought-chosen : (xs : Snoc A) (end : ℕ) → upto (size xs) (λ (i : ℕ). getD rows (f + i) 0) ≡ startsOf show σ p xs → end ≡ p + wide σ (joined show xs) → Names xs
       → soughtIn σ s rows f e r (size xs) end ≡ rangeOf show σ p (chosenBy name xs r)
@@ -123,7 +123,7 @@ module _ {A : Type 0} (show : A → Snoc Segment) (name : A → List ℕ) (σ : 
   sought-chosen (xs ▷ x) end a b n =
       let g : getD rows (f + size xs) 0 ≡ p + wide σ (joined show xs) = last-of a in
       let z : end ≡ p + wide σ (joined show xs) + wide σ (show x) = omega (arith, b, wide-join σ (joined show xs) (show x)) in
-      ap (λ (j : ℕ). cond (same (nameAt σ s j e) r) (At (record { start = j; end = end })) (soughtIn σ s rows f e r (size xs) j)) g
+      ap (λ (j : ℕ). cond (same (refNameAt σ s j e) r) (At (record { start = j; end = end })) (soughtIn σ s rows f e r (size xs) j)) g
       ∙ ap (λ (t : List ℕ). cond (same t r) (At (record { start = p + wide σ (joined show xs); end = end })) (soughtIn σ s rows f e r (size xs) (p + wide σ (joined show xs)))) (n .1)
       ∙ by (same (name x) r) z (sought-chosen xs (p + wide σ (joined show xs)) (first-of a) refl (n .0))
     where
@@ -135,7 +135,7 @@ module _ {A : Type 0} (show : A → Snoc Segment) (name : A → List ℕ) (σ : 
       by false z k = k
 
   -- where the groups stand, one behind the other, it is enough to know where a group's reference is in its own octets
-  pub names-stand : ((q : ℕ) (a : A) → Stand σ s q (show a) → nameAt σ s q e ≡ name a) → (xs : Snoc A) → Stand σ s p (joined show xs) → Names xs
+  pub names-stand : ((q : ℕ) (a : A) → Stand σ s q (show a) → refNameAt σ s q e ≡ name a) → (xs : Snoc A) → Stand σ s p (joined show xs) → Names xs
   names-stand h nil x = tt
   names-stand h (xs ▷ a) x =
       (names-stand h xs (stand-front σ s p (joined show xs) (show a) x), h (p + wide σ (joined show xs)) a (stand-back σ s p (joined show xs) (show a) x))
@@ -156,12 +156,16 @@ module _ (σ : Service) (fits : T (fit σ)) (s : List ℕ) (q : ℕ) where
       let k : d ≡ c = cc in
       rw k (stand-front σ s q (nil ▷ seg Ush c) (each (seg Usa) us) (stand-front σ s q (nil ▷ seg Ush c +++ each (seg Usa) us) (joined showCertificate cs) x))
 
-  pub header-named : (h : Header) → Stand σ s q (showHeader h) → nameAt σ s q 2 ≡ refH h
-  header-named (header c us cs) x = ap (λ (a : Asked). a .text 2 0) (stand-asked σ s q fits (seg Ush c) (header-stands (header c us cs) x c us cs refl))
+  pub header-named : (h : Header) → Stand σ s q (showHeader h) → refNameAt σ s q 2 ≡ refH h
+  header-named (header c us cs) x = ap (λ (a : Asked). compared (a .text 2 0)) (stand-asked σ s q fits (seg Ush c) (header-stands (header c us cs) x c us cs refl))
+
+  -- as it is written
+  pub header-written : (c : _) (us : _) (cs : _) → Stand σ s q (showHeader (header c us cs)) → nameAt σ s q 2 ≡ elementContent c 2 0
+  header-written c us cs x = ap (λ (a : Asked). a .text 2 0) (stand-asked σ s q fits (seg Ush c) (header-stands (header c us cs) x c us cs refl))
 
   -- its scope code
   pub header-scope : (c : _) (us : _) (cs : _) → Stand σ s q (showHeader (header c us cs)) → nameAt σ s q 3 ≡ elementContent c 3 0
   header-scope c us cs x = ap (λ (a : Asked). a .text 3 0) (stand-asked σ s q fits (seg Ush c) (header-stands (header c us cs) x c us cs refl))
 
-  pub trailer-named : (t : Trailer) → Stand σ s q (showTrailer t) → nameAt σ s q 1 ≡ refT t
-  trailer-named (trailer c o) x = ap (λ (a : Asked). a .text 1 0) (stand-asked σ s q fits (seg Ust c) (stand-front σ s q (nil ▷ seg Ust c) (showOption (seg Usr) o) x))
+  pub trailer-named : (t : Trailer) → Stand σ s q (showTrailer t) → refNameAt σ s q 1 ≡ refT t
+  trailer-named (trailer c o) x = ap (λ (a : Asked). compared (a .text 1 0)) (stand-asked σ s q fits (seg Ust c) (stand-front σ s q (nil ▷ seg Ust c) (showOption (seg Usr) o) x))

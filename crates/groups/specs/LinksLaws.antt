@@ -8,9 +8,11 @@ use mathlib.Core.Bool.{Bool, true, false, cond, _&&_}
 use lib.Dec.{T, lit≤}
 use lib.ListN.{length, length-append}
 use lib.Seq.{slice}
+use Rattle.syntax.specs.ContentLaws.{plain-content}
 use Rattle.syntax.specs.Octets.{octets, same}
 use Rattle.syntax.specs.Service.{fit}
-use Rattle.syntax.specs.Content.{content}
+use Rattle.syntax.specs.BareLaws.{compared-twice}
+use Rattle.syntax.specs.Content.{content, compared}
 use Rattle.syntax.specs.Cutting.{endAt}
 use Rattle.syntax.specs.Segment.{componentAt, partOf}
 use Rattle.syntax.specs.Tree.{Segment, printS, print}
@@ -27,10 +29,9 @@ use Rattle.grammar.specs.Interchange.{Leaf, Header, Link, link, Body, plain, ac
 use Rattle.grammar.specs.Places.{wide}
 use Rattle.grammar.specs.PlacesLaws.{wide-list}
 use Rattle.walk.specs.RunLaws.{long-print}
-use Rattle.walk.specs.SectionLaws.{plain-content}
 use Rattle.groups.specs.Stand.{Row, Stand}
 use Rattle.groups.specs.StandLaws.{list-join, stand-front, stand-back, row-first, row-asked, row-rest}
-use Rattle.groups.specs.Groups.{nameAt}
+use Rattle.groups.specs.Groups.{nameAt, refNameAt}
 use Rattle.message.specs.Summary.{orElse}
 use Rattle.groups.specs.Links.{Tie, tie, firstUsy, firstLink, tieIn, taggedAt, isTagged, isUsyOf, linkFrom}
 use Rattle.groups.specs.declared.links.Places.{Places}
@@ -49,16 +50,25 @@ usx-here s a x e d = rw (← e, d)
 pub usx-before : (s : List ℕ) (a x : ℕ) {b : Bool} → b ≡ taggedAt s a (octets "USX") → b ≡ false → x ≡ cond (taggedAt s a (octets "USX")) a x
 usx-before s a x e d = rw (← e, d)
 
--- the reference is read off the octets of its component
+-- what is asked of a name is read off the octets of its component
 pub name-is : (σ : Service) (s : List ℕ) (a e : ℕ) (r : List ℕ) {p : List ℕ} {k : Bool} → p ≡ partOf s (componentAt σ s a e 0) → k ≡ same (content (σ .release) p) r
     → k ≡ same (nameAt σ s a e) r
 name-is σ s a e r q d = d ∙ ap (λ (x : List ℕ). same (content (σ .release) x) r) q
+
+-- .. and of a reference
+pub ref-name-is : (σ : Service) (s : List ℕ) (a e : ℕ) (r : List ℕ) {p : List ℕ} {k : Bool} → p ≡ partOf s (componentAt σ s a e 0)
+    → k ≡ same (compared (content (σ .release) p)) r → k ≡ same (refNameAt σ s a e) r
+ref-name-is σ s a e r q d = d ∙ ap (λ (x : List ℕ). same (compared (content (σ .release) x)) r) q
 
 pub usy-here : (s : List ℕ) (a : ℕ) (n : Bool) {b k : Bool} → b ≡ taggedAt s a (octets "USY") → b ≡ true → k ≡ n → k ≡ (taggedAt s a (octets "USY") && n)
 usy-here s a n e d q = rw (← e, d) q
 
 pub usy-not : (s : List ℕ) (a : ℕ) (n : Bool) {b : Bool} → b ≡ taggedAt s a (octets "USY") → b ≡ false → false ≡ (taggedAt s a (octets "USY") && n)
 usy-not s a n e d = rw (← e, d)
+
+-- a reference as it was given, and its bare part
+pub given-bare : (x z : List ℕ) → content 32 z ≡ compared (content 32 x) → compared z ≡ compared x
+given-bare x z e = ap compared (sym (plain-content z) ∙ e ∙ ap compared (plain-content x)) ∙ compared-twice x
 
 -- ---- the walk along the segments
 
@@ -72,7 +82,7 @@ module _ {σ : Service} {s r : List ℕ} {body tail : ℕ} where
 
   module _ (fits : T (fit σ)) {x at : ℕ} (k : Linking σ s r body tail x at) {z : ℕ} {b : Bool} {f : Found}
       (less : at < tail) (ends : f ≡ endAt σ s at) (usx : z ≡ cond (taggedAt s at (octets "USX")) at x)
-      (usy : b ≡ (taggedAt s at (octets "USY") && same (nameAt σ s at 1) r)) where
+      (usy : b ≡ (taggedAt s at (octets "USY") && same (refNameAt σ s at 1) r)) where
     -- the segment at hand, and what is told of it
     record Step (gs : List Segment) : Type 0 where
       g : Segment
@@ -89,7 +99,7 @@ module _ {σ : Service} {s r : List ℕ} {body tail : ℕ} where
         by (g ∷ hs) v e =
             let a = row-asked σ s at fits g hs v in
             let t : (l : List ℕ) → isTagged g l ≡ taggedAt s at l = λ l. ap (λ (u : Asked). same (u .tag) l) (sym a) in
-            let n : same (usy0534 (elementsOf g)) r ≡ same (nameAt σ s at 1) r = ap (λ (u : Asked). same (u .text 1 0) r) (sym a) in
+            let n : same (usy0534 (elementsOf g)) r ≡ same (refNameAt σ s at 1) r = ap (λ (u : Asked). same (compared (u .text 1 0)) r) (sym a) in
             let j : cond (isTagged g (octets "USX")) at x ≡ z = ap (λ (c : Bool). cond c at x) (t (octets "USX")) ∙ sym usx in
             let u : isUsyOf g r ≡ b = ap (λ (c : Bool). c && same (usy0534 (elementsOf g)) r) (t (octets "USY")) ∙ ap (λ (c : Bool). taggedAt s at (octets "USY") && c) n ∙ sym usy in
             record {
@@ -263,10 +273,10 @@ free-none σ r p x (b ▷ g) w =
 
 -- the link of a body in order
 pub tied : (σ : Service) (r s : List ℕ) (p : ℕ) (a : Bool) (hs : Snoc Header) (b : Body) → holds (okBody a hs b) → Stand σ s p (showBody b)
-    → TieAt σ s (tieIn b r) (linkFrom σ p p (list (showBody b)) r)
+    → TieAt σ s (tieIn b r) (linkFrom σ p p (list (showBody b)) (compared r))
 tied σ r s p a hs (plain nil) w v = nowhere
-tied σ r s p a hs (plain (b ▷ g)) w v = subst (TieAt σ s none) (sym (free-none σ r p p (b ▷ g) (w .1 .0, w .1 .1))) nowhere
-tied σ r s p a hs (ack c ls) w v = body-tied σ r s p c ls v
+tied σ r s p a hs (plain (b ▷ g)) w v = subst (TieAt σ s none) (sym (free-none σ (compared r) p p (b ▷ g) (w .1 .0, w .1 .1))) nowhere
+tied σ r s p a hs (ack c ls) w v = body-tied σ (compared r) s p c ls v
 
 -- what it is, by what the code finds
 pub record There (σ : Service) (s : List ℕ) (o : Option Tie) (q : Places) : Type 0 where

@@ -6,6 +6,7 @@ use mathlib.Core.List.{List}
 use mathlib.Core.Option.{Option, none, some}
 use lib.Dec.{T}
 use lib.ListN.{getD}
+use Rattle.syntax.specs.Content.{compared}
 use Rattle.syntax.specs.Refusals.{atZero}
 use Rattle.syntax.specs.Service.{fit}
 use Rattle.syntax.specs.declared.Refusal.{Refusal}
@@ -112,19 +113,19 @@ module _ (σ : Service) (fits : T (fit σ)) (s : List ℕ) (q : ℕ) (h : Leaf) 
 -- ---- the same, of the message that is named
 
 module _ {s m : List ℕ} {y : Syntax} {c : Layout} {rows : List ℕ} (h : Holds s m y c rows) (r : List ℕ) where
-  pub header-found : soughtIn (y .service) s rows 0 2 r (c .headers) (c .body) ≡ rangeOf showHeader (y .service) (headsAt (y .service) (h .q) (h .o)) (headerNamed (h .o) r)
+  pub header-found : soughtIn (y .service) s rows 0 2 (compared r) (c .headers) (c .body) ≡ rangeOf showHeader (y .service) (headsAt (y .service) (h .q) (h .o)) (headerNamed (h .o) r)
   header-found = by (h .o) (h .laid) (h .stands)
     where
       by : (o : Open) → PartsLie (y .service) s (h .q) o (h .t) c rows → Stand (y .service) s (h .q) (showMessage (message o (h .t)))
-          → soughtIn (y .service) s rows 0 2 r (c .headers) (c .body) ≡ rangeOf showHeader (y .service) (headsAt (y .service) (h .q) o) (headerNamed o r)
-      by (msg u hs b ts) l w = header-sought (y .service) (h .fits) s (h .q) u hs b ts (h .t) l w r
+          → soughtIn (y .service) s rows 0 2 (compared r) (c .headers) (c .body) ≡ rangeOf showHeader (y .service) (headsAt (y .service) (h .q) o) (headerNamed o r)
+      by (msg u hs b ts) l w = header-sought (y .service) (h .fits) s (h .q) u hs b ts (h .t) l w (compared r)
 
-  pub trailer-found : soughtIn (y .service) s rows 9 1 r (c .trailers) (c .unt) ≡ rangeOf showTrailer (y .service) (tailAt (y .service) (h .q) (h .o)) (trailerNamed (h .o) r)
+  pub trailer-found : soughtIn (y .service) s rows 9 1 (compared r) (c .trailers) (c .unt) ≡ rangeOf showTrailer (y .service) (tailAt (y .service) (h .q) (h .o)) (trailerNamed (h .o) r)
   trailer-found = by (h .o) (h .laid) (h .stands)
     where
       by : (o : Open) → PartsLie (y .service) s (h .q) o (h .t) c rows → Stand (y .service) s (h .q) (showMessage (message o (h .t)))
-          → soughtIn (y .service) s rows 9 1 r (c .trailers) (c .unt) ≡ rangeOf showTrailer (y .service) (tailAt (y .service) (h .q) o) (trailerNamed o r)
-      by (msg u hs b ts) l w = trailer-sought (y .service) (h .fits) s (h .q) u hs b ts (h .t) l w r
+          → soughtIn (y .service) s rows 9 1 (compared r) (c .trailers) (c .unt) ≡ rangeOf showTrailer (y .service) (tailAt (y .service) (h .q) o) (trailerNamed o r)
+      by (msg u hs b ts) l w = trailer-sought (y .service) (h .fits) s (h .q) u hs b ts (h .t) l w (compared r)
 
   -- they stand where they are said to
   pub header-there : {hs : Snoc Header} {x : Header} → headerNamed (h .o) r ≡ some (chosen hs x) → Stand (y .service) s (headerAt (y .service) (h .q) (h .o) (chosen hs x)) (showHeader x)
@@ -133,7 +134,7 @@ module _ {s m : List ℕ} {y : Syntax} {c : Layout} {rows : List ℕ} (h : Holds
       by : (o : Open) → headerNamed o r ≡ some (chosen hs x) → Stand (y .service) s (h .q) (showMessage (message o (h .t)))
           → Stand (y .service) s (headerAt (y .service) (h .q) o (chosen hs x)) (showHeader x)
       by (msg u ks b ts) e w =
-          chosen-stands showHeader refH (y .service) s rows 0 2 r (headsAt (y .service) (h .q) (msg u ks b ts)) ks e (headers-stand (y .service) s (h .q) u ks b ts (h .t) w)
+          chosen-stands showHeader refH (y .service) s rows 0 2 (compared r) (headsAt (y .service) (h .q) (msg u ks b ts)) ks e (headers-stand (y .service) s (h .q) u ks b ts (h .t) w)
 
   pub trailer-there : {ts : Snoc Trailer} {x : Trailer} → trailerNamed (h .o) r ≡ some (chosen ts x)
       → Stand (y .service) s (trailerAt (y .service) (h .q) (h .o) (chosen ts x)) (showTrailer x)
@@ -142,7 +143,7 @@ module _ {s m : List ℕ} {y : Syntax} {c : Layout} {rows : List ℕ} (h : Holds
       by : (o : Open) → trailerNamed o r ≡ some (chosen ts x) → Stand (y .service) s (h .q) (showMessage (message o (h .t)))
           → Stand (y .service) s (trailerAt (y .service) (h .q) o (chosen ts x)) (showTrailer x)
       by (msg u hs b ks) e w =
-          chosen-stands showTrailer refT (y .service) s rows 9 1 r (tailAt (y .service) (h .q) (msg u hs b ks)) ks e (trailers-stand (y .service) s (h .q) u hs b ks (h .t) w)
+          chosen-stands showTrailer refT (y .service) s rows 9 1 (compared r) (tailAt (y .service) (h .q) (msg u hs b ks)) ks e (trailers-stand (y .service) s (h .q) u hs b ks (h .t) w)
 
   -- the body, and the link that it has
   pub body-row : Row (y .service) s (c .body) (list (showBody (bodyIn (h .o)))) (c .tail)
@@ -155,11 +156,11 @@ module _ {s m : List ℕ} {y : Syntax} {c : Layout} {rows : List ℕ} (h : Holds
           (subst (λ (i : ℕ). Row (y .service) s i (list (showBody b)) (tailAt (y .service) (h .q) (msg u hs b ts))) (sym (l .body))
           (stand-row (y .service) s (bodyAt (y .service) (h .q) (msg u hs b ts)) (showBody b) (body-stands (y .service) s (h .q) u hs b ts (h .t) w)))
 
-  pub body-tied : TieAt (y .service) s (tieIn (bodyIn (h .o)) r) (linkFrom (y .service) (c .body) (c .body) (list (showBody (bodyIn (h .o)))) r)
+  pub body-tied : TieAt (y .service) s (tieIn (bodyIn (h .o)) r) (linkFrom (y .service) (c .body) (c .body) (list (showBody (bodyIn (h .o)))) (compared r))
   body-tied = by (h .o) (h .laid) (h .stands) (h .ordered)
     where
       by : (o : Open) → PartsLie (y .service) s (h .q) o (h .t) c rows → Stand (y .service) s (h .q) (showMessage (message o (h .t))) → holds (okMessage (message o (h .t)))
-          → TieAt (y .service) s (tieIn (bodyIn o) r) (linkFrom (y .service) (c .body) (c .body) (list (showBody (bodyIn o))) r)
+          → TieAt (y .service) s (tieIn (bodyIn o) r) (linkFrom (y .service) (c .body) (c .body) (list (showBody (bodyIn o))) (compared r))
       by (msg u hs b ts) l w k =
-          subst (λ (i : ℕ). TieAt (y .service) s (tieIn b r) (linkFrom (y .service) i i (list (showBody b)) r)) (sym (l .body))
+          subst (λ (i : ℕ). TieAt (y .service) s (tieIn b r) (linkFrom (y .service) i i (list (showBody b)) (compared r))) (sym (l .body))
           (tied (y .service) r s (bodyAt (y .service) (h .q) (msg u hs b ts)) (autack u) hs b (k .0 .1 .1 .0) (body-stands (y .service) s (h .q) u hs b ts (h .t) w))

@@ -15,6 +15,7 @@ ghost use Rattle.groups.specs.Groups.{refNameAt};
 ghost use Rattle.groups.specs.Links.{taggedAt, linkFrom};
 use syntax::Found;
 use syntax::Syntax;
+use syntax::content::bare;
 use syntax::content::content_is;
 use syntax::content::part;
 use syntax::content::reference_is;
@@ -65,7 +66,7 @@ fn names_header(s: &[u8], at: usize, t: &[u8; 256], y: Syntax, reference: &[u8])
 }
 
 // The first USY from `body` on, before `tail`, whose 0534 is `reference`, with its USX.
-pub fn link_named(
+fn link_from(
     s: &[u8],
     t: &[u8; 256],
     y: Syntax,
@@ -96,4 +97,20 @@ pub fn link_named(
         }
     }
     Linked::Nowhere
+}
+
+// The same: however many spaces stand at the reference's end, they are passed over once.
+pub fn link_named(
+    s: &[u8],
+    t: &[u8; 256],
+    y: Syntax,
+    body: usize,
+    tail: usize,
+    reference: &[u8],
+) -> Linked
+    requires { ⌜ Table y (now t) ⌝ }
+    requires { ⌜ T (fit (y .service)) ⌝ }
+    ensures { λ r. ⌜ ((gs : List Segment) → Row (y .service) (now (s .entry)) body gs tail → r ≡ linkFrom (y .service) body body gs (compared (now (reference .entry)))) ⌝ }
+{
+    link_from(s, t, y, body, tail, bare(reference, 32))
 }

@@ -4,7 +4,8 @@ use mathlib.Core.Path.{_≡_, refl, ap, sym, _∙_, subst}
 use mathlib.Core.Bool.{Bool, true, false, cond}
 use mathlib.Core.List.{List}
 use mathlib.Core.Option.{Option, some}
-use Rattle.syntax.specs.Content.{content}
+use Rattle.syntax.specs.ContentLaws.{plain-content}
+use Rattle.syntax.specs.Content.{content, compared}
 use Rattle.syntax.specs.Octets.{same}
 use Rattle.syntax.specs.Opening.{begunOf}
 use Rattle.syntax.specs.Refusals.{refusalAt}
@@ -22,7 +23,6 @@ use Rattle.grammar.specs.Rules.{refM}
 use Rattle.grammar.specs.Places.{wide}
 use Rattle.grammar.specs.Named.{Placed, placed, placedIn, totalsAt}
 use Rattle.grammar.specs.Verdict.{Verdict, verdictBy, loadsM, Totals, totalled, refusedTotals, totalsIn, totalsBy, totalsOf, totalNumbers}
-use Rattle.walk.specs.SectionLaws.{plain-content}
 use Rattle.walk.specs.RunLaws.{verdict-by}
 use Rattle.finding.specs.Finding.{FoundIs}
 use Rattle.finding.specs.declared.Found.{Found}
@@ -44,24 +44,24 @@ totals-placed σ p u (ms ▷ m) r = by (same (refM m) r) (totals-placed σ p u m
 module _ (s r : List ℕ) where
   pub totals-refused : {f : Breach} {g : Begun} {k : Refusal} → g ≡ begunOf s → g ≡ Refuses f → k ≡ refusalAt s (f .number) (f .place)
       → Refused k ≡ totalsAs (totalsOf s r)
-  totals-refused {f} e d h = ap Refused h ∙ ap (λ (b : Begun). totalsAs (totalsBy (verdictBy s b) r)) (sym d ∙ e)
+  totals-refused {f} e d h = ap Refused h ∙ ap (λ (b : Begun). totalsAs (totalsBy (verdictBy s b) (compared r))) (sym d ∙ e)
 
-  pub totals-found : {b : Opening} {g : Begun} (f : Found) (rows : List ℕ) → g ≡ begunOf s → g ≡ Begins b → FoundIs (b .syntax) s (b .at) r f rows
+  pub totals-found : {b : Opening} {g : Begun} (f : Found) (rows : List ℕ) → g ≡ begunOf s → g ≡ Begins b → FoundIs (b .syntax) s (b .at) (compared r) f rows
       → totalledBy s f ≡ totalsAs (totalsOf s r)
-  totals-found {b} (NotRead g) rows e d q = sym (ap (λ (v : Verdict). totalsAs (totalsBy v r)) (verdict-by s e d q))
+  totals-found {b} (NotRead g) rows e d q = sym (ap (λ (v : Verdict). totalsAs (totalsBy v (compared r))) (verdict-by s e d q))
   totals-found {b} Missing rows e d q =
-      sym (ap (λ (v : Verdict). totalsAs (totalsBy v r)) (verdict-by s e d (q .3 .0))
-      ∙ ap totalsAs (totals-placed (b .syntax .service) (b .at) (q .0) (q .1) r) ∙ ap (λ (o : Option Placed). totalsAs (totalsAt o)) (q .3 .1))
+      sym (ap (λ (v : Verdict). totalsAs (totalsBy v (compared r))) (verdict-by s e d (q .3 .0))
+      ∙ ap totalsAs (totals-placed (b .syntax .service) (b .at) (q .0) (q .1) (compared r)) ∙ ap (λ (o : Option Placed). totalsAs (totalsAt o)) (q .3 .1))
   totals-found {b} (Here c) rows e d q =
       let k = q .3 .1 in
-      sym (ap (λ (v : Verdict). totalsAs (totalsBy v r)) (verdict-by s e d (q .3 .0))
-      ∙ ap totalsAs (totals-placed (b .syntax .service) (b .at) (q .0) (q .1) r) ∙ ap (λ (o : Option Placed). totalsAs (totalsAt o)) (k .3 .0)
+      sym (ap (λ (v : Verdict). totalsAs (totalsBy v (compared r))) (verdict-by s e d (q .3 .0))
+      ∙ ap totalsAs (totals-placed (b .syntax .service) (b .at) (q .0) (q .1) (compared r)) ∙ ap (λ (o : Option Placed). totalsAs (totalsAt o)) (k .3 .0)
       ∙ rw (k .3 .1 .loads, k .3 .1 .grams))
 
   -- a name that is content already
-  pub totals-plain : {b : Opening} {g : Begun} (f : Found) (rows : List ℕ) → g ≡ begunOf s → g ≡ Begins b → FoundIs (b .syntax) s (b .at) (content 32 r) f rows
+  pub totals-plain : {b : Opening} {g : Begun} (f : Found) (rows : List ℕ) → g ≡ begunOf s → g ≡ Begins b → FoundIs (b .syntax) s (b .at) (compared (content 32 r)) f rows
       → totalledBy s f ≡ totalsAs (totalsOf s r)
-  totals-plain {b} f rows e d q = totals-found f rows e d (subst (λ (k : List ℕ). FoundIs (b .syntax) s (b .at) k f rows) (plain-content r) q)
+  totals-plain {b} f rows e d q = totals-found f rows e d (subst (λ (k : List ℕ). FoundIs (b .syntax) s (b .at) (compared k) f rows) (plain-content r) q)
 
 -- what the call promises: the answer, and with it the numbers
 pub totals-promised : {a : Totalled} (t : Totals) → a ≡ totalsAs t → (a ≡ totalsAs t) × (toldTotals a ≡ totalNumbers t)

@@ -7,7 +7,7 @@ use lib.Dec.{ltb}
 use lib.ListN.{length, getD}
 use Rattle.syntax.specs.declared.Service.{Service}
 use Rattle.walk.specs.declared.sections.Layout.{Layout}
-use Rattle.groups.specs.Groups.{nameAt, soughtIn}
+use Rattle.groups.specs.Groups.{nameAt, refNameAt, soughtIn}
 use Rattle.groups.specs.declared.named.Sought.{Sought}
 use Rattle.groups.specs.declared.named.Sought.the-variants.{At, Nowhere}
 use Rattle.lines.specs.Words.{sealLine}
@@ -33,7 +33,7 @@ abbrev pub oneAt : Layout → ℕ → ℕ → ℕ
 oneAt c ush end = end - ush + (c .tail - c .body)
 
 abbrev pub twoAt : Service → List ℕ → List ℕ → Layout → ℕ → ℕ
-twoAt σ s rows c ush = upTo ush (soughtIn σ s rows 9 1 (nameAt σ s ush 2) (c .trailers) (c .unt))
+twoAt σ s rows c ush = upTo ush (soughtIn σ s rows 9 1 (refNameAt σ s ush 2) (c .trailers) (c .unt))
 
 abbrev pub sealAt : Service → List ℕ → List ℕ → Layout → ℕ → ℕ → List ℕ
 sealAt σ s rows c ush end = sealLine (nameAt σ s ush 2) (nameAt σ s ush 3) (oneAt c ush end) (twoAt σ s rows c ush)

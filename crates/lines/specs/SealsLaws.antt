@@ -9,7 +9,7 @@ use lib.ListN.{getD}
 use borrow.Author.Tests.{lt-ltb, le-ltb}
 use Rattle.syntax.specs.Octets.{octets, same}
 use Rattle.syntax.specs.declared.Service.{Service}
-use Rattle.syntax.specs.Content.{content}
+use Rattle.syntax.specs.Content.{content, compared}
 use Rattle.syntax.specs.Segment.{componentAt, partOf}
 use Rattle.groups.specs.Groups.{soughtIn}
 use Rattle.groups.specs.declared.named.Range.{Range}
@@ -33,9 +33,9 @@ module _ (c : Layout) (rows : List ℕ) {i : ℕ} where
 -- ---- to the trailer
 
 module _ (σ : Service) (s rows : List ℕ) (c : Layout) (start : ℕ) {p : List ℕ} {k : Sought} (n : p ≡ partOf s (componentAt σ s start 2 0))
-    (e : k ≡ soughtIn σ s rows 9 1 (content (σ .release) p) (c .trailers) (c .unt)) where
+    (e : k ≡ soughtIn σ s rows 9 1 (compared (content (σ .release) p)) (c .trailers) (c .unt)) where
   up-to-found : upTo start k ≡ twoAt σ s rows c start
-  up-to-found = ap (upTo start) (e ∙ ap (λ (x : List ℕ). soughtIn σ s rows 9 1 (content (σ .release) x) (c .trailers) (c .unt)) n)
+  up-to-found = ap (upTo start) (e ∙ ap (λ (x : List ℕ). soughtIn σ s rows 9 1 (compared (content (σ .release) x)) (c .trailers) (c .unt)) n)
 
   pub up-to-start : {g : Range} {r : ℕ} → k ≡ At g → r ≡ g .start - start → r ≡ twoAt σ s rows c start
   up-to-start d q = q ∙ ap (upTo start) (sym d) ∙ up-to-found

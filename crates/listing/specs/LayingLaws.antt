@@ -8,13 +8,15 @@ use mathlib.Core.Path.{_≡_, refl, ap, sym, _∙_, subst}
 use lib.Dec.{T, ltb}
 use lib.ListN.{length, getD}
 use borrow.Author.Tests.{ltb-true, ltb-false}
+use Rattle.syntax.specs.BareLaws.{compared-twice}
+use Rattle.syntax.specs.Content.{compared}
 use Rattle.syntax.specs.Service.{fit}
 use Rattle.syntax.specs.declared.Service.{Service}
 use Rattle.grammar.specs.Lists.{Snoc, nil, _▷_, _+++_, joined, size, holds}
 use Rattle.grammar.specs.Grams.{sum}
 use Rattle.grammar.specs.Segments.{Unh, Unt, seg, elementContent, Asked}
 use Rattle.grammar.specs.Interchange.{Leaf, Header, header, Trailer, Body, Open, msg, message, showHeader, showTrailer, showBody, showOpen, showMessage}
-use Rattle.grammar.specs.Rules.{refH, refO, okMessage, refsMessage}
+use Rattle.grammar.specs.Rules.{refH, okMessage, refsMessage}
 use Rattle.grammar.specs.Verdict.{loadsM}
 use Rattle.grammar.specs.Places.{wide, startsOf, headersIn, trailersIn}
 use Rattle.grammar.specs.PlacesLaws.{wide-join}
@@ -26,12 +28,12 @@ use Rattle.walk.specs.Sections.{PartsLie}
 use Rattle.walk.specs.declared.sections.Layout.{Layout}
 use Rattle.groups.specs.Stand.{Stand}
 use Rattle.groups.specs.StandLaws.{stand-front, stand-back, stand-asked}
-use Rattle.groups.specs.Groups.{Chosen, chosen, nameAt, soughtIn, rangeOf}
-use Rattle.groups.specs.GroupsLaws.{header-named, header-scope}
+use Rattle.groups.specs.Groups.{Chosen, chosen, nameAt, refNameAt, soughtIn, rangeOf}
+use Rattle.groups.specs.GroupsLaws.{header-named, header-written, header-scope}
 use Rattle.groups.specs.Parts.{trailerNamed, scopeH}
 use Rattle.groups.specs.PartsLaws.{headers-stand, trailer-sought}
 use Rattle.lines.specs.Words.{messageLine, sealLine}
-use Rattle.listing.specs.Listing.{typeO, toTrailer, sealLineOf, sealsOf, messageOf}
+use Rattle.listing.specs.Listing.{writtenO, writtenH, typeO, toTrailer, sealLineOf, sealsOf, messageOf}
 use Rattle.lines.specs.Seals.{Near, upTo, oneAt, twoAt, sealAt, sealsAt}
 use Rattle.listing.specs.Laying.{sectionAt}
 
@@ -103,18 +105,26 @@ module _ (σ : Service) (fits : T (fit σ)) (s : List ℕ) (q : ℕ) (h : Leaf) 
   scope-named : (p : ℕ) (g : Header) → Stand σ s p (showHeader g) → nameAt σ s p 3 ≡ scopeH g
   scope-named p (header d us cs) x = header-scope σ fits s p d us cs x
 
+  written : (p : ℕ) (g : Header) → Stand σ s p (showHeader g) → nameAt σ s p 2 ≡ writtenH g
+  written p (header d us cs) x = header-written σ fits s p d us cs x
+
+  -- what a header is compared by is bare already
+  bare-header : (g : Header) → compared (refH g) ≡ refH g
+  bare-header (header d us cs) = compared-twice (elementContent d 2 0)
+
   seal-so : (gs : Snoc Header) (g : Header) (start end : ℕ) → start ≡ headsAt σ q o + wide σ (joined showHeader gs) → end ≡ start + wide σ (showHeader g) → Stand σ s start (showHeader g)
       → sealAt σ s rows c start end ≡ sealLineOf σ q o gs g
   seal-so gs g start end e d x =
-      let n : nameAt σ s start 2 ≡ refH g = header-named σ fits s start g x in
+      let n : refNameAt σ s start 2 ≡ compared (refH g) = header-named σ fits s start g x ∙ sym (bare-header g) in
+      let m : nameAt σ s start 2 ≡ writtenH g = written start g x in
       let f : nameAt σ s start 3 ≡ scopeH g = scope-named start g x in
       let z : oneAt c start end ≡ wide σ (showHeader g) + wide σ (showBody b) = omega (arith, d, l .tail, l .body) in
       let v : twoAt σ s rows c start ≡ toTrailer σ q o (chosen gs g) (trailerNamed o (refH g)) =
-      ap (λ (r : List ℕ). upTo start (soughtIn σ s rows 9 1 r (c .trailers) (c .unt))) n ∙ ap (upTo start) (trailer-sought σ fits s q h hs b ts t l w (refH g)) ∙ up-to gs g start e (trailerNamed o (refH g)) in
-      ap (λ (r : List ℕ). sealLine r (nameAt σ s start 3) (oneAt c start end) (twoAt σ s rows c start)) n
-      ∙ ap (λ (k : List ℕ). sealLine (refH g) k (oneAt c start end) (twoAt σ s rows c start)) f
-      ∙ ap (λ (k : ℕ). sealLine (refH g) (scopeH g) k (twoAt σ s rows c start)) z
-      ∙ ap (sealLine (refH g) (scopeH g) (wide σ (showHeader g) + wide σ (showBody b))) v
+      ap (λ (r : List ℕ). upTo start (soughtIn σ s rows 9 1 r (c .trailers) (c .unt))) n ∙ ap (upTo start) (trailer-sought σ fits s q h hs b ts t l w (compared (refH g))) ∙ up-to gs g start e (trailerNamed o (refH g)) in
+      ap (λ (r : List ℕ). sealLine r (nameAt σ s start 3) (oneAt c start end) (twoAt σ s rows c start)) m
+      ∙ ap (λ (k : List ℕ). sealLine (writtenH g) k (oneAt c start end) (twoAt σ s rows c start)) f
+      ∙ ap (λ (k : ℕ). sealLine (writtenH g) (scopeH g) k (twoAt σ s rows c start)) z
+      ∙ ap (sealLine (writtenH g) (scopeH g) (wide σ (showHeader g) + wide σ (showBody b))) v
 
   seals-so : (gs : Snoc Header) (end : ℕ) → upto (size gs) (λ (i : ℕ). getD rows i 0) ≡ startsOf showHeader σ (headsAt σ q o) gs → end ≡ headsAt σ q o + wide σ (joined showHeader gs)
       → Stand σ s (headsAt σ q o) (joined showHeader gs) → sealsAt σ s rows c (size gs) end ≡ sealsOf σ q o gs
@@ -141,12 +151,12 @@ module _ (σ : Service) (fits : T (fit σ)) (s : List ℕ) (q : ℕ) (h : Leaf) 
 
   lines-so : sectionAt σ s rows c true ≡ messageOf σ q (message o t)
   lines-so =
-      let m : messageLine (nameAt σ s (c .unh) 1) (nameAt σ s (c .unh) 2) (c .loads) (c .grams) ≡ messageLine (refO o) (typeO o) (size (loadsM (message o t))) (sum (loadsM (message o t))) =
+      let m : messageLine (nameAt σ s (c .unh) 1) (nameAt σ s (c .unh) 2) (c .loads) (c .grams) ≡ messageLine (writtenO o) (typeO o) (size (loadsM (message o t))) (sum (loadsM (message o t))) =
       rw (unh-named 0, unh-named 1, l .loads, l .grams) in
       let n : sealsAt σ s rows c (c .headers) (c .body) ≡ sealsOf σ q o hs =
       ap (λ (n : ℕ). sealsAt σ s rows c n (c .body)) (l .headers) ∙ seals-so hs (c .body) (l .starts .heads) (l .body) (headers-stand σ s q h hs b ts t w) in
       ap (λ (v : List ℕ). v ++ sealsAt σ s rows c (c .headers) (c .body)) m
-      ∙ ap (λ (v : List ℕ). messageLine (refO o) (typeO o) (size (loadsM (message o t))) (sum (loadsM (message o t))) ++ v) n
+      ∙ ap (λ (v : List ℕ). messageLine (writtenO o) (typeO o) (size (loadsM (message o t))) (sum (loadsM (message o t))) ++ v) n
 
 pub section-lines : (σ : Service) → T (fit σ) → (s : List ℕ) (q : ℕ) (o : Open) (t : Leaf) (c : Layout) (rows : List ℕ) → PartsLie σ s q o t c rows → Stand σ s q (showMessage (message o t))
     → sectionAt σ s rows c true ≡ messageOf σ q (message o t)

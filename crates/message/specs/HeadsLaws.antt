@@ -11,7 +11,7 @@ use lib.Dec.{eqb, ltb}
 use lib.ListN.{length, getD, set, length-set}
 use lib.Seq.{slice, getD-set-same, getD-set-other}
 use Rattle.syntax.specs.Octets.{same}
-use Rattle.syntax.specs.Content.{content}
+use Rattle.syntax.specs.Content.{content, compared}
 use Rattle.grammar.specs.Lists.{Snoc, _▷_, size, among}
 use Rattle.message.specs.Summary.{isFound, orElse, freeAt, allNamed, moreInLast, sizeIn, named}
 use Rattle.message.specs.Heads.{upto, headRef, headSize, headFlag, headRefs, headSizes, headFlags, posOr, Pushed, GrownLast, Named, Small}
@@ -42,15 +42,15 @@ among-hit f r i n l e = grows (λ (k : ℕ). among (upto k f) r ≡ true) i n (�
 
 pub record Naming (ρ : ℕ) (s h x : List ℕ) (n i : ℕ) : Type 0 where
   pub most : i ≤ n
-  pub none : among (headRefs ρ s h i) (content ρ x) ≡ false
+  pub none : among (headRefs ρ s h i) (compared (content ρ x)) ≡ false
 
 module _ {ρ : ℕ} {s h x : List ℕ} {n i : ℕ} (g : Naming ρ s h x n i) where
-  pub naming-end : n ≤ i → false ≡ among (headRefs ρ s h n) (content ρ x)
+  pub naming-end : n ≤ i → false ≡ among (headRefs ρ s h n) (compared (content ρ x))
   naming-end l = let e : n ≡ i = omega (arith, g .most, l) in rw e (sym (g .none))
 
-  module _ {p : List ℕ} {b : Bool} (l : i < n) (q : p ≡ slice (getD h (4 * i) 0) (getD h (4 * i + 1) 0) s) (e : b ≡ same (content ρ p) (content ρ x)) where
-    pub naming-hit : b ≡ true → true ≡ among (headRefs ρ s h n) (content ρ x)
-    naming-hit t = sym (among-hit (headRef ρ s h) (content ρ x) i n l (rw (← q) (sym e ∙ t)))
+  module _ {p : List ℕ} {b : Bool} (l : i < n) (q : p ≡ slice (getD h (4 * i) 0) (getD h (4 * i + 1) 0) s) (e : b ≡ same (compared (content ρ p)) (compared (content ρ x))) where
+    pub naming-hit : b ≡ true → true ≡ among (headRefs ρ s h n) (compared (content ρ x))
+    naming-hit t = sym (among-hit (headRef ρ s h) (compared (content ρ x)) i n l (rw (← q) (sym e ∙ t)))
 
     pub naming-on : b ≡ false → Naming ρ s h x n (i + 1)
     naming-on t = record { most = omega (arith, l); none = rw (add-one, ← q, ← e, t) (g .none) }
@@ -93,7 +93,7 @@ module _ (ρ : ℕ) (s h x : List ℕ) (i : ℕ) where
       off true = rw (ne-eqb _ _ u)
       off false = refl
 
-  pub free-by : {p : List ℕ} {b : Bool} → getD h (4 * i + 3) 0 ≡ 0 → p ≡ slice (getD h (4 * i) 0) (getD h (4 * i + 1) 0) s → b ≡ same (content ρ p) x
+  pub free-by : {p : List ℕ} {b : Bool} → getD h (4 * i + 3) 0 ≡ 0 → p ≡ slice (getD h (4 * i) 0) (getD h (4 * i + 1) 0) s → b ≡ same (compared (content ρ p)) x
       → b ≡ (same (headRef ρ s h i) x && not (headFlag h i))
   free-by {p} {b} u q e = rw (← q, ← e, eq-eqb _ _ u) (sym (and-true b))
 
@@ -210,7 +210,7 @@ module _ (h : List ℕ) (n a e : ℕ) where
       long = simp length-set;
       refs =
           λ ρ s. rw (add-one n, push-start, push-end)
-          (ap (λ (z : Snoc (List ℕ)). z ▷ content ρ (slice a e s))
+          (ap (λ (z : Snoc (List ℕ)). z ▷ compared (content ρ (slice a e s)))
           (upto-same n (headRef ρ s pushed) (headRef ρ s h) (λ i k. ref-same ρ s h pushed i (push-other (4 * i) (omega (arith, k))) (push-other (4 * i + 1) (omega (arith, k))))));
       sizes = rw (add-one n, push-size) (ap (λ (z : Snoc ℕ). z ▷ 1) (upto-same n (headSize pushed) (headSize h) (λ i k. push-other (4 * i + 2) (omega (arith, k)))));
       flags =

@@ -11,7 +11,7 @@ use lib.Dec.{leb, ltb}
 use lib.ListN.{length, getD}
 use lib.Seq.{slice}
 use Rattle.syntax.specs.Octets.{octets, same, within}
-use Rattle.syntax.specs.Content.{content, allDigits, valueFrom}
+use Rattle.syntax.specs.Content.{content, allDigits, valueFrom, compared}
 use Rattle.syntax.specs.Scanning.{numberIn}
 use Rattle.syntax.specs.RepertoireLaws.{and-l, and-r}
 use Rattle.syntax.specs.Segment.{componentAt, partOf}
@@ -218,13 +218,13 @@ module _ {m : Message} {h : List ℕ} (g : Roomy m h) where
 -- ---- USH
 
 module _ (σ : Service) (s : List ℕ) (a : ℕ) (m : Message) (h : List ℕ) where
-  ush-is : (u w : ℕ) (b c : Bool) → among (headRefs (σ .release) s h (m .headers)) (textAt σ s a 2 0) ≡ b → scopeCode (m .autack) (textAt σ s a 3 0) ≡ c
+  ush-is : (u w : ℕ) (b c : Bool) → among (headRefs (σ .release) s h (m .headers)) (compared (textAt σ s a 2 0)) ≡ b → scopeCode (m .autack) (textAt σ s a 3 0) ≡ c
       → ushM (summaryIn (σ .release) s m u w h) (askedAt σ s a) ≡ cond (not b) (cond c (toM (ushNext (summaryIn (σ .release) s m u w h) (askedAt σ s a))) (badM 11)) (badM 9)
   ush-is u w b c p q = rw (p, q)
 
-  module _ {x : List ℕ} {b : Bool} (e : x ≡ partOf s (componentAt σ s a 2 0)) (d : b ≡ among (headRefs (σ .release) s h (m .headers)) (content (σ .release) x)) where
-    ush-among : (v : Bool) → b ≡ v → among (headRefs (σ .release) s h (m .headers)) (textAt σ s a 2 0) ≡ v
-    ush-among v t = sym (d ∙ ap (λ (z : List ℕ). among (headRefs (σ .release) s h (m .headers)) (content (σ .release) z)) e) ∙ t
+  module _ {x : List ℕ} {b : Bool} (e : x ≡ partOf s (componentAt σ s a 2 0)) (d : b ≡ among (headRefs (σ .release) s h (m .headers)) (compared (content (σ .release) x))) where
+    ush-among : (v : Bool) → b ≡ v → among (headRefs (σ .release) s h (m .headers)) (compared (textAt σ s a 2 0)) ≡ v
+    ush-among v t = sym (d ∙ ap (λ (z : List ℕ). among (headRefs (σ .release) s h (m .headers)) (compared (content (σ .release) z))) e) ∙ t
 
     pub ush-named : (h′ : List ℕ) → b ≡ true → (u w : ℕ) → MovedIs (ushM (summaryIn (σ .release) s m u w h) (askedAt σ s a)) (Bad 9) (σ .release) s u w h′
     ush-named h′ t u w =
@@ -239,7 +239,7 @@ module _ (σ : Service) (s : List ℕ) (a : ℕ) (m : Message) (h : List ℕ) wh
         ush-summary : (u w : ℕ) → summaryIn (σ .release) s (headed m) u w h′ ≡ ushNext (summaryIn (σ .release) s m u w h) (askedAt σ s a)
         ush-summary u w =
             same-summary refl
-            (ap (headRefs (σ .release) s h′) (sym (add-one (m .headers))) ∙ p .refs (σ .release) s ∙ ap (λ (z : List ℕ). headRefs (σ .release) s h (m .headers) ▷ content (σ .release) z) q)
+            (ap (headRefs (σ .release) s h′) (sym (add-one (m .headers))) ∙ p .refs (σ .release) s ∙ ap (λ (z : List ℕ). headRefs (σ .release) s h (m .headers) ▷ compared (content (σ .release) z)) q)
             (ap (headSizes h′) (sym (add-one (m .headers))) ∙ p .sizes)
             (ap (headFlags h′) (sym (add-one (m .headers))) ∙ p .flags)
 
@@ -268,20 +268,20 @@ module _ (σ : Service) (s : List ℕ) (a : ℕ) (m : Message) (h : List ℕ) wh
   abbrev free : List ℕ → Option ℕ
   free x = freeAt x (headRefs (σ .release) s h (m .headers)) (headFlags h (m .headers))
 
-  module _ {i : ℕ} (ust-place : i ≡ posOr (m .headers) (freeAt (textAt σ s a 1 0) (headRefs (σ .release) s h (m .headers)) (headFlags h (m .headers)))) where
+  module _ {i : ℕ} (ust-place : i ≡ posOr (m .headers) (freeAt (compared (textAt σ s a 1 0)) (headRefs (σ .release) s h (m .headers)) (headFlags h (m .headers)))) where
     pub ust-bad : (h′ : List ℕ) → m .headers ≤ i → (u w : ℕ)
-        → MovedIs (ustM (summaryIn (σ .release) s m u w h) (askedAt σ s a) (freeAt (textAt σ s a 1 0) (headRefs (σ .release) s h (m .headers)) (headFlags h (m .headers)))) (Bad 9) (σ .release) s u w h′
+        → MovedIs (ustM (summaryIn (σ .release) s m u w h) (askedAt σ s a) (freeAt (compared (textAt σ s a 1 0)) (headRefs (σ .release) s h (m .headers)) (headFlags h (m .headers)))) (Bad 9) (σ .release) s u w h′
     ust-bad h′ l u w =
-        let k : free (textAt σ s a 1 0) ≡ none =
-        not-found (free (textAt σ s a 1 0)) (found-at (σ .release) s h (textAt σ s a 1 0) (m .headers) ∙ le-ltb _ _ (subst (λ (z : ℕ). m .headers ≤ z) ust-place l)) in
+        let k : free (compared (textAt σ s a 1 0)) ≡ none =
+        not-found (free (compared (textAt σ s a 1 0))) (found-at (σ .release) s h (compared (textAt σ s a 1 0)) (m .headers) ∙ le-ltb _ _ (subst (λ (z : ℕ). m .headers ≤ z) ust-place l)) in
         subst (λ (o : Option ℕ). MovedIs (ustM (summaryIn (σ .release) s m u w h) (askedAt σ s a) o) (Bad 9) (σ .release) s u w h′) (sym k) refl
 
     module _ (l : i < m .headers) (g : Roomy m h) {h′ : List ℕ} (p : Named h h′ (m .headers) i) where
-      ust-found : free (textAt σ s a 1 0) ≡ some i
-      ust-found = found-some (m .headers) (free (textAt σ s a 1 0)) (subst (λ (z : ℕ). z < m .headers) ust-place l) ∙ ap some (sym ust-place)
+      ust-found : free (compared (textAt σ s a 1 0)) ≡ some i
+      ust-found = found-some (m .headers) (free (compared (textAt σ s a 1 0))) (subst (λ (z : ℕ). z < m .headers) ust-place l) ∙ ap some (sym ust-place)
 
       pub ust-moved : {n : Message} {k : ℕ} → k ≡ claimed (textAt σ s a 2 0) → n ≡ trailed m k (getD h (4 * i + 2) 0) → (u w : ℕ)
-          → MovedIs (ustM (summaryIn (σ .release) s m u w h) (askedAt σ s a) (freeAt (textAt σ s a 1 0) (headRefs (σ .release) s h (m .headers)) (headFlags h (m .headers)))) (To n) (σ .release) s u w h′
+          → MovedIs (ustM (summaryIn (σ .release) s m u w h) (askedAt σ s a) (freeAt (compared (textAt σ s a 1 0)) (headRefs (σ .release) s h (m .headers)) (headFlags h (m .headers)))) (To n) (σ .release) s u w h′
       ust-moved {n} {k} c o u w =
           subst (λ (z : Option ℕ). MovedIs (ustM (summaryIn (σ .release) s m u w h) (askedAt σ s a) z) (To n) (σ .release) s u w h′) (sym ust-found)
           (moved-to (σ .release) s u w h′ _ (o ∙ same) (same-summary refl (p .refs (σ .release) s) (p .sizes) (p .flags)) roomy)
@@ -302,11 +302,11 @@ module _ (σ : Service) (s : List ℕ) (a : ℕ) (m : Message) (h : List ℕ) wh
 -- ---- USY
 
 module _ (σ : Service) (s : List ℕ) (a : ℕ) (m : Message) (h : List ℕ) {x : List ℕ} {b : Bool} (e : x ≡ partOf s (componentAt σ s a 1 0))
-    (d : b ≡ among (headRefs (σ .release) s h (m .headers)) (content (σ .release) x)) where
+    (d : b ≡ among (headRefs (σ .release) s h (m .headers)) (compared (content (σ .release) x))) where
   usy-is : (v : Bool) → b ≡ v → (u w : ℕ) → usyM (summaryIn (σ .release) s m u w h) (askedAt σ s a) ≡ cond v (toM (grownBy (summaryIn (σ .release) s m u w h) (Ack true true) (headSizes h (m .headers)))) (badM 9)
   usy-is v t u w =
       ap (λ (z : Bool). cond z (toM (grownBy (summaryIn (σ .release) s m u w h) (Ack true true) (headSizes h (m .headers)))) (badM 9))
-      (sym (d ∙ ap (λ (z : List ℕ). among (headRefs (σ .release) s h (m .headers)) (content (σ .release) z)) e) ∙ t)
+      (sym (d ∙ ap (λ (z : List ℕ). among (headRefs (σ .release) s h (m .headers)) (compared (content (σ .release) z))) e) ∙ t)
 
   pub usy-bad : b ≡ false → (u w : ℕ) → MovedIs (usyM (summaryIn (σ .release) s m u w h) (askedAt σ s a)) (Bad 9) (σ .release) s u w h
   usy-bad t u w = subst (λ (A : AnswerM). MovedIs A (Bad 9) (σ .release) s u w h) (sym (usy-is false t u w)) refl

@@ -4,7 +4,7 @@ ghost use mathlib.Core.Bool.{true};
 ghost use mathlib.Core.List.{List};
 ghost use Prim.Native.Nat.{ℕ, _≤_, _<_};
 ghost use lib.ListN.{length};
-ghost use Rattle.syntax.specs.Content.{valueFrom};
+ghost use Rattle.syntax.specs.Content.{compared, valueFrom};
 ghost use Rattle.grammar.specs.Elements.{inRange, digits};
 ghost use Rattle.grammar.specs.Rules.{claimed, scopeCode};
 ghost use Rattle.elements.specs.Octets.{textAt, askedAt};
@@ -219,7 +219,7 @@ pub fn on_ust(
     requires { ⌜ Roomy m (now heads) ⌝ }
     requires { ⌜ (m .segments < 65535) × (length (now heads) ≡ 36) ⌝ }
     requires { ⌜ Sought (y .service) (now s) at m (now heads) i ⌝ }
-    ensures { λ r. ⌜ ((u w : ℕ) → MovedIs (ustM (summaryIn (y .service .release) (now (s .entry)) m u w (now (heads .entry))) (askedAt (y .service) (now (s .entry)) at) (freeAt (textAt (y .service) (now (s .entry)) at 1 0) (headRefs (y .service .release) (now (s .entry)) (now (heads .entry)) (m .headers)) (headFlags (now (heads .entry)) (m .headers)))) r (y .service .release) (now (s .entry)) u w (now (heads .exit))) ⌝ }
+    ensures { λ r. ⌜ ((u w : ℕ) → MovedIs (ustM (summaryIn (y .service .release) (now (s .entry)) m u w (now (heads .entry))) (askedAt (y .service) (now (s .entry)) at) (freeAt (compared (textAt (y .service) (now (s .entry)) at 1 0)) (headRefs (y .service .release) (now (s .entry)) (now (heads .entry)) (m .headers)) (headFlags (now (heads .entry)) (m .headers)))) r (y .service .release) (now (s .entry)) u w (now (heads .exit))) ⌝ }
     ensures { λ r. ⌜ length (now (heads .exit)) ≡ 36 ⌝ }
 {
     let n = m.headers as usize;

@@ -8,6 +8,7 @@ use mathlib.Core.Bool.{Bool, true, false, cond}
 use lib.Dec.{T}
 use lib.ListN.{length}
 use lib.Seq.{slice}
+use Rattle.syntax.specs.Content.{compared}
 use Rattle.syntax.specs.Octets.{octets, same}
 use Rattle.syntax.specs.Service.{fit}
 use Rattle.syntax.specs.Tree.{Segment, printS}
@@ -114,7 +115,7 @@ module _ {A : Type 0} (show : A → Snoc Segment) (name : A → List ℕ) (σ : 
 
 header-before : (σ : Service) (q : ℕ) (o : Open) (r : List ℕ) {k : Chosen Header} (code : List ℕ) → headerIn code o r ≡ some k
     → (headerAt σ q o k ≤ headerEnd σ q o k) × (headerEnd σ q o k ≤ bodyAt σ q o)
-header-before σ q (msg u hs b ts) r {k} code e = by (chosenBy refH hs r) (λ ys a d. chosen-inside showHeader refH σ r hs d) e
+header-before σ q (msg u hs b ts) r {k} code e = by (chosenBy refH hs (compared r)) (λ ys a d. chosen-inside showHeader refH σ (compared r) hs d) e
   where
     by : (x : Option (Chosen Header)) → ((ys : Snoc Header) (a : Header) → x ≡ some (chosen ys a) → wide σ (joined showHeader ys) + wide σ (showHeader a) ≤ wide σ (joined showHeader hs))
         → then x (ofScope code) ≡ some k → (headerAt σ q (msg u hs b ts) k ≤ headerEnd σ q (msg u hs b ts) k) × (headerEnd σ q (msg u hs b ts) k ≤ bodyAt σ q (msg u hs b ts))
@@ -132,10 +133,10 @@ trailer-before : (σ : Service) (q : ℕ) (o : Open) (r : List ℕ) {k : Chosen 
     → (tailAt σ q o ≤ trailerAt σ q o k) × (trailerAt σ q o k ≤ q + wide σ (showOpen o))
 trailer-before σ q (msg u hs b ts) r {k} e = by k e
   where
-    by : (k : Chosen Trailer) → chosenBy refT ts r ≡ some k
+    by : (k : Chosen Trailer) → chosenBy refT ts (compared r) ≡ some k
         → (tailAt σ q (msg u hs b ts) ≤ trailerAt σ q (msg u hs b ts) k) × (trailerAt σ q (msg u hs b ts) k ≤ q + wide σ (showOpen (msg u hs b ts)))
     by (chosen ys a) e =
-        let l = chosen-inside showTrailer refT σ r ts e in (
+        let l = chosen-inside showTrailer refT σ (compared r) ts e in (
           omega arith,
           omega (
             arith,
@@ -243,9 +244,9 @@ run-promised x e q = (e, (ap toldRun e ∙ by x, q))
 
 -- ---- the code, call by call
 
-module _ (σ : Service) (s : List ℕ) (c : Layout) (rows r : List ℕ) {g : Groups} {x : Sought} (e : x ≡ soughtIn σ s rows (g .first) (g .element) r (g .count) (g .end))
+module _ (σ : Service) (s : List ℕ) (c : Layout) (rows r : List ℕ) {g : Groups} {x : Sought} (e : x ≡ soughtIn σ s rows (g .first) (g .element) (compared r) (g .count) (g .end))
     (k : g ≡ headersAs c) (code : List ℕ) where
-  headers-sought : x ≡ soughtIn σ s rows 0 2 r (c .headers) (c .body)
+  headers-sought : x ≡ soughtIn σ s rows 0 2 (compared r) (c .headers) (c .body)
   headers-sought = groups-sought σ s rows r e k
 
   pub scoped-hit : {a : Range} {b : Bool} → x ≡ At a → b ≡ same (nameAt σ s (a .start) 3) code → b ≡ true → At a ≡ headerFound σ s c rows code r

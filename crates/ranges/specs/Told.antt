@@ -3,6 +3,7 @@
 use Prim.Native.Nat.{ℕ, _≤_}
 use mathlib.Core.List.{List, [], _∷_}
 use mathlib.Core.Bool.{cond}
+use Rattle.syntax.specs.Content.{compared}
 use Rattle.syntax.specs.Octets.{same}
 use Rattle.syntax.specs.Refusals.{atZero}
 use Rattle.syntax.specs.declared.Service.{Service}
@@ -82,10 +83,10 @@ scopedBy σ s code (At x) = cond (same (nameAt σ s (x .start) 3) code) (At x) N
 scopedBy σ s code Nowhere = Nowhere
 
 abbrev pub headerFound : Service → List ℕ → Layout → List ℕ → List ℕ → List ℕ → Sought
-headerFound σ s c rows code r = scopedBy σ s code (soughtIn σ s rows 0 2 r (c .headers) (c .body))
+headerFound σ s c rows code r = scopedBy σ s code (soughtIn σ s rows 0 2 (compared r) (c .headers) (c .body))
 
 abbrev pub trailerFound : Service → List ℕ → Layout → List ℕ → List ℕ → Sought
-trailerFound σ s c rows r = soughtIn σ s rows 9 1 r (c .trailers) (c .unt)
+trailerFound σ s c rows r = soughtIn σ s rows 9 1 (compared r) (c .trailers) (c .unt)
 
 abbrev pub partsBy : Layout → Sought → Scope1
 partsBy c (At x) = Parted (record { header = x; body = record { start = c .body; end = c .tail } })

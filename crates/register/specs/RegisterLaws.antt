@@ -6,6 +6,7 @@ use mathlib.Core.List.{List, [], _∷_, _++_, append-assoc, append-nil}
 use mathlib.Core.Path.{_≡_, refl, ap, sym, _∙_, subst}
 use lib.ListN.{length, length-append, replicate}
 use lib.Seq.{slice}
+use Rattle.syntax.specs.ContentLaws.{plain-content}
 use Rattle.syntax.specs.CuttingLaws.{slice-take}
 use borrow.Author.Tests.{lt-ltb, le-ltb}
 use Rattle.syntax.specs.Octets.{same}
@@ -26,7 +27,7 @@ use Rattle.turns.specs.declared.state.State.{State}
 use Rattle.walk.specs.RunLaws.{ReadAll, verdict-by, begun-fits, fresh-tables}
 use Rattle.walk.specs.Runs.{Fresh, answerFrom, Walking, unreadAs}
 use Rattle.walk.specs.Sections.{PartsLie, Stays, begins, ends, breaks, SectionBy, Passing}
-use Rattle.walk.specs.SectionLaws.{plain-content, Looping, looping-start, looping-on, unread-start}
+use Rattle.walk.specs.SectionLaws.{Looping, looping-start, looping-on, unread-start}
 use Rattle.walk.specs.declared.sections.Layout.{Layout}
 use Rattle.walk.specs.declared.sections.Section.{Section}
 use Rattle.groups.specs.CallsLaws.{begins as begun-so}

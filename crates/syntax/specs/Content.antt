@@ -20,9 +20,28 @@ contentFrom ρ f (b ∷ s) =
 abbrev pub content : ℕ → List ℕ → List ℕ
 content ρ s = contentFrom ρ false s
 
+-- ---- references. "From now trailing spaces don't count when two references are compared, and one made only of spaces is malformed (8)."
+
+abbrev pub space : ℕ → Bool
+space b = eqb b 32
+
+-- an octet before what is left of those behind it: a space with nothing behind it goes
+abbrev pub leading : ℕ → List ℕ → List ℕ
+leading b [] = cond (space b) [] (b ∷ [])
+leading b (c ∷ r) = b ∷ c ∷ r
+
+-- without the spaces at the end
+abbrev pub bareOf : List ℕ → List ℕ
+bareOf [] = []
+bareOf (b ∷ s) = leading b (bareOf s)
+
 -- "References are compared by content.": what a reference, of this content, is compared by, in a segment and where a call is given one
 abbrev pub compared : List ℕ → List ℕ
-compared r = r
+compared r = bareOf r
+
+-- made only of spaces
+abbrev pub blank : List ℕ → Bool
+blank r = allPass space r
 
 -- digits, and the number they give
 abbrev pub allDigits : List ℕ → Bool

@@ -68,6 +68,15 @@ module _ (ρ : ℕ) (x : List ℕ) (i : ℕ) where
           let m : suc i < length x = omega arith in
           rw (drop-cons x i 0 h, ne-eqb _ _ w, eq-eqb _ _ e, add-one i, drop-cons x (suc i) 0 m)
 
+-- nothing is released where the release is a space
+pub plain-content : (x : List ℕ) → content 32 x ≡ x
+plain-content [] = refl
+plain-content (b ∷ x) = by (eqb b 32) ∙ ap (λ (z : List ℕ). b ∷ z) (plain-content x)
+  where
+    by : (c : Bool) → cond (cond c false c) (contentFrom 32 true x) (b ∷ contentFrom 32 false x) ≡ b ∷ contentFrom 32 false x
+    by true = refl
+    by false = refl
+
 -- `b` is the first octet of the content from i of x, and the rest is the content from j
 pub record Stepped (ρ : ℕ) (x : List ℕ) (i b j : ℕ) : Type 0 where
   pub gives : content ρ (drop i x) ≡ b ∷ content ρ (drop j x)
@@ -84,7 +93,7 @@ next-tail i s e = rw add-one (drop-tail i s e)
 pub drop-short : (i : ℕ) (s : List ℕ) {b : ℕ} {l : List ℕ} → drop i s ≡ b ∷ l → i < length s
 drop-short i s e = omega (arith, length-drop i s, ap length e)
 
-not-over : {b j : ℕ} → Over ≡ Octet b j → ⊥
+pub not-over : {b j : ℕ} → Over ≡ Octet b j → ⊥
 not-over e = let z : _≡_ {A = ℕ} 0 1 = cc in omega arith
 
 not-octet : {b j : ℕ} → Octet b j ≡ Over → ⊥
@@ -216,38 +225,6 @@ alike-end {x} {z} {i} g h t = let n = g .size in let m : length z ≤ i = omega 
 pub same-self : (x : List ℕ) → same x x ≡ true
 same-self [] = refl
 same-self (b ∷ x) = rw (eq-eqb b b refl) (same-self x)
-
-pub same-alike : {ρ ς : ℕ} {x z : List ℕ} → ρ ≡ ς → x ≡ z → true ≡ same (content ρ x) (content ς z)
-same-alike {ρ} {ς} {x} {z} e d = rw (e, d) (sym (same-self (content ς z)))
-
--- the same of two contents, from i of x and from k of z
-pub record Matching (ρ ς : ℕ) (answer : Bool) (x : List ℕ) (i : ℕ) (z : List ℕ) (k : ℕ) : Type 0 where
-  pub matches : answer ≡ same (content ρ (drop i x)) (content ς (drop k z))
-
-module _ {ρ ς : ℕ} {answer : Bool} {x : List ℕ} {i : ℕ} {z : List ℕ} {k : ℕ} (g : Matching ρ ς answer x i z k)
-    {f h : Next} (e : f ≡ nextOf ρ (drop i x) i) (q : h ≡ nextOf ς (drop k z) k) where
-  pub matching-end : f ≡ Over → h ≡ Over → true ≡ answer
-  matching-end d u = sym (g .matches ∙ rw (next-over ρ x i e d, next-over ς z k q u))
-
-  pub matching-long : {c l : ℕ} → f ≡ Over → h ≡ Octet c l → false ≡ answer
-  matching-long d u = sym (g .matches ∙ rw (next-over ρ x i e d, next-steps ς z k q u .gives))
-
-  module _ {b j : ℕ} (d : f ≡ Octet b j) where
-    matching-steps : Stepped ρ x i b j
-    matching-steps = next-steps ρ x i e d
-
-    pub matching-less : length x - j < length x - i
-    matching-less = stepped-less matching-steps
-
-    pub matching-short : h ≡ Over → false ≡ answer
-    matching-short u = sym (g .matches ∙ rw (matching-steps .gives, next-over ς z k q u))
-
-    module _ {c l : ℕ} (u : h ≡ Octet c l) where
-      pub matching-other : (b ≡ c → ⊥) → false ≡ answer
-      matching-other w = sym (g .matches ∙ rw (matching-steps .gives, next-steps ς z k q u .gives, ne-eqb _ _ w))
-
-      pub matching-on : b ≡ c → Matching ρ ς answer x j z l
-      matching-on w = record { matches = g .matches ∙ rw (matching-steps .gives, next-steps ς z k q u .gives, eq-eqb _ _ w) }
 
 -- the answer is whether the content from i is digits
 pub record Digital (ρ : ℕ) (answer : Bool) (x : List ℕ) (i : ℕ) : Type 0 where

@@ -20,6 +20,7 @@ pub mod RepertoireLaws
 pub mod CuttingLaws
 pub mod TagLaws
 pub mod ContentLaws
+pub mod BareLaws
 pub mod SegmentLaws
 pub mod TreeLaws
 pub mod ReaderLaws

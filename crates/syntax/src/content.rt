@@ -5,7 +5,7 @@ ghost use Prim.Native.Nat.{_≤_, _<_};
 ghost use lib.ListN.{length, drop};
 ghost use lib.Seq.{slice};
 ghost use Rattle.syntax.specs.Octets.{same};
-ghost use Rattle.syntax.specs.Content.{compared, content, allDigits};
+ghost use Rattle.syntax.specs.Content.{blank, compared, content, allDigits};
 ghost use Rattle.syntax.specs.Scanning.{nextOf, numberIn};
 
 // The next octet of content, and the place after it.
@@ -118,8 +118,69 @@ fn alike(x: &[u8], z: &[u8]) -> bool
     true
 }
 
-fn same_freed(x: &[u8], release: u8, z: &[u8], other: u8) -> bool
-    ensures { λ r. ⌜ r ≡ same (content release (now (x .entry))) (content other (now (z .entry))) ⌝ }
+// The part of `x` that the spaces at the end of its content are not in, wherever releases stand.
+fn bare_freed<'a>(x: &'a [u8], release: u8) -> &'a [u8]
+    ensures { λ r. ⌜ content release (now r) ≡ compared (content release (now (x .entry))) ⌝ }
+{
+    let mut i: usize = 0;
+    let mut end: usize = 0;
+    loop {
+        match next_octet(x, i, release) {
+            Next::Octet(b, j) => {
+                if b != 32 {
+                    end = j;
+                }
+                i = j;
+            }
+            Next::Over => {
+                return &x[0..end];
+            }
+        }
+    }
+}
+
+// The same. Mostly the last octet that is no space is no release either: then neither a space behind it nor itself is freed by it, and it is told from
+// the end.
+pub fn bare<'a>(x: &'a [u8], release: u8) -> &'a [u8]
+    ensures { λ r. ⌜ content release (now r) ≡ compared (content release (now (x .entry))) ⌝ }
+{
+    let mut n = x.len();
+    while 0 < n {
+        let last = x[n - 1];
+        if last != 32 {
+            if last != release {
+                return &x[0..n];
+            }
+            return bare_freed(x, release);
+        }
+        n -= 1;
+    }
+    &x[0..0]
+}
+
+// Whether the content from `from` on is made only of spaces.
+fn only_spaces(x: &[u8], from: usize, release: u8) -> bool
+    ensures { λ r. ⌜ r ≡ blank (content release (drop from (now (x .entry)))) ⌝ }
+{
+    let mut i = from;
+    loop {
+        match next_octet(x, i, release) {
+            Next::Octet(b, j) => {
+                if b != 32 {
+                    return false;
+                }
+                i = j;
+            }
+            Next::Over => {
+                return true;
+            }
+        }
+    }
+}
+
+// Octet by octet of content: where one ends first, the other may go on with spaces.
+fn same_bare(x: &[u8], release: u8, z: &[u8], other: u8) -> bool
+    ensures { λ r. ⌜ r ≡ same (compared (content release (now (x .entry)))) (compared (content other (now (z .entry)))) ⌝ }
 {
     let mut i = 0;
     let mut k = 0;
@@ -136,45 +197,40 @@ fn same_freed(x: &[u8], release: u8, z: &[u8], other: u8) -> bool
                     k = l;
                 }
                 Next::Over => {
-                    return false;
+                    return only_spaces(x, i, release);
                 }
             },
-            Next::Over => match g {
-                Next::Octet(_, _) => {
-                    return false;
-                }
-                Next::Over => {
-                    return true;
-                }
-            },
+            Next::Over => {
+                return only_spaces(z, k, other);
+            }
         }
     }
 }
 
-// Whether `x` and `z` have the same content, each under its own release. Mostly they are alike, which is soon told.
-pub fn same_content(x: &[u8], release: u8, z: &[u8], other: u8) -> bool
-    ensures { λ r. ⌜ r ≡ same (content release (now (x .entry))) (content other (now (z .entry))) ⌝ }
+// Whether two references are the same. Mostly they are alike, which is soon told.
+pub fn same_reference(x: &[u8], release: u8, z: &[u8], other: u8) -> bool
+    ensures { λ r. ⌜ r ≡ same (compared (content release (now (x .entry)))) (compared (content other (now (z .entry)))) ⌝ }
 {
     if release == other {
         if alike(x, z) {
             return true;
         }
     }
-    same_freed(x, release, z, other)
+    same_bare(x, release, z, other)
 }
 
-// The same of references.
-pub fn same_reference(x: &[u8], release: u8, z: &[u8], other: u8) -> bool
-    ensures { λ r. ⌜ r ≡ same (compared (content release (now (x .entry)))) (compared (content other (now (z .entry)))) ⌝ }
-{
-    same_content(x, release, z, other)
-}
-
-// .. where the other is given to a call, as content.
+// .. where the other is given to a call, as content: a space frees nothing.
 pub fn reference_is(x: &[u8], release: u8, t: &[u8]) -> bool
     ensures { λ r. ⌜ r ≡ same (compared (content release (now (x .entry)))) (compared (now (t .entry))) ⌝ }
 {
-    content_is(x, release, t)
+    same_bare(x, release, t, 32)
+}
+
+// Whether a reference is made only of spaces.
+pub fn is_blank(x: &[u8], release: u8) -> bool
+    ensures { λ r. ⌜ r ≡ blank (content release (now (x .entry))) ⌝ }
+{
+    same_reference(x, release, b"", 32)
 }
 
 pub fn all_digits(x: &[u8], release: u8) -> bool

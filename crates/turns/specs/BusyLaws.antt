@@ -7,7 +7,7 @@ use mathlib.Core.List.{List}
 use mathlib.Core.Option.{Option, none, some}
 use lib.ListN.{length}
 use lib.Seq.{slice}
-use Rattle.syntax.specs.Content.{content}
+use Rattle.syntax.specs.Content.{content, compared}
 use Rattle.syntax.specs.RepertoireLaws.{and-r}
 use Rattle.syntax.specs.declared.Service.{Service}
 use Rattle.syntax.specs.declared.Syntax.{Syntax}
@@ -24,7 +24,7 @@ use Rattle.elements.specs.FormedLaws.{formed-by}
 use Rattle.message.specs.Heads.{headSizes}
 use Rattle.message.specs.HeadsLaws.{small-more}
 use Rattle.references.specs.Refs.{refsIn}
-use Rattle.message.specs.Summary.{Summary, StateS, busyS, orderS, refsK, countsK, scopeK, isFound, freeAt, moreInLast, atStart, atIdle, atBusy, mayCome, usrMay, usaGroup, uscGroup, grown, grownBy, ushNext, usrNext, ustNext, itemNext, loaded, busyNext, AnswerS, readS, refusedS}
+use Rattle.message.specs.Summary.{Summary, StateS, busyS, orderS, refsK, countsK, scopeK, isFound, freeAt, moreInLast, atStart, atIdle, atBusy, mayCome, usrMay, usaGroup, uscGroup, grown, grownBy, ushNext, usrNext, ustNext, itemNext, loaded, busyNext, AnswerS, readS, refusedS, refIn}
 use Rattle.message.specs.Steps.{AnswerM, toM, badM, ustM, stepM, summaryIn, Roomy, MovedIs}
 use Rattle.message.specs.StepsLaws.{moved-to, roomy-small, roomy-grown}
 use Rattle.message.specs.ItemsLaws.{cnt-tag, not-true, not-false}
@@ -151,14 +151,14 @@ module _ (u : List ℕ) (rs : Snoc (List ℕ)) (S : Summary) (a : Asked) (p : �
   rest-is v Unh n m l = absurd (false≢true m)
   rest-is v Unt n m l = absurd (false≢true (sym n))
   rest-is v Unz n m l = absurd (false≢true m)
-  rest-is v Ush n m l = ush-rest (not (among (S .refs) (a .text 2 0))) (scopeCode (S .m .autack) (a .text 3 0)) (l refl)
+  rest-is v Ush n m l = ush-rest (not (among (S .refs) (refIn a 2))) (scopeCode (S .m .autack) (a .text 3 0)) (l refl)
   rest-is v Usa n m l = load-go (l refl) _
   rest-is v Usc n m l = load-go (l refl) _
   rest-is v Usr n m l = load-go (l refl) _
-  rest-is v Ust n m l = ust-rest (freeAt (a .text 1 0) (S .refs) (S .flags)) (l refl)
+  rest-is v Ust n m l = ust-rest (freeAt (refIn a 1) (S .refs) (S .flags)) (l refl)
   rest-is v Usb n m l = load-go (l refl) _
   rest-is v Usx n m l = load-go (l refl) _
-  rest-is v Usy n m l = usy-rest (among (S .refs) (a .text 1 0)) (grownBy S (Ack true true) (S .sizes)) (l refl)
+  rest-is v Usy n m l = usy-rest (among (S .refs) (refIn a 1)) (grownBy S (Ack true true) (S .sizes)) (l refl)
   rest-is v Reserved n m l = absurd (false≢true m)
   rest-is v Qty n m l = one-rest (loadRight a) 12 (itemNext S (loaded (S .m .sums) (loadIn a)))
   rest-is v Cnt n m l = load-go (l refl) _
@@ -199,14 +199,14 @@ module _ (S : Summary) (a : Asked) where
   step-grows Unh h = refl
   step-grows Unt h = refl
   step-grows Unz h = refl
-  step-grows Ush h = ush-grows (not (among (S .refs) (a .text 2 0))) (scopeCode (S .m .autack) (a .text 3 0))
+  step-grows Ush h = ush-grows (not (among (S .refs) (refIn a 2))) (scopeCode (S .m .autack) (a .text 3 0))
   step-grows Usa h = refl
   step-grows Usc h = refl
   step-grows Usr h = usr-grows (S .m .group) h
-  step-grows Ust h = ust-grows (freeAt (a .text 1 0) (S .refs) (S .flags))
+  step-grows Ust h = ust-grows (freeAt (refIn a 1) (S .refs) (S .flags))
   step-grows Usb h = refl
   step-grows Usx h = refl
-  step-grows Usy h = one-grows (among (S .refs) (a .text 1 0)) 9 (grownBy S (Ack true true) (S .sizes)) refl
+  step-grows Usy h = one-grows (among (S .refs) (refIn a 1)) 9 (grownBy S (Ack true true) (S .sizes)) refl
   step-grows Reserved h = refl
   step-grows Qty h = one-grows (loadRight a) 12 (itemNext S (loaded (S .m .sums) (loadIn a))) refl
   step-grows Cnt h = refl
@@ -216,7 +216,7 @@ module _ (S : Summary) (a : Asked) where
 
 -- UNB's 0020, and the open message
 abbrev unbIn : ℕ → List ℕ → State → List ℕ
-unbIn ρ s st = content ρ (slice (st .unb .start) (st .unb .end) s)
+unbIn ρ s st = compared (content ρ (slice (st .unb .start) (st .unb .end) s))
 
 abbrev openIn : ℕ → List ℕ → State → List ℕ → Summary
 openIn ρ s st h = summaryIn ρ s (st .message) (st .unh .start) (st .unh .end) h

@@ -9,8 +9,9 @@ use borrow.Author.Tests.{eq-eqb, ne-eqb, leb-true}
 use lib.Dec.{T, eqb, leb}
 use lib.ListN.{length}
 use lib.Seq.{slice}
-use Rattle.syntax.specs.Octets.{octets, same}
-use Rattle.syntax.specs.Content.{content, valueFrom}
+use Rattle.syntax.specs.Octets.{octets, same, within}
+use Rattle.syntax.specs.Content.{content, valueFrom, compared, blank}
+use Rattle.syntax.specs.BareLaws.{compared-short}
 use Rattle.syntax.specs.RepertoireLaws.{and-l, and-r}
 use Rattle.syntax.specs.Segment.{componentAt, partOf}
 use Rattle.syntax.specs.declared.Found.{Found}
@@ -24,7 +25,7 @@ use Rattle.grammar.specs.Lists.{Snoc, nil, _▷_, size, any, among}
 use Rattle.grammar.specs.Rules.{subsetOf}
 use Rattle.grammar.specs.Segments.{Asked}
 use Rattle.grammar.specs.Segments as named
-use Rattle.grammar.specs.Elements.{anyText, digits, simple, composite, row, inRange, formedAs, formedRow, formed}
+use Rattle.grammar.specs.Elements.{anyText, digits, reference, simple, composite, row, inRange, formedAs, formedRow, formed}
 use Rattle.grammar.specs.Loads.{loadRight}
 use Rattle.grammar.specs.Verdict.{tested}
 use Rattle.grammar.specs.PlacingLaws.{same-eq}
@@ -145,8 +146,9 @@ module _ (l : List ℕ) where
 -- its reference has at most 14 octets
 unh-short : (v : Version) (a : Asked) → formedRow (row v named.Unh) a 1 ≡ true → length (a .text 1 0) ≤ 14
 unh-short v a e =
-    let r = closed-range (anyText 1 14) a 1 (and-l (formedAs (simple (anyText 1 14 ∷ [])) a 1) (formedRow (composite (anyText 1 6 ∷ []) ∷ []) a 2) e) in
-    leb-true (length (a .text 1 0)) 14 (and-r (leb 1 (length (a .text 1 0))) (leb (length (a .text 1 0)) 14) r)
+    let r = closed-range (reference 1 14) a 1 (and-l (formedAs (simple (reference 1 14 ∷ [])) a 1) (formedRow (composite (anyText 1 6 ∷ []) ∷ []) a 2) e) in
+    let k = and-l (within 1 14 (length (a .text 1 0))) (not (blank (a .text 1 0))) r in
+    leb-true (length (a .text 1 0)) 14 (and-r (leb 1 (length (a .text 1 0))) (leb (length (a .text 1 0)) 14) k)
 
 -- a slot was offered
 pub offer-at : {l b t l′ : List ℕ} {n : ℕ} (r : Found) → OfferIs l b n t r l′ → {i : ℕ} → r ≡ At i → Fitting l b n t i l′
@@ -179,12 +181,12 @@ roomy-fresh b h = record {
 }
 
 module _ (ρ : ℕ) (s h : List ℕ) where
-  fresh-summary : {m : Message} {b : Subset} (i j : ℕ) (a : Asked) → m ≡ fresh b → b ≡ subsetOf (a .text 2 0) → content ρ (slice i j s) ≡ a .text 1 0 →
+  fresh-summary : {m : Message} {b : Subset} (i j : ℕ) (a : Asked) → m ≡ fresh b → b ≡ subsetOf (a .text 2 0) → compared (content ρ (slice i j s)) ≡ compared (a .text 1 0) →
       summaryIn ρ s m i j h ≡ opened a
   fresh-summary {m} {b} i j a e d q =
       ap (λ (x : Message). summaryIn ρ s x i j h) (e ∙ ap fresh d) ∙ named-by q
     where
-      named-by : {t : List ℕ} → t ≡ a .text 1 0 →
+      named-by : {t : List ℕ} → t ≡ compared (a .text 1 0) →
           _≡_ {A = Summary} (record { m = fresh (subsetOf (a .text 2 0)); ref = t; refs = nil; sizes = nil; flags = nil }) (opened a)
       named-by q = rw q
 
@@ -198,7 +200,7 @@ module _ (y : Syntax) (s : List ℕ) (st : State) (h l b : List ℕ) (at next : 
   here = stateIn (y .service .release) s st h l
 
   abbrev unbs : List ℕ
-  unbs = content (y .service .release) (slice (st .unb .start) (st .unb .end) s)
+  unbs = compared (content (y .service .release) (slice (st .unb .start) (st .unb .end) s))
 
   abbrev refs : Snoc (List ℕ)
   refs = refsIn l (st .count)
@@ -241,7 +243,7 @@ module _ (y : Syntax) (s : List ℕ) (st : State) (h l b : List ℕ) (at next : 
 
       unb-is : stateIn (y .service .release) s (afterUnb st z) h l ≡ nextS here ask
       unb-is =
-          ap (λ (t : List ℕ). idleS (content (y .service .release) t) nil) (between (g .noted refl .marks) 5 (omega arith) (omega arith) u)
+          ap (λ (t : List ℕ). idleS (compared (content (y .service .release) t)) nil) (between (g .noted refl .marks) 5 (omega arith) (omega arith) u)
           ∙ sym (by (λ (x : StateS) (k : Kind). nextK x k ask) unb-here (g .kind))
 
       pub unb-read : not q ≡ false → {x : State} → x ≡ afterUnb st z → Told (On x)
@@ -267,24 +269,27 @@ module _ (y : Syntax) (s : List ℕ) (st : State) (h l b : List ℕ) (at next : 
     pub unh-bad : not q ≡ true → {r : Step} → r ≡ Stop (record { number = 8; place = at }) → Told r
     unh-bad n d = stop (y .service .release) s h l b next (at-8 (y .version) here ask at unh-order (sym e ∙ not-true q n)) d
 
-    module _ (n : not q ≡ false) {x : List ℕ} (field : x ≡ partOf s (componentAt (y .service) s at 1 0)) where
-      pub unh-name : length (content (y .service .release) x) ≤ 14
+    -- z is the part of the field that is compared
+    module _ (n : not q ≡ false) {x : List ℕ} (z : List ℕ) (field : x ≡ partOf s (componentAt (y .service) s at 1 0)) (bared : content (y .service .release) z ≡ compared (content (y .service .release) x)) where
+      pub unh-name : length (content (y .service .release) z) ≤ 14
       unh-name =
           let short = unh-short (y .version) ask (ap (λ (k : Kind). formedBy (y .version) k ask) (g .kind) ∙ sym (formed-by (y .version) ask) ∙ sym e ∙ not-false q n) in
-          rw field short
+          let less = compared-short (content (y .service .release) x) in
+          let most : length (content (y .service .release) x) ≤ 14 = rw field short in
+          rw bared (omega (arith, less, most))
 
-      unh-refs : {a : Bool} → among (refsIn l (st .count)) (content (y .service .release) x) ≡ a → refsS here ask ≡ not a
+      unh-refs : {a : Bool} → among (refsIn l (st .count)) (content (y .service .release) z) ≡ a → refsS here ask ≡ not a
       unh-refs used =
           by (λ (z : StateS) (k : Kind). refsK z k ask) (idle-here ph) (g .kind)
-          ∙ ap not (sym (ap (λ (t : List ℕ). among refs (content (y .service .release) t)) field) ∙ used)
+          ∙ ap not (sym (ap (among refs) bared ∙ ap (λ (t : List ℕ). among refs (compared (content (y .service .release) t))) field) ∙ used)
 
-      pub unh-again : (l′ : List ℕ) (z : Found) → OfferIs l b (st .count) (content (y .service .release) x) z l′ → z ≡ Nothing →
+      pub unh-again : (l′ : List ℕ) (a : Found) → OfferIs l b (st .count) (content (y .service .release) z) a l′ → a ≡ Nothing →
           {r : Step} → r ≡ Stop (record { number = 9; place = at }) → Left l′ r
-      unh-again l′ z o v d =
-          let used = subst (λ (w : Found). OfferIs l b (st .count) (content (y .service .release) x) w l′) v o .0 in
+      unh-again l′ a o v d =
+          let used = subst (λ (w : Found). OfferIs l b (st .count) (content (y .service .release) z) w l′) v o .0 in
           stop (y .service .release) s h l′ b next (at-9 (y .version) here ask at unh-order (sym e ∙ not-false q n) (unh-refs used)) d
 
-      module _ {l′ : List ℕ} {k : ℕ} (o : Fitting l b (st .count) (content (y .service .release) x) k l′) {c : Subset} (autack : c ≡ subsetOf (textAt (y .service) s at 2 0)) {m : Message} (new : m ≡ fresh c)
+      module _ {l′ : List ℕ} {k : ℕ} (o : Fitting l b (st .count) (content (y .service .release) z) k l′) {c : Subset} (autack : c ≡ subsetOf (textAt (y .service) s at 2 0)) {m : Message} (new : m ≡ fresh c)
           {w : Stretch} (u : w ≡ stretchIn marks 1) where
         unh-part : slice (w .start) (w .end) s ≡ x
         unh-part = between (g .noted refl .marks) 1 (omega arith) (omega arith) u ∙ sym field
@@ -301,14 +306,14 @@ module _ (y : Syntax) (s : List ℕ) (st : State) (h l b : List ℕ) (at next : 
               begun = begun;
               long = g .held .long;
               taken = taken;
-              offered = λ _ r. (o .next r .0 ∙ sym (ap (content (y .service .release)) unh-part), o .next r .1);
+              offered = λ _ r. (o .next r .0 ∙ bared ∙ sym (ap (λ (v : List ℕ). compared (content (y .service .release) v)) unh-part), o .next r .1);
             }
 
         unh-is : stateIn (y .service .release) s (afterUnh st k w m) h l′ ≡ nextS here ask
         unh-is =
             ap (λ (x : Summary). busyS unbs (refsIn l′ (st .count)) x)
             (fresh-summary (y .service .release) s h (w .start) (w .end) ask new autack
-            (ap (content (y .service .release)) (between (g .noted refl .marks) 1 (omega arith) (omega arith) u)))
+            (ap (λ (v : List ℕ). compared (content (y .service .release) v)) (between (g .noted refl .marks) 1 (omega arith) (omega arith) u)))
             ∙ ap (λ (rs : Snoc (List ℕ)). busyS unbs rs (opened ask)) (o .same)
             ∙ sym (by (λ (x : StateS) (k : Kind). nextK x k ask) (idle-here ph) (g .kind))
 
@@ -456,7 +461,7 @@ module _ (y : Syntax) (s : List ℕ) (st : State) (h l b : List ℕ) (at next : 
                     }
 
                 -- the reference behind the others is the message's
-                unt-more : refsIn l (st .count + 1) ≡ refsIn l (st .count) ▷ content (y .service .release) (slice (st .unh .start) (st .unh .end) s)
+                unt-more : refsIn l (st .count + 1) ≡ refsIn l (st .count) ▷ compared (content (y .service .release) (slice (st .unh .start) (st .unh .end) s))
                 unt-more = ap (refsIn l) (add-one (st .count)) ∙ ap (λ (t : List ℕ). refsIn l (st .count) ▷ t) (g .held .offered ph unt-room .0)
 
                 unt-is : stateIn (y .service .release) s (afterOther st Idle (st .count + 1) (st .message)) h l ≡ nextS here ask
@@ -488,7 +493,7 @@ stretch-is m p e d = rw (e, d)
 
 -- a reference compared by content
 pub ref-same : (y : Syntax) (s : List ℕ) (at : ℕ) (w : Stretch) {x z : List ℕ} {a : Bool} → x ≡ partOf s (componentAt (y .service) s at 2 0) →
-    z ≡ slice (w .start) (w .end) s → a ≡ same (content (y .service .release) x) (content (y .service .release) z) → a ≡ repeatedRef (y .service) s at w
+    z ≡ slice (w .start) (w .end) s → a ≡ same (compared (content (y .service .release) x)) (compared (content (y .service .release) z)) → a ≡ repeatedRef (y .service) s at w
 ref-same y s at w {x} {z} field part is =
-    is ∙ ap (λ (t : List ℕ). same (content (y .service .release) t) (content (y .service .release) z)) field
-    ∙ ap (λ (t : List ℕ). same (textAt (y .service) s at 2 0) (content (y .service .release) t)) part
+    is ∙ ap (λ (t : List ℕ). same (compared (content (y .service .release) t)) (compared (content (y .service .release) z))) field
+    ∙ ap (λ (t : List ℕ). same (compared (textAt (y .service) s at 2 0)) (compared (content (y .service .release) t))) part

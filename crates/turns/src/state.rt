@@ -59,6 +59,7 @@ use references::refs::offer;
 use syntax::Breach;
 use syntax::Found;
 use syntax::Syntax;
+use syntax::content::bare;
 use syntax::content::content_is;
 use syntax::content::part;
 use syntax::content::same_reference;
@@ -343,13 +344,9 @@ fn on_unh(
     if !unh_formed(s, at, y, marks) {
         return stopped(8, at);
     }
-    match offer(
-        v.release,
-        names,
-        slots,
-        st.count as usize,
-        field(s, at, y, marks, 1, 0),
-    ) {
+    let x = field(s, at, y, marks, 1, 0);
+    let z = bare(x, v.release);
+    match offer(v.release, names, slots, st.count as usize, z) {
         Found::Nothing => stopped(9, at),
         Found::At(i) => {
             let m = fresh_message(subset_in(s, at, y, marks));

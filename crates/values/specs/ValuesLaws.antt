@@ -9,7 +9,7 @@ use lib.Dec.{T}
 use lib.ListN.{length}
 use lib.Seq.{slice, slice-empty}
 use Rattle.syntax.specs.Refusals.{atZero}
-use Rattle.syntax.specs.Content.{content}
+use Rattle.syntax.specs.Content.{content, compared}
 use Rattle.syntax.specs.Service.{fit}
 use Rattle.syntax.specs.Cutting.{endAt}
 use Rattle.syntax.specs.Segment.{componentAt, partOf}
@@ -93,7 +93,7 @@ module _ (σ : Service) (f : T (fit σ)) (s : List ℕ) (p q : ℕ) (c : Leaf) w
 -- ---- the text of the value
 
 module _ {s m : List ℕ} {y : Syntax} {c : Layout} {rows : List ℕ} (h : Holds s m y c rows) (r : List ℕ) where
-  pub trailer-none : {x : Sought} {z : List ℕ} → x ≡ soughtIn (y .service) s rows 9 1 r (c .trailers) (c .unt) → x ≡ Nowhere → z ≡ slice 0 0 s
+  pub trailer-none : {x : Sought} {z : List ℕ} → x ≡ soughtIn (y .service) s rows 9 1 (compared r) (c .trailers) (c .unt) → x ≡ Nowhere → z ≡ slice 0 0 s
       → content (y .service .release) z ≡ trailerText (h .o) r
   trailer-none {x} {z} e d k = no-content (y .service .release) s k ∙ by (trailerNamed (h .o) r) (sym d ∙ e ∙ trailer-found h r)
     where
@@ -101,7 +101,7 @@ module _ {s m : List ℕ} {y : Syntax} {c : Layout} {rows : List ℕ} (h : Holds
       by none q = refl
       by (some (chosen ts x)) q = let z : _≡_ {A = ℕ} 0 1 = cc in absurd (omega arith)
 
-  pub trailer-at : {x : Sought} {g : Range} (z : List ℕ) → x ≡ soughtIn (y .service) s rows 9 1 r (c .trailers) (c .unt) → x ≡ At g
+  pub trailer-at : {x : Sought} {g : Range} (z : List ℕ) → x ≡ soughtIn (y .service) s rows 9 1 (compared r) (c .trailers) (c .unt) → x ≡ At g
       → ((l : Leaf) (o : Option Leaf) → Stand (y .service) s (g .start) (showTrailer (trailer l o)) → g .end ≡ g .start + wide (y .service) (showTrailer (trailer l o)) → content (y .service .release) z ≡ usrText o)
       → content (y .service .release) z ≡ trailerText (h .o) r
   trailer-at {x} {g} z e d k = by (trailerNamed (h .o) r) (λ ts x q. trailer-there h r q) (sym d ∙ e ∙ trailer-found h r)
@@ -115,7 +115,7 @@ module _ {s m : List ℕ} {y : Syntax} {c : Layout} {rows : List ℕ} (h : Holds
           k l u (subst (λ (i : ℕ). Stand (y .service) s i (showTrailer (trailer l u))) (sym a) (f ts (trailer l u) refl))
           (b ∙ ap (λ (i : ℕ). i + wide (y .service) (showTrailer (trailer l u))) (sym a))
 
-  module _ {l : Linked} (k : (gs : List Segment) → Row (y .service) s (c .body) gs (c .tail) → l ≡ linkFrom (y .service) (c .body) (c .body) gs r) where
+  module _ {l : Linked} (k : (gs : List Segment) → Row (y .service) s (c .body) gs (c .tail) → l ≡ linkFrom (y .service) (c .body) (c .body) gs (compared r)) where
     pub link-none : {z : List ℕ} → l ≡ Unlinked → z ≡ slice 0 0 s → content (y .service .release) z ≡ linkText (bodyIn (h .o)) r
     link-none q d =
         no-content (y .service .release) s d ∙ sym (ap usyText (tie-none (body-tied h r) (sym q ∙ k (list (showBody (bodyIn (h .o)))) (body-row h r))))
@@ -135,7 +135,7 @@ module _ {s m : List ℕ} {y : Syntax} {c : Layout} {rows : List ℕ} (h : Holds
 -- ---- the call
 
 module _ {s m : List ℕ} {y : Syntax} {c : Layout} {rows : List ℕ} (h : Holds s m y c rows) (r : List ℕ) {x : Sought}
-    (e : x ≡ soughtIn (y .service) s rows 0 2 r (c .headers) (c .body)) where
+    (e : x ≡ soughtIn (y .service) s rows 0 2 (compared r) (c .headers) (c .body)) where
   pub value-headless : {out left : List ℕ} {a : _} → x ≡ Nowhere → Writes (noText (atZero 13)) out a left → Writes (valueIn (h .o) r) out a left
   value-headless d w = writes-as (by (headerNamed (h .o) r) (sym d ∙ e ∙ header-found h r)) w
     where

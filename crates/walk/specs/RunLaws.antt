@@ -8,7 +8,7 @@ use lib.Dec.{T, leb, leb→le}
 use lib.ListN.{length, drop, replicate, length-replicate}
 use lib.Seq.{slice}
 use Rattle.syntax.specs.Service.{fit}
-use Rattle.syntax.specs.Content.{content}
+use Rattle.syntax.specs.Content.{content, compared}
 use Rattle.syntax.specs.Cutting.{endAt, tagOf}
 use Rattle.syntax.specs.Scanning.{cutAt}
 use Rattle.syntax.specs.Opening.{begunOf}
@@ -78,11 +78,11 @@ over-phased Done u rs S = refl
 
 over-in : (ρ : ℕ) (s : List ℕ) (x : State) (h l : List ℕ) → over (stateIn ρ s x h l) ≡ isDone (x .phase)
 over-in ρ s x h l =
-    over-phased (x .phase) (content ρ (slice (x .unb .start) (x .unb .end) s)) (refsIn l (x .count)) (summaryIn ρ s (x .message) (x .unh .start) (x .unh .end) h)
+    over-phased (x .phase) (compared (content ρ (slice (x .unb .start) (x .unb .end) s))) (refsIn l (x .count)) (summaryIn ρ s (x .message) (x .unh .start) (x .unh .end) h)
 
 start-in : (ρ : ℕ) (s : List ℕ) (x : State) (h l : List ℕ) → x .phase ≡ Start → stateIn ρ s x h l ≡ startS
 start-in ρ s x h l e =
-    ap (λ (p : Phase). phased p (content ρ (slice (x .unb .start) (x .unb .end) s)) (refsIn l (x .count))
+    ap (λ (p : Phase). phased p (compared (content ρ (slice (x .unb .start) (x .unb .end) s))) (refsIn l (x .count))
     (summaryIn ρ s (x .message) (x .unh .start) (x .unh .end) h)) e
 
 -- ---- what holds at the head of the loop

@@ -12,7 +12,8 @@ use lib.Seq.{slice, drop-cons}
 use Rattle.syntax.specs.Octets.{octets, same}
 use Rattle.syntax.specs.CuttingLaws.{slice-take}
 use Rattle.syntax.specs.Service.{fit}
-use Rattle.syntax.specs.Content.{contentFrom, content}
+use Rattle.syntax.specs.Content.{content, compared}
+use Rattle.syntax.specs.ContentLaws.{plain-content}
 use Rattle.syntax.specs.Tree.{Segment, printS}
 use Rattle.syntax.specs.declared.Service.{Service}
 use Rattle.syntax.specs.declared.Syntax.{Syntax}
@@ -89,15 +90,6 @@ ust-text t e = by (kindIn tags t) refl e
     by segments.Reserved q e = let z : _≡_ {A = ℕ} 0 1 = cc in absurd (omega arith)
     by Free q e = absurd (ust-free (same t (octets "QTY")) (same t (octets "CNT")) e)
 
--- nothing is released where the release is a space
-pub plain-content : (x : List ℕ) → content 32 x ≡ x
-plain-content [] = refl
-plain-content (b ∷ x) = by (eqb b 32) ∙ ap (λ (z : List ℕ). b ∷ z) (plain-content x)
-  where
-    by : (c : Bool) → cond (cond c false c) (contentFrom 32 true x) (b ∷ contentFrom 32 false x) ≡ b ∷ contentFrom 32 false x
-    by true = refl
-    by false = refl
-
 module _ (s : List ℕ) (a n : ℕ) where
   pub nameable-none : n ≡ 0 → 0 ≡ nameableIn s a n
   nameable-none e = by (same (slice a (a + 3) s) (octets "UST"))
@@ -132,11 +124,11 @@ nameable-most s a n = by (same (slice a (a + 3) s) (octets "UST"))
 
 -- what the search found is the header that the UST names
 pub sought : (σ : Service) (s : List ℕ) (a : ℕ) (m : Kept) (h : List ℕ) {n i : ℕ} → n ≡ nameableIn s a (m .headers)
-    → i ≡ posOr n (freeAt (textAt σ s a 1 0) (headRefs (σ .release) s h n) (headFlags h n)) → i ≤ n → tagKind (slice a (a + 3) s) ≡ Ust → Sought σ s a m h i
+    → i ≡ posOr n (freeAt (compared (textAt σ s a 1 0)) (headRefs (σ .release) s h n) (headFlags h n)) → i ≤ n → tagKind (slice a (a + 3) s) ≡ Ust → Sought σ s a m h i
 sought σ s a m h {n} {i} e d l k =
     let q : n ≡ m .headers = e ∙ ap (λ (c : Bool). cond c (m .headers) 0) (ust-text (slice a (a + 3) s) k) in
     record {
-      found = d ∙ ap (λ (z : ℕ). posOr z (freeAt (textAt σ s a 1 0) (headRefs (σ .release) s h z) (headFlags h z))) q;
+      found = d ∙ ap (λ (z : ℕ). posOr z (freeAt (compared (textAt σ s a 1 0)) (headRefs (σ .release) s h z) (headFlags h z))) q;
       most = omega (arith, l, q);
     }
 
@@ -196,7 +188,7 @@ row-as rows a e d c = rw (e, d, c)
 pub record Opened (σ : Service) (s : List ℕ) (x : State) (o : Open) : Type 0 where
   pub phase : x .phase ≡ Busy
   pub kept : keptOf o ≡ x .message
-  pub ref : content (σ .release) (slice (x .unh .start) (x .unh .end) s) ≡ refO o
+  pub ref : compared (content (σ .release) (slice (x .unh .start) (x .unh .end) s)) ≡ refO o
 
 opened : (σ : Service) (s : List ℕ) (x : State) (h l : List ℕ) (u : Leaf) (ms : Snoc Message) (o : Open) → stateOf (busy u ms o) ≡ stateIn (σ .release) s x h l → Opened σ s x o
 opened σ s x h l u ms o e =

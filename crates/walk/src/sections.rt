@@ -3,6 +3,7 @@ ghost use mathlib.Core.Path.{_≡_};
 ghost use mathlib.Core.Bool.{_&&_, not};
 ghost use Prim.Native.Nat.{ℕ, _<_};
 ghost use lib.ListN.{length};
+ghost use Rattle.syntax.specs.Content.{compared};
 ghost use Rattle.syntax.specs.Octets.{same};
 ghost use Rattle.syntax.specs.Classes.{Table};
 ghost use Rattle.elements.specs.Octets.{textAt};
@@ -128,7 +129,7 @@ pub fn names_free(
 ) -> bool
     requires { ⌜ Table y (now t) ⌝ }
     requires { ⌜ i < 9 ⌝ }
-    ensures { λ r. ⌜ r ≡ (same (headRef (y .service .release) (now (s .entry)) (now (heads .entry)) i) (textAt (y .service) (now (s .entry)) at 1 0) && not (headFlag (now (heads .entry)) i)) ⌝ }
+    ensures { λ r. ⌜ r ≡ (same (headRef (y .service .release) (now (s .entry)) (now (heads .entry)) i) (compared (textAt (y .service) (now (s .entry)) at 1 0)) && not (headFlag (now (heads .entry)) i)) ⌝ }
 {
     let v = y.service;
     is_free(s, v.release, heads, i, component_part(s, at, t, y, 1, 0))

@@ -8,6 +8,7 @@ use mathlib.Core.Path.{_≡_, refl, ap, _∙_, sym}
 use lib.Dec.{eqb, leb, ltb}
 use lib.ListN.{length}
 use borrow.Author.Tests.{ne-eqb, eq-eqb, le-leb, lt-leb, lt-ltb, le-ltb, ltb-true, ltb-false}
+use Rattle.syntax.specs.Content.{compared}
 use Rattle.syntax.specs.Octets.{same, within, allPass}
 use Rattle.syntax.specs.Repertoire.{tagOctet}
 use Rattle.syntax.specs.declared.Syntax.{Syntax}
@@ -80,13 +81,13 @@ chosen-some (hs ▷ h) r {x} e = by (same (refH h) r) (chosen-some hs r) e
     by false f e = f e
 
 new-none : (o : Open) (r : List ℕ) → headerNamed o r ≡ none → true ≡ isNew o r
-new-none (msg u hs b ts) r e = sym (ap not (chosen-none hs r e))
+new-none (msg u hs b ts) r e = sym (ap not (chosen-none hs (compared r) e))
 
 new-some : (o : Open) (r : List ℕ) {x : Chosen Header} → headerNamed o r ≡ some x → false ≡ isNew o r
-new-some (msg u hs b ts) r e = sym (ap not (chosen-some hs r e))
+new-some (msg u hs b ts) r e = sym (ap not (chosen-some hs (compared r) e))
 
 module _ {s m : List ℕ} {y : Syntax} {c : Layout} {rows : List ℕ} (h : Holds s m y c rows) (r : List ℕ) {x : Sought}
-    (e : x ≡ soughtIn (y .service) s rows 0 2 r (c .headers) (c .body)) where
+    (e : x ≡ soughtIn (y .service) s rows 0 2 (compared r) (c .headers) (c .body)) where
   pub new-nowhere : x ≡ Nowhere → true ≡ isNew (h .o) r
   new-nowhere d = by (headerNamed (h .o) r) refl (sym d ∙ e ∙ header-found h r)
     where

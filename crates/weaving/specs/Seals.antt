@@ -5,6 +5,7 @@ use mathlib.Core.List.{List, [], _∷_}
 use mathlib.Core.Option.{Option, none, some}
 use lib.Dec.{eqb, leb}
 use lib.ListN.{length, drop}
+use Rattle.syntax.specs.Content.{compared}
 use Rattle.syntax.specs.Octets.{octet, octets, within, same, allPass}
 use Rattle.syntax.specs.Service.{serves}
 use Rattle.syntax.specs.Repertoire.{tagOctet, outside}
@@ -83,7 +84,7 @@ sealedIn h t nil r = nil
 sealedIn h t (ms ▷ m) r = cond (same (refM m) r) (ms ▷ sealedMessage h t m) (sealedIn h t ms r ▷ m)
 
 abbrev pub sealed : Interchange → List ℕ → Header → Trailer → Interchange
-sealed (interchange n u ms z) r h t = interchange n u (sealedIn h t ms r) z
+sealed (interchange n u ms z) r h t = interchange n u (sealedIn h t ms (compared r)) z
 
 -- ---- 16: "REF not allowed or already used in the message; F or VALUE length not allowed; nine headers already; AUTACK"
 
@@ -101,7 +102,7 @@ takesMore (msg u hs b ts) = not (autack u) && leb (size hs) 8
 
 -- "new in the message"
 abbrev pub isNew : Open → List ℕ → Bool
-isNew (msg u hs b ts) r = not (among (each refH hs) r)
+isNew (msg u hs b ts) r = not (among (each refH hs) (compared r))
 
 abbrev pub maySeal : Open → List ℕ → ℕ → Bool
 maySeal o r f = refRight r && filterRight f && takesMore o && isNew o r

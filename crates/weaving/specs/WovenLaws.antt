@@ -11,7 +11,7 @@ use lib.ListN.{length, take, drop, length-append}
 use lib.Seq.{slice, take-append-seam, drop-append-seam, drop-append-add, drop-drop}
 use Rattle.syntax.specs.Octets.{same, within}
 use Rattle.syntax.specs.Service.{kindOf, fit}
-use Rattle.syntax.specs.Content.{content, allDigits, valueFrom}
+use Rattle.syntax.specs.Content.{content, allDigits, valueFrom, compared}
 use Rattle.syntax.specs.Scanning.{numberIn}
 use Rattle.syntax.specs.Cutting.{stopFrom}
 use Rattle.syntax.specs.CuttingLaws.{slice-take}
@@ -264,7 +264,7 @@ unt-digits s m (interchange n u ms z) o k q e named =
     let v = verdict-exact s (interchange n u ms z) .0 e in
     let y : Syntax = v .0 .y in
     let w : holds (every (formedS y) (showMessage (message o k))) =
-    placed-every (serviceIn (interchange n u ms z)) (openingIn n .at) u m (λ (x : Message). every (formedS y) (showMessage x)) ms named
+    placed-every (serviceIn (interchange n u ms z)) (openingIn n .at) u (compared m) (λ (x : Message). every (formedS y) (showMessage x)) ms named
     (every-joined (formedS y) showMessage ms (every-right (formedS y) (nil ▷ seg Unb u) (grammar.joined showMessage ms) (v .0 .elements .0))) in
     unt-formed (y .version) k (w .1)
 
@@ -280,7 +280,7 @@ module _ (s m : List ℕ) {σ : Service} {c : Layout} {rows : List ℕ} (r : Lis
       let h : Header = newHeader r f in
       let g : Trailer = newTrailer σ r t in
       let v = verdict-exact s i .0 e in
-      let w : Around σ (openingIn n .at) u h g m ms M q = around σ (openingIn n .at) u h g m ms (ap (λ (τ : Service). placedIn τ (openingIn n .at) u ms m) (sym d) ∙ named) in
+      let w : Around σ (openingIn n .at) u h g (compared m) ms M q = around σ (openingIn n .at) u h g (compared m) ms (ap (λ (τ : Service). placedIn τ (openingIn n .at) u ms (compared m)) (sym d) ∙ named) in
       let us : Stand σ s (q + wide σ (showOpen (msg a hs b ts))) (nil ▷ seg Unt (x ∷ es)) = stand-back σ s q (showOpen (msg a hs b ts)) (nil ▷ seg Unt (x ∷ es)) st in
       let ut : Stand σ s (c .unt) (nil ▷ seg Unt (x ∷ es)) = subst (λ (p : ℕ). Stand σ s p (nil ▷ seg Unt (x ∷ es))) (sym (laid .unt)) us in
       let P : List ℕ = printUna n in
@@ -304,7 +304,7 @@ module _ (s m : List ℕ) {σ : Service} {c : Layout} {rows : List ℕ} (r : Lis
       let gs : printS σ (seg Unt (grown (x ∷ es))) ≡ U ++ (N ++ R) =
       grown-print σ s (c .unt) fits x es (decimalOf (number (x ∷ es) 1 + 4)) ∙ ap (λ (l : List ℕ). U ++ (l ++ R)) count in
       let out : sealedText i m r f t ≡ P ++ (I ++ W) ++ (H ++ (B ++ (G ++ (U ++ (N ++ (R ++ D)))))) =
-      ap (λ (τ : Service). P ++ print τ (list (shown (done u (sealedIn h (newTrailer τ r t) ms m) z)))) d
+      ap (λ (τ : Service). P ++ print τ (list (shown (done u (sealedIn h (newTrailer τ r t) ms (compared m)) z)))) d
       ∙ ap (λ (l : Snoc Message). P ++ print σ (list (shown (done u l z)))) (w .becomes)
       ∙ ap (λ (l : List ℕ). P ++ l) (whole-print σ u (w .before) (sealedMessage h g M) (w .after) z)
       ∙ ap (λ (l : List ℕ). P ++ (I ++ (l ++ D))) (sealed-print σ h g a hs b ts (x ∷ es) ∙ ap (λ (l : List ℕ). W ++ (H ++ (B ++ (G ++ l)))) gs)

@@ -65,8 +65,8 @@ single-requires c κs = (c .before .before .before .before .pre .0 (rw (c .enum-
 enum-told-11 : tie.Need-enum-told-11
 enum-told-11 c = search needs
 
-single-requires-2 : tie.Need-single-requires-2
-single-requires-2 c κs = (c .before .before .before .before .pre .0 (rw (c .enum-told11 .given .1)) .marks, (omega arith, omega arith))
+single-reference-requires : tie.Need-single-reference-requires
+single-reference-requires c κs = (c .before .before .before .before .pre .0 (rw (c .enum-told11 .given .1)) .marks, (omega arith, omega arith))
 
 enum-told-12 : tie.Need-enum-told-12
 enum-told-12 c = search needs
@@ -120,7 +120,7 @@ returns-10 : tie.Need-returns-10
 returns-10 c = formed-at _ (askedAt (c .before .before .before .before .before .args .y .service) (c .before .before .before .before .before .args .s .now) (c .before .before .before .before .before .args .at)) (c .before .before .before .before .before .pre .1) Usb (c .before .enum-told10 .given .1) (and-end (c .single .ensures))
 
 returns-11 : tie.Need-returns-11
-returns-11 c = formed-at _ (askedAt (c .before .before .before .before .before .args .y .service) (c .before .before .before .before .before .args .s .now) (c .before .before .before .before .before .args .at)) (c .before .before .before .before .before .pre .1) Usx (c .before .enum-told11 .given .1) (and-end (c .single2 .ensures))
+returns-11 c = formed-at _ (askedAt (c .before .before .before .before .before .args .y .service) (c .before .before .before .before .before .args .s .now) (c .before .before .before .before .before .args .at)) (c .before .before .before .before .before .pre .1) Usx (c .before .enum-told11 .given .1) (and-end (c .single-reference .ensures))
 
 returns-12 : tie.Need-returns-12
 returns-12 c = formed-at _ (askedAt (c .before .before .before .before .before .args .y .service) (c .before .before .before .before .before .args .s .now) (c .before .before .before .before .before .args .at)) (c .before .before .before .before .before .pre .1) Usy (c .before .enum-told12 .given .1) (c .usy-formed .ensures)
@@ -160,7 +160,7 @@ is-formed-spec =
     enum-told-10
     single-requires
     enum-told-11
-    single-requires-2
+    single-reference-requires
     enum-told-12
     usy-formed-requires
     enum-told-13

@@ -32,11 +32,11 @@ date-formed-requires c κs = search needs
 returns-4 : tie.Need-returns-4
 returns-4 c = and-go (c .before .before .before .before .before .before .before .before .syntax-formed .ensures) (not-false (c .before .before .before .before .before .before .before .before .syntax-formed .result) (c .before .before .before .before .before .before .before .if1 .left)) (and-go (c .before .before .before .before .before .before .composite .ensures) (not-false (c .before .before .before .before .before .before .composite .result) (c .before .before .before .before .before .if2 .left)) (and-go (c .before .before .before .before .composite2 .ensures) (not-false (c .before .before .before .before .composite2 .result) (c .before .before .before .if3 .left)) (and-stop (date-is (c .before .before .date-digits .ensures) (askedAt (c .before .before .before .before .before .before .before .before .before .before .before .args .y .service) (c .before .before .before .before .before .before .before .before .before .before .before .args .s .now) (c .before .before .before .before .before .before .before .before .before .before .before .args .at)) (c .before .date-formed .ensures)) _ (not-true (c .before .date-formed .result) (c .if4 .taken)))))
 
-single-requires : tie.Need-single-requires
-single-requires c κs = search needs
+single-reference-requires : tie.Need-single-reference-requires
+single-reference-requires c κs = search needs
 
 returns-5 : tie.Need-returns-5
-returns-5 c = and-go (c .before .before .before .before .before .before .before .before .before .syntax-formed .ensures) (not-false (c .before .before .before .before .before .before .before .before .before .syntax-formed .result) (c .before .before .before .before .before .before .before .before .if1 .left)) (and-go (c .before .before .before .before .before .before .before .composite .ensures) (not-false (c .before .before .before .before .before .before .before .composite .result) (c .before .before .before .before .before .before .if2 .left)) (and-go (c .before .before .before .before .before .composite2 .ensures) (not-false (c .before .before .before .before .before .composite2 .result) (c .before .before .before .before .if3 .left)) (and-go (date-is (c .before .before .before .date-digits .ensures) (askedAt (c .before .before .before .before .before .before .before .before .before .before .before .before .args .y .service) (c .before .before .before .before .before .before .before .before .before .before .before .before .args .s .now) (c .before .before .before .before .before .before .before .before .before .before .before .before .args .at)) (c .before .before .date-formed .ensures)) (not-false (c .before .before .date-formed .result) (c .before .if4 .left)) (and-end (c .single .ensures)))))
+returns-5 c = and-go (c .before .before .before .before .before .before .before .before .before .syntax-formed .ensures) (not-false (c .before .before .before .before .before .before .before .before .before .syntax-formed .result) (c .before .before .before .before .before .before .before .before .if1 .left)) (and-go (c .before .before .before .before .before .before .before .composite .ensures) (not-false (c .before .before .before .before .before .before .before .composite .result) (c .before .before .before .before .before .before .if2 .left)) (and-go (c .before .before .before .before .before .composite2 .ensures) (not-false (c .before .before .before .before .before .composite2 .result) (c .before .before .before .before .if3 .left)) (and-go (date-is (c .before .before .before .date-digits .ensures) (askedAt (c .before .before .before .before .before .before .before .before .before .before .before .before .args .y .service) (c .before .before .before .before .before .before .before .before .before .before .before .before .args .s .now) (c .before .before .before .before .before .before .before .before .before .before .before .before .args .at)) (c .before .before .date-formed .ensures)) (not-false (c .before .before .date-formed .result) (c .before .if4 .left)) (and-end (c .single-reference .ensures)))))
 
 pub unb-formed-spec : {M : Type 1} → statement M
 unb-formed-spec =
@@ -51,5 +51,5 @@ unb-formed-spec =
     date-digits-requires
     date-formed-requires
     returns-4
-    single-requires
+    single-reference-requires
     returns-5)

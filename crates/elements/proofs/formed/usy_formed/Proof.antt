@@ -3,17 +3,17 @@ use borrow.Author.Needs.{needs}
 use Rattle.elements.proofs.formed.usy_formed.Statement.{statement}
 use Rattle.elements.proofs.formed.usy_formed.Tie as tie
 
-single-requires : tie.Need-single-requires
-single-requires c κs = search needs
+single-reference-requires : tie.Need-single-reference-requires
+single-reference-requires c κs = search needs
 
 value-formed-requires : tie.Need-value-formed-requires
 value-formed-requires c κs = search needs
 
 returns : tie.Need-returns
-returns c = and-go (c .before .before .single .ensures) (c .before .if1 .taken) (and-end (c .value-formed .ensures))
+returns c = and-go (c .before .before .single-reference .ensures) (c .before .if1 .taken) (and-end (c .value-formed .ensures))
 
 returns-2 : tie.Need-returns-2
-returns-2 c = and-stop (c .before .single .ensures) _ (c .if1 .left)
+returns-2 c = and-stop (c .before .single-reference .ensures) _ (c .if1 .left)
 
 pub usy-formed-spec : {M : Type 1} → statement M
-usy-formed-spec = tie.close (tie.spec single-requires value-formed-requires returns returns-2)
+usy-formed-spec = tie.close (tie.spec single-reference-requires value-formed-requires returns returns-2)

@@ -1,4 +1,5 @@
-use Rattle.groups.specs.LinksLaws.{name-is, usy-here, usy-not}
+use Rattle.syntax.specs.Content.{compared}
+use Rattle.groups.specs.LinksLaws.{ref-name-is, usy-here, usy-not}
 use borrow.Author.Needs.{needs}
 use Rattle.groups.proofs.links.names_header.Statement.{statement}
 use Rattle.groups.proofs.links.names_header.Tie as tie
@@ -26,7 +27,7 @@ reference-is-requires c κs = search needs
 
 -- src/links.rt:60:9
 returns : tie.Need-returns
-returns c = usy-here (c .before .before .before .before .before .before .before .before .args .s .now) (c .before .before .before .before .before .before .before .before .args .at) _ (c .before .before .before .before .is-tagged .ensures) (c .before .before .before .if1 .taken) (name-is (c .before .before .before .before .before .before .before .before .args .y .service) (c .before .before .before .before .before .before .before .before .args .s .now) (c .before .before .before .before .before .before .before .before .args .at) 1 (c .before .before .before .before .before .before .before .before .args .reference .now) (c .before .component-part .ensures) (c .reference-is .ensures))
+returns c = usy-here (c .before .before .before .before .before .before .before .before .args .s .now) (c .before .before .before .before .before .before .before .before .args .at) _ (c .before .before .before .before .is-tagged .ensures) (c .before .before .before .if1 .taken) (ref-name-is (c .before .before .before .before .before .before .before .before .args .y .service) (c .before .before .before .before .before .before .before .before .args .s .now) (c .before .before .before .before .before .before .before .before .args .at) 1 (compared (c .before .before .before .before .before .before .before .before .args .reference .now)) (c .before .component-part .ensures) (c .reference-is .ensures))
 
 -- src/links.rt:53:1
 returns-2 : tie.Need-returns-2

@@ -1,3 +1,5 @@
+use Rattle.syntax.specs.Content.{content}
+use denote.Ref.{now}
 use Rattle.groups.specs.GroupsLaws.{groups-sought, trailers-room}
 use Rattle.lines.specs.SealsLaws.{up-to-start, up-to-none}
 use borrow.Author.Needs.{needs}
@@ -23,10 +25,10 @@ enum-told : tie.Need-enum-told
 enum-told c = search needs
 
 returns : tie.Need-returns
-returns c = up-to-start (c .before .before .before .before .before .before .before .before .before .args .y .service) (c .before .before .before .before .before .before .before .before .before .args .s .now) (c .before .before .before .before .before .before .before .before .before .args .rows .now) (c .before .before .before .before .before .before .before .before .before .args .c) (c .before .before .before .before .before .before .before .before .before .args .start) (c .before .before .before .before .before .component-part .ensures) (groups-sought (c .before .before .before .before .before .before .before .before .before .args .y .service) (c .before .before .before .before .before .before .before .before .before .args .s .now) (c .before .before .before .before .before .before .before .before .before .args .rows .now) _ (c .before .before .before .before .group-like .ensures) (c .before .before .before .before .before .before .trailers-of .ensures)) (c .before .before .x .given .1) (c .between .ensures)
+returns c = up-to-start (c .before .before .before .before .before .before .before .before .before .args .y .service) (c .before .before .before .before .before .before .before .before .before .args .s .now) (c .before .before .before .before .before .before .before .before .before .args .rows .now) (c .before .before .before .before .before .before .before .before .before .args .c) (c .before .before .before .before .before .before .before .before .before .args .start) (c .before .before .before .before .before .component-part .ensures) (groups-sought (c .before .before .before .before .before .before .before .before .before .args .y .service) (c .before .before .before .before .before .before .before .before .before .args .s .now) (c .before .before .before .before .before .before .before .before .before .args .rows .now) (content (c .before .before .before .before .before .before .before .before .before .args .y .service .release) (now (c .before .before .before .before .before .component-part .result))) (c .before .before .before .before .group-like .ensures) (c .before .before .before .before .before .before .trailers-of .ensures)) (c .before .before .x .given .1) (c .between .ensures)
 
 returns-2 : tie.Need-returns-2
-returns-2 c = up-to-none (c .before .before .before .before .before .before .before .args .y .service) (c .before .before .before .before .before .before .before .args .s .now) (c .before .before .before .before .before .before .before .args .rows .now) (c .before .before .before .before .before .before .before .args .c) (c .before .before .before .before .before .before .before .args .start) (c .before .before .before .component-part .ensures) (groups-sought (c .before .before .before .before .before .before .before .args .y .service) (c .before .before .before .before .before .before .before .args .s .now) (c .before .before .before .before .before .before .before .args .rows .now) _ (c .before .before .group-like .ensures) (c .before .before .before .before .trailers-of .ensures)) (c .enum-told .given .1)
+returns-2 c = up-to-none (c .before .before .before .before .before .before .before .args .y .service) (c .before .before .before .before .before .before .before .args .s .now) (c .before .before .before .before .before .before .before .args .rows .now) (c .before .before .before .before .before .before .before .args .c) (c .before .before .before .before .before .before .before .args .start) (c .before .before .before .component-part .ensures) (groups-sought (c .before .before .before .before .before .before .before .args .y .service) (c .before .before .before .before .before .before .before .args .s .now) (c .before .before .before .before .before .before .before .args .rows .now) (content (c .before .before .before .before .before .before .before .args .y .service .release) (now (c .before .before .before .component-part .result))) (c .before .before .group-like .ensures) (c .before .before .before .before .trailers-of .ensures)) (c .enum-told .given .1)
 
 pub to-trailer-spec : {M : Type 1} → statement M
 to-trailer-spec =

@@ -1,4 +1,4 @@
-use Rattle.syntax.specs.Content.{content}
+use Rattle.syntax.specs.Content.{content, compared}
 use Rattle.message.specs.HeadsLaws.{free-named, free-by}
 use borrow.Author.Needs.{needs}
 use Rattle.message.proofs.heads.is_free.Statement.{statement}
@@ -26,7 +26,7 @@ element-copy-out-if1 c = search needs
 
 -- src/heads.rt:38:9
 returns : tie.Need-returns
-returns c = free-named (c .before .before .before .before .args .release) (c .before .before .before .before .args .s .now) (c .before .before .before .before .args .heads .now) (content (c .before .before .before .before .args .release) (c .before .before .before .before .args .x .now)) (c .before .before .before .before .args .i) (c .if1 .taken)
+returns c = free-named (c .before .before .before .before .args .release) (c .before .before .before .before .args .s .now) (c .before .before .before .before .args .heads .now) (compared (content (c .before .before .before .before .args .release) (c .before .before .before .before .args .x .now))) (c .before .before .before .before .args .i) (c .if1 .taken)
 
 -- src/heads.rt:40:19
 mul-a : tie.Need-mul-a
@@ -66,7 +66,7 @@ same-reference-requires c κs = search needs
 
 -- src/heads.rt:33:1
 returns-2 : tie.Need-returns-2
-returns-2 c = free-by (c .before .before .before .before .before .before .before .before .args .release) (c .before .before .before .before .before .before .before .before .args .s .now) (c .before .before .before .before .before .before .before .before .args .heads .now) (content (c .before .before .before .before .before .before .before .before .args .release) (c .before .before .before .before .before .before .before .before .args .x .now)) (c .before .before .before .before .before .before .before .before .args .i) (c .before .before .before .before .if1 .left) (c .before .part .ensures) (c .same-reference .ensures)
+returns-2 c = free-by (c .before .before .before .before .before .before .before .before .args .release) (c .before .before .before .before .before .before .before .before .args .s .now) (c .before .before .before .before .before .before .before .before .args .heads .now) (compared (content (c .before .before .before .before .before .before .before .before .args .release) (c .before .before .before .before .before .before .before .before .args .x .now))) (c .before .before .before .before .before .before .before .before .args .i) (c .before .before .before .before .if1 .left) (c .before .part .ensures) (c .same-reference .ensures)
 
 pub is-free-spec : {M : Type 1} → statement M
 is-free-spec =

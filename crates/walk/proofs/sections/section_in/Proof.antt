@@ -1,3 +1,4 @@
+use Rattle.syntax.specs.Content.{compared}
 use native.Mathlib.Omega.{arith}
 use Rattle.message.specs.ItemsLaws.{not-true, not-false}
 use Prim.Native.Nat.{_-_, _≤_}
@@ -26,7 +27,7 @@ use Rattle.walk.proofs.sections.passed.Reads as passed-reads
 use Rattle.walk.proofs.sections.spots_behind.Reads as spots-behind-reads
 
 abbrev Inv-loop2 : tie.InvT-loop2
-Inv-loop2 s at t y st marks heads names slots rows x n found₀ i₀ found i = (found ≡ n) × Seeking (y .service .release) s heads (textAt (y .service) s at 1 0) n i
+Inv-loop2 s at t y st marks heads names slots rows x n found₀ i₀ found i = (found ≡ n) × Seeking (y .service .release) s heads (compared (textAt (y .service) s at 1 0)) n i
 
 abbrev μ-loop2 : tie.MeasureT-loop2
 μ-loop2 s at t y st marks heads names slots rows x n found₀ i₀ found i = n - i
@@ -40,7 +41,7 @@ abbrev μ-loop : tie.MeasureT-loop
 
 -- where the search ends, by its test or by its break: the header that the trailer names
 chosen : (c : tie.Left-loop2 Inv-loop2 μ-loop2 Inv-loop μ-loop)
-    → (c .loop2-test .found ≡ posOr (c .before .before .nameable .result) (freeAt (textAt (c .before .before .before .before .before .before .before .before .before .before .before .before .args .y .service) (c .before .before .before .before .before .before .before .before .before .before .before .before .args .s .now) (c .before .before .before .before .before .before .loop .at) 1 0) (headRefs (c .before .before .before .before .before .before .before .before .before .before .before .before .args .y .service .release) (c .before .before .before .before .before .before .before .before .before .before .before .before .args .s .now) (c .before .before .before .before .before .before .loop .heads) (c .before .before .nameable .result)) (headFlags (c .before .before .before .before .before .before .loop .heads) (c .before .before .nameable .result))))
+    → (c .loop2-test .found ≡ posOr (c .before .before .nameable .result) (freeAt (compared (textAt (c .before .before .before .before .before .before .before .before .before .before .before .before .args .y .service) (c .before .before .before .before .before .before .before .before .before .before .before .before .args .s .now) (c .before .before .before .before .before .before .loop .at) 1 0)) (headRefs (c .before .before .before .before .before .before .before .before .before .before .before .before .args .y .service .release) (c .before .before .before .before .before .before .before .before .before .before .before .before .args .s .now) (c .before .before .before .before .before .before .loop .heads) (c .before .before .nameable .result)) (headFlags (c .before .before .before .before .before .before .loop .heads) (c .before .before .nameable .result))))
     × (c .loop2-test .found ≤ c .before .before .nameable .result)
 chosen c =
     ⊎-elim
