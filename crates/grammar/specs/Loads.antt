@@ -64,6 +64,17 @@ loadUnit u = unit u (shape 9 3) (shape 6 6)
 abbrev pub controlUnit : List ℕ → Option Shape
 controlUnit u = unit u (shape 12 3) (shape 9 6)
 
+-- ---- the three components that QTY and CNT have: a qualifier, an amount, a unit
+
+abbrev pub qualifier : Asked → List ℕ
+qualifier a = a .text 1 0
+
+abbrev pub amount : Asked → List ℕ
+amount a = a .text 1 1
+
+abbrev pub unitOf : Asked → List ℕ
+unitOf a = a .text 1 2
+
 -- ---- "QTY whose one element has three components, the third KGM or TNE, is a load."
 
 abbrev pub threePart : Asked → Bool
@@ -71,7 +82,7 @@ threePart a = eqb (a .size) 1 && eqb (a .parts 1) 3
 
 -- "Any other QTY isn't a load"
 abbrev pub loadShape : Asked → Option Shape
-loadShape a = cond (same (a .tag) (octets "QTY") && threePart a) (loadUnit (a .text 1 2)) none
+loadShape a = cond (same (a .tag) (octets "QTY") && threePart a) (loadUnit (unitOf a)) none
 
 abbrev pub loadBy : Option Shape → List ℕ → Option Grams
 loadBy none s = none
@@ -79,7 +90,7 @@ loadBy (some u) s = some (grams u s)
 
 -- the grams of a segment that is a load
 abbrev pub loadIn : Asked → Option Grams
-loadIn a = loadBy (loadShape a) (a .text 1 1)
+loadIn a = loadBy (loadShape a) (amount a)
 
 abbrev pub rightBy : Option Shape → List ℕ → Bool
 rightBy none s = true
@@ -87,25 +98,25 @@ rightBy (some u) s = amountRight u s
 
 -- a load is written right
 abbrev pub loadRight : Asked → Bool
-loadRight a = rightBy (loadShape a) (a .text 1 1)
+loadRight a = rightBy (loadShape a) (amount a)
 
 -- ---- "CNT with qualifier 1 has one element of exactly three components .., else it is malformed (8); it equals the message's load total."
 
 abbrev pub isControl : Asked → Bool
-isControl a = same (a .tag) (octets "CNT") && same (a .text 1 0) (octets "1")
+isControl a = same (a .tag) (octets "CNT") && same (qualifier a) (octets "1")
 
 abbrev pub controlBy : Option Shape → List ℕ → Bool
 controlBy none s = false
 controlBy (some u) s = amountRight u s
 
 abbrev pub controlWritten : Asked → Bool
-controlWritten a = threePart a && controlBy (controlUnit (a .text 1 2)) (a .text 1 1)
+controlWritten a = threePart a && controlBy (controlUnit (unitOf a)) (amount a)
 
 abbrev pub controlRight : Asked → Bool
 controlRight a = cond (isControl a) (controlWritten a) true
 
 abbrev pub controlIn : Asked → Option Grams
-controlIn a = cond (isControl a) (loadBy (controlUnit (a .text 1 2)) (a .text 1 1)) none
+controlIn a = cond (isControl a) (loadBy (controlUnit (unitOf a)) (amount a)) none
 
 -- ---- of a body, in order
 
