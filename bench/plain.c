@@ -57,7 +57,7 @@ static void fill(judge *j, int from, int to) { memset(j->class + from, DATA, to 
 
 static void make_classes(judge *j, char level) {
     memset(j->class, OUTSIDE, 256);
-    if (level == 'C') {
+    if (level == 'C' || level == 'D') {
         fill(j, 0x20, 0x7E);
         fill(j, 0xA0, 0xFF);
     } else {
@@ -191,7 +191,11 @@ static bool count(const judge *j, unsigned e) {
     return !j->e[e].repeats && j->e[e].parts <= 1 && digits(j, e, 0, 1, 6);
 }
 
-static bool value(const judge *j, unsigned e) { return composite(j, e, 1, 3) && sized(j, e, 1, 0, 512); }
+// S508; in the earlier edition, version 2, it begins with 0560.
+static bool value(const judge *j, unsigned e) {
+    if (j->version == 2) return composite(j, e, 0, 256);
+    return composite(j, e, 1, 3) && sized(j, e, 1, 0, 512);
+}
 
 static uint64_t number(text x) {
     uint64_t v = 0;
@@ -247,7 +251,7 @@ static header *find(judge *j, text x) {
 
 static bool in_heads(const judge *j) { return j->group >= OPENED && j->group <= CERTIFICATE; }
 static bool may_close(const judge *j) { return !j->autack || j->group == TRAILER || (j->group == ACK && j->filled); }
-static bool even(const judge *j) { return j->named == NULL || j->claim == j->named->segments + j->own; }
+static bool even(const judge *j) { return j->version == 2 || j->named == NULL || j->claim == j->named->segments + j->own; }
 
 static int on_unh(judge *j) {
     if (j->group != IDLE) return 7;
@@ -323,13 +327,14 @@ static int on_usr(judge *j) {
 
 static int on_ust(judge *j) {
     if (!may_close(j)) return 7;
-    if (!named(j, 0, 14) || !count(j, 1)) return 8;
+    bool counted = j->version != 2;    // the earlier edition has no 0588
+    if (!named(j, 0, 14) || (counted && !count(j, 1))) return 8;
     header *h = find(j, reference(j, 0));
     if (h == NULL || h->named) return 9;
     if (!even(j)) j->uneven = true;
     h->named = true;
     j->named = h;
-    j->claim = number(at(j, 1, 0));
+    j->claim = counted ? number(at(j, 1, 0)) : 0;
     j->own = 1;
     j->group = TRAILER;
     j->usr = false;
@@ -419,16 +424,16 @@ static int read_unb(judge *j, size_t *i, bool una) {
     if (split(j, first + 3) == j->n) return 4;
     if (memcmp(j->s + first, "UNB", 3) != 0) return 5;
     text level = at(j, 0, 0), version = at(j, 0, 1);
-    if (!IS(level, "UNOA") && !IS(level, "UNOB") && !IS(level, "UNOC")) return 6;
-    if (!IS(version, "3") && !IS(version, "4")) return 6;
+    if (!IS(version, "2") && !IS(version, "3") && !IS(version, "4")) return 6;
     j->version = version.p[0] - '0';
+    if (!IS(level, "UNOA") && !IS(level, "UNOB") && !IS(level, "UNOC") && !(IS(level, "UNOD") && j->version == 2)) return 6;
     if (j->version == 4) j->repetition = repetition;
     else if (una && repetition != ' ') return 6;
     make_classes(j, level.p[3]);
     j->freed = 0;
     *i = split(j, first + 3) + 1;
     if (j->bad < j->n) return 3;
-    size_t date = j->version == 3 ? 6 : 8;
+    size_t date = j->version == 4 ? 8 : 6;
     if (j->e[0].repeats || !composite(j, 1, 1, 35) || !composite(j, 2, 1, 35) || j->e[3].repeats) return 8;
     if (!digits(j, 3, 0, date, date) || !digits(j, 3, 1, 4, 4) || !named(j, 4, 14)) return 8;
     j->unb = reference(j, 4);

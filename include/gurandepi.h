@@ -46,7 +46,7 @@ extern "C" {
  * both from one tree.
  */
 #define GURANDEPI_MAJOR 3
-#define GURANDEPI_MINOR 0
+#define GURANDEPI_MINOR 1
 
 /*
  * The octets of the longest interchange, and of the longest result. An `out` of so many octets has room for every result:
@@ -66,8 +66,8 @@ enum gurandepi_number {
     GURANDEPI_BAD_OCTET = 3,        /* an octet outside the repertoire of the interchange. Place: the octet */
     GURANDEPI_BAD_SEGMENT = 4,      /* a segment without terminator, or with a bad tag. Place: the segment */
     GURANDEPI_NO_UNB = 5,           /* the first segment is not UNB, or there is none. Place: the segment, or the end */
-    GURANDEPI_UNKNOWN_SYNTAX = 6,   /* the syntax identifier or version in UNB is unknown; or UNA names a repetition
-                                       character in version 3. Place: UNB */
+    GURANDEPI_UNKNOWN_SYNTAX = 6,   /* the syntax identifier or version in UNB is unknown, or UNOD in another version than 2;
+                                       or UNA names a repetition character in version 2 or 3. Place: UNB */
     GURANDEPI_OUT_OF_ORDER = 7,     /* a segment out of order; the input ends early; octets after UNZ. Place: the segment,
                                        the end, the first octet after UNZ */
     GURANDEPI_BAD_ELEMENT = 8,      /* a checked element is missing or malformed. Place: the segment */
@@ -86,8 +86,8 @@ enum gurandepi_number {
 
 /* How the value of a seal is written (0505): the `filter` of the sealing calls, which refuse every other with 16. */
 enum gurandepi_filter {
-    GURANDEPI_FILTER_HEX = 2,       /* hexadecimal; a value of 1 to 256 octets */
-    GURANDEPI_FILTER_BASE64 = 7     /* base 64; a value of 1 to 384 octets */
+    GURANDEPI_FILTER_HEX = 2,       /* hexadecimal; a value of 1 to 256 octets, in an interchange of version 2 of 1 to 128 */
+    GURANDEPI_FILTER_BASE64 = 7     /* base 64; a value of 1 to 384 octets. Not in version 2 */
 };
 
 /* Carried out, or refused. */
@@ -175,8 +175,9 @@ struct gurandepi_range gurandepi_f01(const uint8_t *autack, size_t autack_length
 
 /*
  * The value that a header's seal carries, of any scope, as octets: read by the filter that the header names (hexadecimal,
- * where an odd number of digits is read as if one 0 stood before them, or base 64). Refuses with 1 to 12; 13: no such
- * message or header; 14: the filter is unknown, the text is bad, empty or not there; 15.
+ * where an odd number of digits is read as if one 0 stood before them, or base 64; in an interchange of version 2
+ * hexadecimal or EDC, code 6). Refuses with 1 to 12; 13: no such message or header; 14: the filter is unknown in this
+ * version, the text is bad, empty or not there; 15.
  */
 struct gurandepi_written gurandepi_value(const uint8_t *interchange, size_t interchange_length,
                                          const uint8_t *message, size_t message_length,
@@ -188,7 +189,8 @@ struct gurandepi_written gurandepi_value(const uint8_t *interchange, size_t inte
  * interchange with the message sealed by a header of scope 1. In it gurandepi_scope1 for `reference` gives the octets that
  * the first call wrote, and gurandepi_value gives `value`; ranges of scopes 1 and 2 that were there keep their octets.
  * `reference` is the new header's 0534: 1 to 14 of A to Z and 0 to 9, new in the message. `filter`, of enum
- * gurandepi_filter, says how `value` is written, and how many octets it may have.
+ * gurandepi_filter, says how `value` is written, and how many octets it may have. The trailer is that of the interchange's
+ * own version.
  * Both refuse with 1 to 12; 13: no such message; 16; 15. The second also with 14, before 15: the interchange's repertoire
  * or service characters cannot write this value.
  */

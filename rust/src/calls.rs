@@ -241,7 +241,8 @@ pub fn f01_places(autack: &[u8], referenced: &[u8], message: &[u8], header: &[u8
 }
 
 /// The value that a header's seal carries, of any scope, read by the filter that the header names; an odd number of
-/// hexadecimal digits is read as if one 0 stood before them. It is written to the front of `out` and handed back; on a
+/// hexadecimal digits is read as if one 0 stood before them. In an interchange of version 2 the filters are hexadecimal and
+/// EDC. It is written to the front of `out` and handed back; on a
 /// refusal `out` is left as it was.
 ///
 #[cfg_attr(linked, doc = "```")]

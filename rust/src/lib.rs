@@ -49,7 +49,8 @@ pub enum Reason {
     Segment,
     /// The first segment is not UNB, or there is none.
     NoUnb,
-    /// The syntax identifier or version is unknown; or UNA names a repetition character in version 3.
+    /// The syntax identifier or version is unknown, or UNOD in another version than 2; or UNA names a repetition character in
+    /// version 2 or 3.
     Syntax,
     /// A segment out of order; the input ends early; octets after UNZ.
     Order,
@@ -132,8 +133,8 @@ pub struct Places {
 /// How a value is written in a seal: 0505.
 #[derive(Clone, Copy, Debug, PartialEq, Eq, Hash)]
 pub enum Filter {
-    /// Upper-case hexadecimal, for values of 1 to 256 octets.
+    /// Upper-case hexadecimal, for values of 1 to 256 octets; in an interchange of version 2 of 1 to 128.
     Hex = 2,
-    /// Base 64, for values of 1 to 384 octets.
+    /// Base 64, for values of 1 to 384 octets. Not in version 2.
     Base64 = 7,
 }

@@ -8,7 +8,9 @@ ghost use Rattle.syntax.specs.Classes.{Table};
 ghost use Rattle.syntax.specs.Service.{servant, differ, repetitionDiffers, fit, withoutRepetition};
 ghost use Rattle.syntax.specs.Content.{content};
 ghost use Rattle.syntax.specs.Cutting.{endAt};
-ghost use Rattle.syntax.specs.Opening.{startsUna, unaService, readUna, openingOf, levelNamed, versionNamed, refusedUnb, settled, declaredAt, isUnb, isTag, isThere, begunAt, begunOf};
+ghost use Rattle.syntax.specs.Opening.{startsUna, unaService, readUna, openingOf, levelNamed, versionNamed, refusedUnb, repeating, settled, goes, bothNamed, declaredAt, isUnb, isTag, isThere, begunAt, begunOf};
+ghost use Rattle.syntax.specs.declared.opening.LevelName.the-variants.{Is as Leveled};
+ghost use Rattle.syntax.specs.declared.opening.VersionName.the-variants.{Is as Versioned};
 use syntax::Breach;
 use syntax::Found;
 use syntax::Level;
@@ -26,6 +28,7 @@ use syntax::opening::Opened;
 use syntax::opening::Opening;
 use syntax::opening::Start;
 use syntax::opening::VersionName;
+use syntax::opening::is_earlier;
 use syntax::reading::component_part;
 use syntax::repertoire::OUTSIDE;
 use syntax::repertoire::classes;
@@ -241,12 +244,18 @@ fn level_named(x: &[u8], release: u8) -> LevelName
     if content_is(x, release, b"UNOC") {
         return LevelName::Is(Level::C);
     }
+    if content_is(x, release, b"UNOD") {
+        return LevelName::Is(Level::D);
+    }
     LevelName::Unknown
 }
 
 fn version_named(x: &[u8], release: u8) -> VersionName
     ensures { λ r. ⌜ r ≡ versionNamed (content release (now (x .entry))) ⌝ }
 {
+    if content_is(x, release, b"2") {
+        return VersionName::Is(Version::Two);
+    }
     if content_is(x, release, b"3") {
         return VersionName::Is(Version::Three);
     }
@@ -265,38 +274,68 @@ fn unb_refused(number: u8, place: usize) -> Begun
     })
 }
 
-// In version 3 no repetition is in force, and a UNA may not name one.
+fn is_repeating(n: Version) -> bool
+    ensures { λ r. ⌜ r ≡ repeating n ⌝ }
+{
+    match n {
+        Version::Two => false,
+        Version::Three => false,
+        Version::Four => true,
+    }
+}
+
+// In versions 2 and 3 no repetition is in force, and a UNA may not name one.
 fn settle(o: Opening, l: Level, n: Version) -> Begun
     ensures { λ r. ⌜ r ≡ settled o l n ⌝ }
 {
     let at = o.at;
     let v = o.service;
-    match n {
-        Version::Four => Begun::Ready(Start {
+    if is_repeating(n) {
+        return Begun::Ready(Start {
             syntax: Syntax {
-                version: Version::Four,
+                version: n,
                 level: l,
                 service: v,
             },
             at: at,
-        }),
-        Version::Three => {
-            if o.una {
-                if v.repetition != 32 {
-                    return unb_refused(6, at);
-                }
-            }
-            let w = without_repetition(v);
-            Begun::Ready(Start {
-                syntax: Syntax {
-                    version: Version::Three,
-                    level: l,
-                    service: w,
-                },
-                at: at,
-            })
+        });
+    }
+    if o.una {
+        if v.repetition != 32 {
+            return unb_refused(6, at);
         }
     }
+    let w = without_repetition(v);
+    Begun::Ready(Start {
+        syntax: Syntax {
+            version: n,
+            level: l,
+            service: w,
+        },
+        at: at,
+    })
+}
+
+// Whether a level goes with a version: UNOD with version 2 alone.
+fn goes_with(l: Level, n: Version) -> bool
+    ensures { λ r. ⌜ r ≡ goes l n ⌝ }
+{
+    match l {
+        Level::A => true,
+        Level::B => true,
+        Level::C => true,
+        Level::D => is_earlier(n),
+    }
+}
+
+// A level and a version that are known, where they go together.
+fn named(o: Opening, l: Level, n: Version) -> Begun
+    ensures { λ r. ⌜ r ≡ bothNamed o (Leveled l) (Versioned n) ⌝ }
+{
+    if goes_with(l, n) {
+        return settle(o, l, n);
+    }
+    unb_refused(6, o.at)
 }
 
 // 0001 and 0002, read with no repetition in force: `y` has none.
@@ -312,7 +351,7 @@ fn declared(s: &[u8], t: &[u8; 256], y: Syntax, o: Opening) -> Begun
     let n = version_named(z, v.release);
     match l {
         LevelName::Is(level) => match n {
-            VersionName::Is(version) => settle(o, level, version),
+            VersionName::Is(version) => named(o, level, version),
             VersionName::Unknown => unb_refused(6, at),
         },
         LevelName::Unknown => unb_refused(6, at),

@@ -1,6 +1,6 @@
 -- When a message may be sealed: the causes of 13, 16 and 14, each denied in the paper's words.
 use Prim.Native.Nat.{ℕ, _≤_}
-use mathlib.Core.Bool.{Bool, false, cond, _||_}
+use mathlib.Core.Bool.{Bool, false, cond, not, _&&_, _||_}
 use mathlib.Core.List.{List}
 use mathlib.Core.Option.{some}
 use mathlib.Core.Path.{_≡_}
@@ -8,6 +8,7 @@ use lib.Dec.{T, eqb}
 use lib.ListN.{length}
 use Rattle.syntax.specs.Content.{compared}
 use Rattle.syntax.specs.Octets.{allPass}
+use Rattle.syntax.specs.Opening.{earlier}
 use Rattle.syntax.specs.Repertoire.{tagOctet}
 use Rattle.syntax.specs.declared.Syntax.{Syntax}
 use Rattle.grammar.specs.Lists.{size}
@@ -17,6 +18,7 @@ use Rattle.grammar.specs.Valid.{Interchange, syntaxIn}
 use Rattle.grammar.specs.Verdict.{accepted, verdictOf}
 use Rattle.grammar.specs.Counted.{messagesIn}
 use Rattle.spans.specs.Span.{autackM}
+use Rattle.groups.specs.Calls.{versionIn}
 use Rattle.weaving.specs.Seals.{textBy, mayWrite}
 use Rattle.demands.specs.Stated.{In, headersOf}
 
@@ -32,8 +34,8 @@ pub record Allows (s m r : List ℕ) (f : ℕ) : Type 0 where
   pub ref-size : (1 ≤ length r) × (length r ≤ 14)
   pub ref-octets : T (allPass tagOctet r)
   pub ref-new : (h : Header) → In h (headersOf of) → refH h ≡ compared r → ⊥
-  -- "F is 2 or 7."
-  pub filter : T (eqb f 2 || eqb f 7)
+  -- "F is 2 or 7."; in the earlier edition "F 2 only"
+  pub filter : T (eqb f 2 || (not (earlier (versionIn i)) && eqb f 7))
   -- not "nine headers already; AUTACK"
   pub few : size (headersOf of) ≤ 8
   pub other : autackM of ≡ false
@@ -41,8 +43,8 @@ pub record Allows (s m r : List ℕ) (f : ℕ) : Type 0 where
 -- and be sealed with VALUE v
 pub record Seals (s m r : List ℕ) (f : ℕ) (v : List ℕ) : Type 0 where
   pub allowed : Allows s m r f
-  -- not 16: "VALUE has 1 to 256 octets for F = 2, 1 to 384 for F = 7"
-  pub value-size : (1 ≤ length v) × (length v ≤ cond (eqb f 2) 256 384)
+  -- not 16: "VALUE has 1 to 256 octets for F = 2, 1 to 384 for F = 7"; in the earlier edition "VALUE of 1 to 128 octets"
+  pub value-size : (1 ≤ length v) × (length v ≤ cond (earlier (versionIn (allowed .i))) 128 (cond (eqb f 2) 256 384))
   -- not 14: each octet of its filtered text is inside the repertoire, and no service character where release is not in force
   pub y : Syntax
   pub settled : syntaxIn (allowed .i) ≡ some y

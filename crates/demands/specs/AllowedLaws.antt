@@ -14,6 +14,7 @@ use Rattle.syntax.specs.Octets.{allPass, within}
 use Rattle.syntax.specs.Repertoire.{tagOctet}
 use Rattle.syntax.specs.TreeLaws.{and-left, and-right, and-both}
 use Rattle.syntax.specs.declared.Syntax.{Syntax}
+use Rattle.syntax.specs.declared.Version.{Version}
 use Rattle.grammar.specs.Lists.{Snoc, each, among, size}
 use Rattle.grammar.specs.TestLaws.{is-true, passes}
 use Rattle.grammar.specs.Interchange.{Leaf, Header, Open, msg, Message, message}
@@ -26,10 +27,10 @@ use Rattle.grammar.specs.Named.{Placed, placed}
 use Rattle.spans.specs.Span.{autackM}
 use Rattle.writing.specs.Written.{Text, text, noText}
 use Rattle.groups.specs.Groups.{chosen, chosenBy}
-use Rattle.groups.specs.Calls.{given, answeredBy, then, serviceIn, messageIn}
+use Rattle.groups.specs.Calls.{given, answeredBy, then, serviceIn, versionIn, messageIn}
 use Rattle.groups.specs.CallsLaws.{none-some}
 use Rattle.values.specs.Values.{answered}
-use Rattle.weaving.specs.Seals.{refRight, filterRight, takesMore, isNew, maySeal, lengthRight, textBy, mayWrite, writable, signedText, sealedText}
+use Rattle.weaving.specs.Seals.{refRight, filterRight, takesMore, isNew, maySeal, mostOctets, lengthRight, textBy, mayWrite, writable, signedText, sealedText}
 use Rattle.sealing.specs.Sealing.{octetsAt, sealOctetsOf, orUnwritten, sealAt, sealOf}
 use Rattle.demands.specs.AskedLaws.{given-so, then-so, asked-of}
 use Rattle.demands.specs.SealedAcceptedLaws.{answered-text, Succeeds, succeeds, no-text}
@@ -72,11 +73,11 @@ four-of a b c d h i j k = and-both (a && b && c) d (and-both (a && b) c (and-bot
 -- ---- one more header
 
 module _ (s m r : List ℕ) (f : ℕ) where
-  allows-so : (i : Interchange) (o : Open) (n : Leaf) (q : ℕ) → verdictOf s ≡ accepted i → messageIn i m ≡ some (placed (message o n) q) → T (maySeal o r f)
+  allows-so : (i : Interchange) (o : Open) (n : Leaf) (q : ℕ) → verdictOf s ≡ accepted i → messageIn i m ≡ some (placed (message o n) q) → T (maySeal (versionIn i) o r f)
       → (w : Allows s m r f) × (w .i ≡ i)
   allows-so i (msg u hs b ts) n q v e h =
       let x = message-in i m e in
-      let t = four-so (refRight r) (filterRight f) (takesMore (msg u hs b ts)) (isNew (msg u hs b ts) r) h in
+      let t = four-so (refRight r) (filterRight (versionIn i) f) (takesMore (msg u hs b ts)) (isNew (msg u hs b ts) r) h in
       let ref = t .0 in
       let more = t .1 .1 .0 in (
         record {
@@ -101,7 +102,7 @@ module _ (s m r : List ℕ) (f : ℕ) where
     pub n : Leaf
     pub q : ℕ
     pub named : messageIn i m ≡ some (placed (message o n) q)
-    pub may : maySeal o r f ≡ true
+    pub may : maySeal (versionIn i) o r f ≡ true
 
   allows-of : (w : Allows s m r f) → Passes (w .i)
   allows-of w = by (w .of) (w .there) (w .name) (w .ref-new) (w .few) (w .other)
@@ -115,8 +116,8 @@ module _ (s m r : List ℕ) (f : ℕ) where
             q = k .0;
             named = k .1;
             may =
-                is-true (maySeal (msg u hs b ts) r f)
-                (four-of (refRight r) (filterRight f) (takesMore (msg u hs b ts)) (isNew (msg u hs b ts) r)
+                is-true (maySeal (versionIn (w .i)) (msg u hs b ts) r f)
+                (four-of (refRight r) (filterRight (versionIn (w .i)) f) (takesMore (msg u hs b ts)) (isNew (msg u hs b ts) r)
                 (and-both (within 1 14 (length r)) (allPass tagOctet r) (within-of 1 14 (length r) (w .ref-size)) (w .ref-octets))
                 (w .filter)
                 (and-both (not (autack u)) (leb (size hs) 8) (subst (λ (c : Bool). T (not c)) (sym other) tt) (le→leb (size hs) 8 few))
@@ -129,10 +130,10 @@ module _ (s m r : List ℕ) (f : ℕ) where
   octets-given = (λ (h : (x : List ℕ) × (sealOctetsOf s m r f ≡ text x)). there (h .0) (h .1), back)
     where
       at : (x : List ℕ) (i : Interchange) (p : Placed) → verdictOf s ≡ accepted i → messageIn i m ≡ some p → octetsAt i p r f ≡ text x → Allows s m r f
-      at x i (placed (message o n) q) v e h = by (maySeal o r f) refl h
+      at x i (placed (message o n) q) v e h = by (maySeal (versionIn i) o r f) refl h
         where
-          by : (c : Bool) → maySeal o r f ≡ c → cond c (text (signedText (serviceIn i) o r f)) (noText (atZero 16)) ≡ text x → Allows s m r f
-          by true k h = allows-so i o n q v e (passes (maySeal o r f) k) .0
+          by : (c : Bool) → maySeal (versionIn i) o r f ≡ c → cond c (text (signedText (serviceIn i) o r f)) (noText (atZero 16)) ≡ text x → Allows s m r f
+          by true k h = allows-so i o n q v e (passes (maySeal (versionIn i) o r f) k) .0
           by false k h = no-text h
 
       there : (x : List ℕ) → sealOctetsOf s m r f ≡ text x → Allows s m r f
@@ -162,13 +163,14 @@ module _ (s m r : List ℕ) (f : ℕ) where
       there : (x : List ℕ) → Succeeds s m r f v x → Seals s m r f v
       there x w =
           let a = allows-so (w .i) (msg (w .u) (w .hs) (w .b) (w .ts)) (w .n) (w .q) (w .read) (w .named) (w .may) in
-          by (a .0) (syntaxIn (a .0 .i)) refl (subst (λ (i : Interchange). T (writable (syntaxIn i) (textBy f v))) (sym (a .1)) (w .written))
+          by (a .0) (syntaxIn (a .0 .i)) refl (subst (λ (i : Interchange). T (lengthRight (versionIn i) f v)) (sym (a .1)) (w .long))
+          (subst (λ (i : Interchange). T (writable (syntaxIn i) (textBy f v))) (sym (a .1)) (w .written))
         where
-          by : (a : Allows s m r f) (o : Option Syntax) → syntaxIn (a .i) ≡ o → T (writable (syntaxIn (a .i)) (textBy f v)) → Seals s m r f v
-          by a none d h = absurd (subst (λ (o : Option Syntax). T (writable o (textBy f v))) d h)
-          by a (some y) d h = record {
+          by : (a : Allows s m r f) (o : Option Syntax) → syntaxIn (a .i) ≡ o → T (lengthRight (versionIn (a .i)) f v) → T (writable (syntaxIn (a .i)) (textBy f v)) → Seals s m r f v
+          by a none d l h = absurd (subst (λ (o : Option Syntax). T (writable o (textBy f v))) d h)
+          by a (some y) d l h = record {
             allowed = a;
-            value-size = within-so 1 (cond (eqb f 2) 256 384) (length v) (w .long);
+            value-size = within-so 1 (mostOctets (versionIn (a .i)) f) (length v) l;
             y = y;
             settled = d;
             written = subst (λ (o : Option Syntax). T (writable o (textBy f v))) d h;
@@ -178,12 +180,13 @@ module _ (s m r : List ℕ) (f : ℕ) where
       back w =
           let i : Interchange = w .allowed .i in
           let p = allows-of (w .allowed) in
-          let long : lengthRight f v ≡ true = is-true (lengthRight f v) (within-of 1 (cond (eqb f 2) 256 384) (length v) (w .value-size)) in
-          let c : (maySeal (p .o) r f && lengthRight f v) ≡ true =
-          is-true (maySeal (p .o) r f && lengthRight f v) (and-both (maySeal (p .o) r f) (lengthRight f v) (passes (maySeal (p .o) r f) (p .may)) (passes (lengthRight f v) long)) in
-          let e : writable (syntaxIn (w .allowed .i)) (textBy f v) ≡ true = ap (λ (o : Option Syntax). writable o (textBy f v)) (w .settled) ∙ is-true (allPass (mayWrite (w .y)) (textBy f v)) (w .written) in (
+          let e : Version = versionIn (w .allowed .i) in
+          let long : lengthRight e f v ≡ true = is-true (lengthRight e f v) (within-of 1 (mostOctets e f) (length v) (w .value-size)) in
+          let c : (maySeal e (p .o) r f && lengthRight e f v) ≡ true =
+          is-true (maySeal e (p .o) r f && lengthRight e f v) (and-both (maySeal e (p .o) r f) (lengthRight e f v) (passes (maySeal e (p .o) r f) (p .may)) (passes (lengthRight e f v) long)) in
+          let d : writable (syntaxIn (w .allowed .i)) (textBy f v) ≡ true = ap (λ (o : Option Syntax). writable o (textBy f v)) (w .settled) ∙ is-true (allPass (mayWrite (w .y)) (textBy f v)) (w .written) in (
             sealedText (w .allowed .i) m r f (textBy f v),
             ap answered (asked-of s m (λ i p. some (sealAt i p m r f v)) (w .allowed .i) (placed (message (p .o) (p .n)) (p .q)) (w .allowed .read) (p .named))
                 ∙ ap (λ (b : Bool). cond b (orUnwritten (w .allowed .i) m r f (textBy f v)) (noText (atZero 16))) c
-                ∙ ap (λ (b : Bool). cond b (text (sealedText (w .allowed .i) m r f (textBy f v))) (noText (atZero 14))) e,
+                ∙ ap (λ (b : Bool). cond b (text (sealedText (w .allowed .i) m r f (textBy f v))) (noText (atZero 14))) d,
           )

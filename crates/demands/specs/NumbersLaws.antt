@@ -13,13 +13,12 @@ use Rattle.syntax.specs.Service.{withoutRepetition, fit}
 use Rattle.syntax.specs.Content.{content}
 use Rattle.syntax.specs.Cutting.{endAt, tagOf}
 use Rattle.syntax.specs.Segment.{componentAt, partOf}
-use Rattle.syntax.specs.Opening.{startsUna, unaService, openingOf, levelNamed, versionNamed, settled, bothNamed, isTag, isUnb, isThere, begunBy, begunOf}
+use Rattle.syntax.specs.Opening.{goes, repeating, startsUna, unaService, openingOf, levelNamed, versionNamed, settled, bothNamed, isTag, isUnb, isThere, begunBy, begunOf}
 use Rattle.syntax.specs.Tree.{Segment, printS}
 use Rattle.syntax.specs.Reader.{Chain, over, left, open′, chain, cut}
 use Rattle.syntax.specs.declared.Syntax.{Syntax}
 use Rattle.syntax.specs.declared.Level.{Level}
 use Rattle.syntax.specs.declared.Version.{Version}
-use Rattle.syntax.specs.declared.Version.the-variants.{Three, Four}
 use Rattle.syntax.specs.declared.opening.Opening.{Opening}
 use Rattle.syntax.specs.declared.opening.Opened.{Opened}
 use Rattle.syntax.specs.declared.opening.Opened.the-variants.{Known, Refused as NotKnown}
@@ -60,11 +59,10 @@ opened-number s =
     (either OfOpened (ltb (length s) 9) tt (either OfOpened (fit (unaService s)) tt tt)) tt))
 
 settled-number : (o : Opening) (l : Level) (v : Version) → OfBegun (settled o l v)
-settled-number o l Four = tt
-settled-number o l Three = either OfBegun (o .una && not (eqb (o .service .repetition) 32)) tt tt
+settled-number o l v = either OfBegun (repeating v) tt (either OfBegun (o .una && not (eqb (o .service .repetition) 32)) tt tt)
 
 named-number : (o : Opening) (l : LevelName) (v : VersionName) → OfBegun (bothNamed o l v)
-named-number o (Leveled l) (Versioned v) = settled-number o l v
+named-number o (Leveled l) (Versioned v) = either OfBegun (goes l v) (settled-number o l v) tt
 named-number o (Leveled l) NoVersion = tt
 named-number o NoLevel v = tt
 

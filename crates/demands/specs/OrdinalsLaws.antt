@@ -14,7 +14,7 @@ use Rattle.syntax.specs.Repertoire.{outside}
 use Rattle.syntax.specs.Content.{content}
 use Rattle.syntax.specs.Cutting.{stopFrom, endAt, ends, firstOutside, tagOf}
 use Rattle.syntax.specs.CuttingLaws.{slice-take}
-use Rattle.syntax.specs.Opening.{startsUna, unaService, readUna, openingOf, levelNamed, versionNamed, settled, bothNamed, isTag, isUnb, isThere, begunAt, begunBy, begunOf}
+use Rattle.syntax.specs.Opening.{goes, repeating, startsUna, unaService, readUna, openingOf, levelNamed, versionNamed, settled, bothNamed, isTag, isUnb, isThere, begunAt, begunBy, begunOf}
 use Rattle.syntax.specs.Ordinal.{ordinalBy, ordinalOf}
 use Rattle.syntax.specs.Refusals.{refusalAt}
 use Rattle.syntax.specs.Segment.{componentAt, partOf}
@@ -29,7 +29,6 @@ use Rattle.syntax.specs.declared.Service.{Service}
 use Rattle.syntax.specs.declared.Syntax.{Syntax}
 use Rattle.syntax.specs.declared.Level.{Level}
 use Rattle.syntax.specs.declared.Version.{Version}
-use Rattle.syntax.specs.declared.Version.the-variants.{Three, Four}
 use Rattle.syntax.specs.declared.Found.{Found}
 use Rattle.syntax.specs.declared.Found.the-variants.{At, Nothing}
 use Rattle.syntax.specs.declared.cutting.Tag.{Tag}
@@ -294,11 +293,11 @@ OfBegun o (Refused f) = (f .place ≡ o .at) × T (ltb 3 (f .number))
 OfBegun o (Ready x) = (x .at ≡ o .at) × (withoutRepetition (x .syntax .service) ≡ withoutRepetition (o .service))
 
 settled-of : (o : Opening) (l : Level) (v : Version) → OfBegun o (settled o l v)
-settled-of o l Four = (refl, refl)
-settled-of o l Three = either (OfBegun o) (o .una && not (eqb (o .service .repetition) 32)) (refl, tt) (refl, refl)
+settled-of o l v =
+    either (OfBegun o) (repeating v) (refl, refl) (either (OfBegun o) (o .una && not (eqb (o .service .repetition) 32)) (refl, tt) (refl, refl))
 
 named-of : (o : Opening) (l : LevelName) (v : VersionName) → OfBegun o (bothNamed o l v)
-named-of o (Leveled l) (Versioned v) = settled-of o l v
+named-of o (Leveled l) (Versioned v) = either (OfBegun o) (goes l v) (settled-of o l v) (refl, tt)
 named-of o (Leveled l) NoVersion = (refl, tt)
 named-of o NoLevel v = (refl, tt)
 

@@ -1,17 +1,18 @@
 -- Headers and trailers pair, and the counts agree, in every message of an accepted interchange.
 use Prim.Native.Nat.{ℕ, _+_, _≤_}
 use native.Mathlib.Omega.{arith}
-use mathlib.Core.Bool.{false}
+use mathlib.Core.Bool.{Bool, false, cond}
 use mathlib.Core.List.{List}
-use mathlib.Core.Path.{_≡_, refl, ap, _∙_}
+use mathlib.Core.Path.{_≡_, refl, ap, _∙_, sym, subst}
 use lib.Dec.{eqb, eqb→eq}
-use Rattle.grammar.specs.Lists.{Snoc, nil, each, size, test, holds, every, distinct}
+use Rattle.grammar.specs.Lists.{Snoc, nil, each, size, always, test, holds, every, distinct}
 use Rattle.grammar.specs.Grams.{sum}
 use Rattle.grammar.specs.Interchange.{Header, Trailer, trailer, Body, plain, ack, msg, Message, message, showHeader, showTrailer}
 use Rattle.grammar.specs.Rules.{refH, refT, one, refsMessage, total, sizeAt, counted, countsMessage}
 use Rattle.grammar.specs.ListsLaws.{each-size}
 use Rattle.grammar.specs.Loads.{loads}
 use Rattle.syntax.specs.declared.Version.{Version}
+use Rattle.groups.specs.Calls.{versionBy, versionIn}
 use Rattle.grammar.specs.Valid.{Interchange, interchange, Valid}
 use Rattle.grammar.specs.Verdict.{accepted, verdictOf, loadsB}
 use Rattle.grammar.specs.VerdictLaws.{verdict-exact}
@@ -65,16 +66,18 @@ total-of : (b : Body) → holds (total b) → (n : ℕ) → In n (controlsB b) �
 total-of (plain b) h n x = eqb→eq n (sum (loads b)) (every-in (λ (n : ℕ). test (eqb n (sum (loads b)))) h x)
 total-of (ack c ls) h n x = absurd (every-in (λ (n : ℕ). test false) {row = nil} tt x)
 
-counts-of : (v : Version) (m : Message) → holds (refsMessage m) → holds (countsMessage v m) → CountsAgree m
+counts-of : (v : Version) (m : Message) → holds (refsMessage m) → holds (countsMessage v m) → CountsAgree v m
 counts-of v (message (msg h hs b ts) t) q c = record {
-  pair = λ k l x y e. pair-counted hs l (every-in (counted hs) (c .1 .0) y) ∙ ap (λ (n : ℕ). n + size (showTrailer l)) (size-of (refT l) x e (q .0 .0));
+  pair =
+      λ a k l x y e. pair-counted hs l (every-in (counted hs) (subst (λ (z : Bool). holds (cond z always (every (counted hs) ts))) a (c .1 .0)) y)
+      ∙ ap (λ (n : ℕ). n + size (showTrailer l)) (size-of (refT l) x e (q .0 .0));
   segments = eqb→eq _ _ (c .0);
   total = total-of b (c .1 .1);
 }
 
-pub counts-all : (s : List ℕ) (i : Interchange) → verdictOf s ≡ accepted i → (number0036 i ≡ size (messagesIn i)) × ((m : Message) → In m (messagesIn i) → CountsAgree m)
+pub counts-all : (s : List ℕ) (i : Interchange) → verdictOf s ≡ accepted i → (number0036 i ≡ size (messagesIn i)) × ((m : Message) → In m (messagesIn i) → CountsAgree (versionIn i) m)
 counts-all s i e = by i (verdict-exact s i .0 e .0)
   where
-    by : (i : Interchange) → Valid i → (number0036 i ≡ size (messagesIn i)) × ((m : Message) → In m (messagesIn i) → CountsAgree m)
+    by : (i : Interchange) → Valid i → (number0036 i ≡ size (messagesIn i)) × ((m : Message) → In m (messagesIn i) → CountsAgree (versionIn i) m)
     by (interchange n u ms z) v =
-        (eqb→eq _ _ (v .counted .1), λ (m : Message) (x : In m ms). counts-of (v .y .version) m (every-in refsMessage (v .references .1 .0) x) (every-in (countsMessage (v .y .version)) (v .counted .0) x))
+        (eqb→eq _ _ (v .counted .1), λ (m : Message) (x : In m ms). subst (λ (w : Version). CountsAgree w m) (sym (ap versionBy (v .named))) (counts-of (v .y .version) m (every-in refsMessage (v .references .1 .0) x) (every-in (countsMessage (v .y .version)) (v .counted .0) x)))

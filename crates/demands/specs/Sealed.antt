@@ -12,7 +12,7 @@ use Rattle.grammar.specs.Verdict.{accepted, verdictOf}
 use Rattle.grammar.specs.Named.{placed}
 use Rattle.grammar.specs.Counted.{messagesIn}
 use Rattle.writing.specs.Written.{text}
-use Rattle.groups.specs.Calls.{given, serviceIn, messageIn}
+use Rattle.groups.specs.Calls.{given, serviceIn, versionIn, messageIn}
 use Rattle.ranges.specs.Ranges.{parts, run, scope1Of, scope2Of}
 use Rattle.demands.specs.Printed.{MessageOf}
 use Rattle.weaving.specs.Seals.{newHeader, newTrailer, grown, sealedMessage, sealed, textBy}
@@ -20,7 +20,7 @@ use Rattle.sealing.specs.Sealing.{sealOctetsOf}
 
 -- the tree that sealing the message m of i gives: for VALUE v under F f, with the reference r
 abbrev pub sealedBy : Interchange → List ℕ → List ℕ → ℕ → List ℕ → Interchange
-sealedBy i m r f v = sealed i m (newHeader r f) (newTrailer (serviceIn i) r (textBy f v))
+sealedBy i m r f v = sealed i m (newHeader r f) (newTrailer (versionIn i) (serviceIn i) r (textBy f v))
 
 -- "A sealed message is accepted, keeps its other segments octet for octet": its tree is the old one with the new header group first and the new
 -- trailer group last in that message and UNT's count four more
@@ -32,10 +32,10 @@ pub record Accepted (s m r : List ℕ) (f : ℕ) (v x : List ℕ) : Type 0 where
   pub before : Snoc Message
   pub behind : Snoc Message
   pub old : messagesIn (of .i) ≡ before ▷ message (of .o) (of .t) +++ behind
-  pub new : messagesIn (sealedBy (of .i) m r f v) ≡ before ▷ sealedMessage (newHeader r f) (newTrailer (serviceIn (of .i)) r (textBy f v)) (message (of .o) (of .t)) +++ behind
+  pub new : messagesIn (sealedBy (of .i) m r f v) ≡ before ▷ sealedMessage (newHeader r f) (newTrailer (versionIn (of .i)) (serviceIn (of .i)) r (textBy f v)) (message (of .o) (of .t)) +++ behind
   pub counts : number (grown (of .t)) 1 ≡ number (of .t) 1 + 4
   -- it is found by the same 0062, at the same place
-  pub stays : messageIn (sealedBy (of .i) m r f v) m ≡ some (placed (sealedMessage (newHeader r f) (newTrailer (serviceIn (of .i)) r (textBy f v)) (message (of .o) (of .t))) (of .q))
+  pub stays : messageIn (sealedBy (of .i) m r f v) m ≡ some (placed (sealedMessage (newHeader r f) (newTrailer (versionIn (of .i)) (serviceIn (of .i)) r (textBy f v)) (message (of .o) (of .t))) (of .q))
   -- the same repertoire, version and service characters are in force
   pub settled : syntaxIn (sealedBy (of .i) m r f v) ≡ syntaxIn (of .i)
 

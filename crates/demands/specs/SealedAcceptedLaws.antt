@@ -20,7 +20,7 @@ use Rattle.grammar.specs.Named.{Placed, placed}
 use Rattle.grammar.specs.TestLaws.{passes}
 use Rattle.weaving.specs.WovenLaws.{around}
 use Rattle.writing.specs.Written.{Text, text, noText}
-use Rattle.groups.specs.Calls.{Answered, given, refusedAs, answeredBy, then, serviceIn, messageIn}
+use Rattle.groups.specs.Calls.{Answered, given, refusedAs, answeredBy, then, serviceIn, versionIn, messageIn}
 use Rattle.values.specs.Values.{answered}
 use Rattle.weaving.specs.Seals.{newHeader, newTrailer, maySeal, lengthRight, writable, textBy, sealedText}
 use Rattle.sealing.specs.Sealing.{orUnwritten, sealAt, sealOf}
@@ -44,8 +44,8 @@ pub record Succeeds (s m r : List ℕ) (f : ℕ) (v x : List ℕ) : Type 0 where
   pub n : Leaf
   pub q : ℕ
   pub named : messageIn i m ≡ some (placed (message (msg u hs b ts) n) q)
-  pub may : T (maySeal (msg u hs b ts) r f)
-  pub long : T (lengthRight f v)
+  pub may : T (maySeal (versionIn i) (msg u hs b ts) r f)
+  pub long : T (lengthRight (versionIn i) f v)
   pub written : T (writable (syntaxIn i) (textBy f v))
   pub printed : printInterchange (sealedBy i m r f v) ≡ x
 
@@ -65,12 +65,12 @@ module _ (s m r : List ℕ) (f : ℕ) (v x : List ℕ) where
       by false e = no-text e
 
   placed-so : (i : Interchange) (p : Placed) → verdictOf s ≡ accepted i → messageIn i m ≡ some p → sealAt i p m r f v ≡ text x → Succeeds s m r f v x
-  placed-so i (placed (message (msg u hs b ts) n) q) d k e = by (maySeal (msg u hs b ts) r f && lengthRight f v) refl e
+  placed-so i (placed (message (msg u hs b ts) n) q) d k e = by (maySeal (versionIn i) (msg u hs b ts) r f && lengthRight (versionIn i) f v) refl e
     where
-      by : (c : Bool) → (maySeal (msg u hs b ts) r f && lengthRight f v) ≡ c → cond c (orUnwritten i m r f (textBy f v)) (noText (atZero 16)) ≡ text x → Succeeds s m r f v x
+      by : (c : Bool) → (maySeal (versionIn i) (msg u hs b ts) r f && lengthRight (versionIn i) f v) ≡ c → cond c (orUnwritten i m r f (textBy f v)) (noText (atZero 16)) ≡ text x → Succeeds s m r f v x
       by true a e =
           let w = written-so i e in
-          let h = passes (maySeal (msg u hs b ts) r f && lengthRight f v) a in
+          let h = passes (maySeal (versionIn i) (msg u hs b ts) r f && lengthRight (versionIn i) f v) a in
           record {
             i = i;
             read = d;
@@ -81,8 +81,8 @@ module _ (s m r : List ℕ) (f : ℕ) (v x : List ℕ) where
             n = n;
             q = q;
             named = k;
-            may = and-left (maySeal (msg u hs b ts) r f) (lengthRight f v) h;
-            long = and-right (maySeal (msg u hs b ts) r f) (lengthRight f v) h;
+            may = and-left (maySeal (versionIn i) (msg u hs b ts) r f) (lengthRight (versionIn i) f v) h;
+            long = and-right (maySeal (versionIn i) (msg u hs b ts) r f) (lengthRight (versionIn i) f v) h;
             written = w .0;
             printed = w .1;
           }
@@ -103,7 +103,7 @@ module _ (s m r : List ℕ) (f : ℕ) (v x : List ℕ) where
   sealed-read w l =
       let h = verdict-exact s (w .i) .0 (w .read) in
       verdict-exact x (sealedBy (w .i) m r f v) .1 (
-        sealed-valid (w .i) (h .0) m r f (textBy f v) (w .u) (w .hs) (w .b) (w .ts) (w .n) (w .named) (w .may) (w .written) (text-short f v (w .long))
+        sealed-valid (w .i) (h .0) m r f (textBy f v) (w .u) (w .hs) (w .b) (w .ts) (w .n) (w .named) (w .may) (w .written) (text-short (versionIn (w .i)) f v (w .long))
             (subst (λ (y : List ℕ). length y ≤ 65535) (sym (w .printed)) l),
         w .printed,
       )
@@ -116,7 +116,7 @@ module _ (s m r : List ℕ) (f : ℕ) (v x : List ℕ) where
       by (interchange k u ms z) d e a =
           let i : Interchange = interchange k u ms z in
           let H : Header = newHeader r f in
-          let R : Trailer = newTrailer (serviceIn (interchange k u ms z)) r (textBy f v) in
+          let R : Trailer = newTrailer (versionIn (interchange k u ms z)) (serviceIn (interchange k u ms z)) r (textBy f v) in
           let g = around (serviceIn i) (openingIn k .at) u H R (compared m) ms e in
           record {
             of = message-of s m i (msg (w .u) (w .hs) (w .b) (w .ts)) (w .n) (w .q) d e;

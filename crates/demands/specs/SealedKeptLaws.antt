@@ -20,7 +20,7 @@ use Rattle.grammar.specs.PlacingLaws.{same-eq, regroup}
 use Rattle.grammar.specs.Named.{placed, placedIn}
 use Rattle.groups.specs.Groups.{chosen, chosenBy}
 use Rattle.groups.specs.GroupsLaws.{Among, chosen-among}
-use Rattle.groups.specs.Calls.{given, serviceIn, messageIn}
+use Rattle.groups.specs.Calls.{given, serviceIn, versionIn, messageIn}
 use Rattle.ranges.specs.Ranges.{parts, run, scope1Of, scope2Of}
 use Rattle.weaving.specs.Seals.{newHeader, newTrailer, grown, sealedMessage, sealed, textBy}
 use Rattle.demands.specs.Sealed.{sealedBy, Kept1, Kept2}
@@ -34,6 +34,9 @@ use Rattle.demands.specs.GivenLaws.{There1, there1, stands1, runOf, Ther
 
 pub service-sealed : (i : Interchange) (m : List ℕ) (h : Header) (t : Trailer) → serviceIn (sealed i m h t) ≡ serviceIn i
 service-sealed (interchange n u ms z) m h t = refl
+
+pub version-sealed : (i : Interchange) (m : List ℕ) (h : Header) (t : Trailer) → versionIn (sealed i m h t) ≡ versionIn i
+version-sealed (interchange n u ms z) m h t = refl
 
 pub message-sealed : (i : Interchange) (m : List ℕ) (h : Header) (t : Trailer) {x : Message} {q : ℕ} → messageIn i m ≡ some (placed x q) → messageIn (sealed i m h t) m ≡ some (placed (sealedMessage h t x) q)
 message-sealed (interchange n u ms z) m h t e = placed-sealed h t (compared m) (serviceIn (interchange n u ms z)) (openingIn n .at) u ms e
@@ -53,7 +56,7 @@ module _ (s m r : List ℕ) (f : ℕ) (v x : List ℕ) (i : Interchange) (read :
   H = newHeader r f
 
   abbrev R : Interchange → Trailer
-  R i = newTrailer (serviceIn i) r (textBy f v)
+  R i = newTrailer (versionIn i) (serviceIn i) r (textBy f v)
 
   reads-as : (j : Interchange) → verdictOf s ≡ accepted j → verdictOf x ≡ accepted (sealedBy j m r f v)
   reads-as j d = reads ∙ ap (λ (i : Interchange). accepted (sealedBy i m r f v)) (accepted-one (sym read ∙ d))
@@ -136,7 +139,7 @@ module _ (s m r : List ℕ) (f : ℕ) (v x : List ℕ) (i : Interchange) (read :
             let a : T (not (among (each refH (w .hs)) (compared r))) =
             new (w .u) (w .hs) (w .b) (w .ts) (w .n) (w .q) (ap (λ (i : Interchange). messageIn i m) j ∙ message-as (w .i) m k g ∙ w .named) in
             let z : same (refT (R (w .i))) (compared h) ≡ false =
-            ap (λ (y : List ℕ). same y (compared h)) (ref-trailer (serviceIn (w .i)) r (textBy f v)) ∙ same-swap (compared h) (compared r) (away (each refH (w .hs)) (compared r) (compared h) a (p .there)) in
+            ap (λ (y : List ℕ). same y (compared h)) (ref-trailer (versionIn (w .i)) (serviceIn (w .i)) r (textBy f v)) ∙ same-swap (compared h) (compared r) (away (each refH (w .hs)) (compared r) (compared h) a (p .there)) in
             there2 x k h (again w d) (p .rest) es e (ap (front H) (p .whole) ∙ regroup (nil ▷ H) (w .ys ▷ w .y) (p .rest))
             (ap (λ (c : Bool). cond c (some (chosen (w .ts) (R (w .i)))) (chosenBy refT (w .ts) (compared h))) z ∙ l)
         by false d = there2 x k h (aside w d) (p .rest) es e (p .whole) l

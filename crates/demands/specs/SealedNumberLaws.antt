@@ -10,15 +10,18 @@ use borrow.Author.Tests.{lt-ltb}
 use Rattle.syntax.specs.Content.{valueFrom, compared}
 use Rattle.syntax.specs.ContentLaws.{power}
 use Rattle.syntax.specs.Service.{serves}
+use Rattle.syntax.specs.Octets.{octets}
+use Rattle.syntax.specs.Opening.{earlier}
 use Rattle.syntax.specs.Tree.{octetIn, contentIn}
 use Rattle.syntax.specs.Tree as syntax
 use Rattle.syntax.specs.declared.Service.{Service}
-use Rattle.grammar.specs.Segments.{number, unt0062}
+use Rattle.syntax.specs.declared.Version.{Version}
+use Rattle.grammar.specs.Segments.{elementContent, number, unt0062, usr0560}
 use Rattle.grammar.specs.Interchange.{Leaf}
 use Rattle.grammar.specs.Rules.{refH, refT}
 use Rattle.writing.specs.Decimal.{digitsBefore, decimalOf}
 use Rattle.writing.specs.DecimalLaws.{decimal-value}
-use Rattle.weaving.specs.Seals.{plains, released, newHeader, newTrailer, grown}
+use Rattle.weaving.specs.Seals.{plains, released, several, usrLeaf, newHeader, newTrailer, grown}
 
 -- ---- contents
 
@@ -37,8 +40,16 @@ released-content σ (b ∷ t) = by (serves σ b) ∙ ap (λ (l : List ℕ). b �
 pub ref-header : (r : List ℕ) (f : ℕ) → refH (newHeader r f) ≡ compared r
 ref-header r f = ap compared (plains-content r)
 
-pub ref-trailer : (σ : Service) (r t : List ℕ) → refT (newTrailer σ r t) ≡ compared r
-ref-trailer σ r t = ap compared (plains-content r)
+pub ref-trailer : (v : Version) (σ : Service) (r t : List ℕ) → refT (newTrailer v σ r t) ≡ compared r
+ref-trailer v σ r t = ap compared (plains-content r)
+
+-- in either edition the new USR's 0560 is the text
+pub value-content : (v : Version) (σ : Service) (t : List ℕ) → usr0560 v (usrLeaf v σ t) ≡ t
+value-content v σ t = by (earlier v) ∙ released-content σ t
+  where
+    by : (e : Bool) → elementContent (cond e (several (released σ t) []) (several (plains (octets "1")) (released σ t ∷ [])) ∷ []) 1 (cond e 0 1) ≡ contentIn (released σ t)
+    by true = refl
+    by false = refl
 
 -- ---- numbers of few digits
 

@@ -10,6 +10,7 @@ use borrow.Author.Tests.{eqb-true}
 use Rattle.syntax.specs.Octets as octets
 use Rattle.syntax.specs.Octets.{within}
 use Rattle.syntax.specs.Service.{fit}
+use Rattle.syntax.specs.Opening.{earlier}
 use Rattle.syntax.specs.Repertoire.{tagOctet}
 use Rattle.syntax.specs.Content.{allDigits, blank}
 use Rattle.syntax.specs.Tree.{Segment, ok, contentIn}
@@ -20,7 +21,7 @@ use Rattle.syntax.specs.declared.Version.{Version}
 use Rattle.grammar.specs.Lists.{Snoc, nil, _▷_, _+++_, joined, Rule, holds, every}
 use Rattle.grammar.specs.Segments.{Unh, Unt, Ush, Usa, Usr, Ust, seg, asked, number}
 use Rattle.grammar.specs.Elements as table
-use Rattle.grammar.specs.Elements.{reference, inRange, simple, notEmptyReference, formedAs, formedRow, formed}
+use Rattle.grammar.specs.Elements.{reference, inRange, simple, composite, anyText, notEmptyReference, formedAs, formedRow, formed}
 use Rattle.grammar.specs.Interchange.{Leaf, Header, Trailer, Body, msg, message, showHeader, showTrailer, showBody, showMessage}
 use Rattle.grammar.specs.Rules.{insideS, formedS, amountS}
 use Rattle.writing.specs.Decimal.{decimalOf}
@@ -29,7 +30,7 @@ use Rattle.filters.specs.Hex.{hexText}
 use Rattle.filters.specs.Six.{sixText}
 use Rattle.filters.specs.HexLaws.{hex-length}
 use Rattle.filters.specs.SixLaws.{six-length}
-use Rattle.weaving.specs.Seals.{plains, released, single, ushLeaf, usaLeaf, ustLeaf, usrLeaf, newHeader, newTrailer, grown, sealedMessage, refRight, filterRight, lengthRight, textBy, mayWrite}
+use Rattle.weaving.specs.Seals.{plains, released, single, several, ushLeaf, usaLeaf, ustLeaf, usrLeaf, newHeader, newTrailer, grown, sealedMessage, refRight, filterRight, lengthRight, textBy, mayWrite}
 use Rattle.demands.specs.SealedListLaws.{front, joined-front}
 use Rattle.demands.specs.SealedNumberLaws.{plains-content, released-content, decimal-some, decimal-six}
 use Rattle.demands.specs.SealedSymbolLaws.{ush-passes, usa-passes, ust-passes, usr-passes, unt-passes}
@@ -39,17 +40,17 @@ use Rattle.grammar.specs.TestLaws.{is-true, passes}
 
 -- ---- a rule that the new segments meet, and UNT with its count grown where it met it
 
-pub record Takes (rule : Segment → Rule) (r : List ℕ) (f : ℕ) (σ : Service) (t : List ℕ) (n : Leaf) : Type 0 where
+pub record Takes (rule : Segment → Rule) (v : Version) (r : List ℕ) (f : ℕ) (σ : Service) (t : List ℕ) (n : Leaf) : Type 0 where
   pub ush : holds (rule (seg Ush (ushLeaf r f)))
   pub usa : holds (rule (seg Usa usaLeaf))
-  pub ust : holds (rule (seg Ust (ustLeaf r)))
-  pub usr : holds (rule (seg Usr (usrLeaf σ t)))
+  pub ust : holds (rule (seg Ust (ustLeaf v r)))
+  pub usr : holds (rule (seg Usr (usrLeaf v σ t)))
   pub unt : holds (rule (seg Unt n)) → holds (rule (seg Unt (grown n)))
 
 -- it is met by all segments of the message that is sealed
-pub message-takes : (rule : Segment → Rule) (r : List ℕ) (f : ℕ) (σ : Service) (t : List ℕ) (u : Leaf) (hs : Snoc Header) (b : Body) (ts : Snoc Trailer) (n : Leaf) → Takes rule r f σ t n
-    → holds (every rule (showMessage (message (msg u hs b ts) n))) → holds (every rule (showMessage (sealedMessage (newHeader r f) (newTrailer σ r t) (message (msg u hs b ts) n))))
-message-takes rule r f σ t u hs b ts n w h =
+pub message-takes : (rule : Segment → Rule) (v : Version) (r : List ℕ) (f : ℕ) (σ : Service) (t : List ℕ) (u : Leaf) (hs : Snoc Header) (b : Body) (ts : Snoc Trailer) (n : Leaf) → Takes rule v r f σ t n
+    → holds (every rule (showMessage (message (msg u hs b ts) n))) → holds (every rule (showMessage (sealedMessage (newHeader r f) (newTrailer v σ r t) (message (msg u hs b ts) n))))
+message-takes rule v r f σ t u hs b ts n w h =
     let U : Snoc Segment = nil ▷ seg Unh u in
     let J : Snoc Segment = joined showHeader hs in
     let K : Snoc Segment = joined showTrailer ts in
@@ -73,13 +74,22 @@ message-takes rule r f σ t u hs b ts n w h =
 
 -- ---- 8
 
+-- F is 2 or 7 in either edition
+pub filter-wide : (v : Version) (f : ℕ) → T (filterRight v f) → T (eqb f 2 || eqb f 7)
+filter-wide v f h = by (eqb f 2) (earlier v) h
+  where
+    by : (a e : Bool) → T (a || (not e && eqb f 7)) → T (a || eqb f 7)
+    by true e h = tt
+    by false true h = absurd h
+    by false false h = h
+
 -- one of a segment's elements decides, the others are right by themselves
 here : (b : Bool) → b ≡ true → T (b && true && true && true)
 here true e = tt
 here false e = passes false e
 
-ush-formed : (v : Version) (r : List ℕ) (f : ℕ) → T (inRange (reference 1 14) r) → T (filterRight f) → T (formed v (asked (seg Ush (ushLeaf r f))))
-ush-formed v r f h k = by (eqb f 2) refl (eqb f 7) refl k
+ush-formed : (v : Version) (r : List ℕ) (f : ℕ) → T (inRange (reference 1 14) r) → T (filterRight v f) → T (formed v (asked (seg Ush (ushLeaf r f))))
+ush-formed v r f h k = by (eqb f 2) refl (eqb f 7) refl (filter-wide v f k)
   where
     long : inRange (reference 1 14) (contentIn (plains r)) ≡ true
     long = ap (inRange (reference 1 14)) (plains-content r) ∙ is-true (inRange (reference 1 14) r) h
@@ -88,9 +98,6 @@ ush-formed v r f h k = by (eqb f 2) refl (eqb f 7) refl k
     by true d c e k = subst (λ (f : ℕ). T (formed v (asked (seg Ush (ushLeaf r f))))) (sym (eqb-true f 2 d)) (here (inRange (reference 1 14) (contentIn (plains r))) long)
     by false d true e k = subst (λ (f : ℕ). T (formed v (asked (seg Ush (ushLeaf r f))))) (sym (eqb-true f 7 e)) (here (inRange (reference 1 14) (contentIn (plains r))) long)
     by false d false e k = absurd k
-
-ust-formed : (v : Version) (r : List ℕ) → T (inRange (reference 1 14) r) → T (formed v (asked (seg Ust (ustLeaf r))))
-ust-formed v r h = here (inRange (reference 1 14) (contentIn (plains r))) (ap (inRange (reference 1 14)) (plains-content r) ∙ is-true (inRange (reference 1 14) r) h)
 
 -- A to Z and 0 to 9 are no spaces
 not-blank : (r : List ℕ) → T (within 1 14 (length r)) → T (octets.allPass tagOctet r) → T (not (blank r))
@@ -101,17 +108,38 @@ not-blank (b ∷ r) h k = by (eqb b 32) refl
     by true e = absurd (subst (λ (x : ℕ). T (tagOctet x)) (eqb-true b 32 e) (and-left (tagOctet b) (octets.allPass tagOctet r) k))
     by false e = tt
 
-usr-formed : (v : Version) (σ : Service) (t : List ℕ) → length t ≤ 512 → T (formed v (asked (seg Usr (usrLeaf σ t))))
-usr-formed v σ t h = here (within 0 512 (length (contentIn (released σ t)))) long
+ust-formed : (v : Version) (r : List ℕ) → T (inRange (reference 1 14) r) → T (formed v (asked (seg Ust (ustLeaf v r))))
+ust-formed v r h = by (earlier v)
   where
-    long : within 0 512 (length (contentIn (released σ t))) ≡ true
-    long =
-        ap (λ (l : List ℕ). within 0 512 (length l)) (released-content σ t)
-        ∙ is-true (within 0 512 (length t)) (and-both (leb 0 (length t)) (leb (length t) 512) (le→leb 0 (length t) (omega arith)) (le→leb (length t) 512 h))
+    long : inRange (reference 1 14) (contentIn (plains r)) ≡ true
+    long = ap (inRange (reference 1 14)) (plains-content r) ∙ is-true (inRange (reference 1 14) r) h
+
+    by : (e : Bool)
+        → T (formedRow (simple (reference 1 14 ∷ []) ∷ cond e [] (simple (table.digits 1 6 ∷ []) ∷ [])) (asked (seg Ust (single r ∷ cond e [] (single (octets.octets "4") ∷ [])))) 1)
+    by true = here (inRange (reference 1 14) (contentIn (plains r))) long
+    by false = here (inRange (reference 1 14) (contentIn (plains r))) long
+
+-- how long the text of VALUE may be: 0560 has 512 octets at most, and 256 in the earlier edition
+abbrev pub mostText : Version → ℕ
+mostText v = cond (earlier v) 256 512
+
+usr-formed : (v : Version) (σ : Service) (t : List ℕ) → length t ≤ mostText v → T (formed v (asked (seg Usr (usrLeaf v σ t))))
+usr-formed v σ t h = by (earlier v) h
+  where
+    long : (n : ℕ) → length t ≤ n → within 0 n (length (contentIn (released σ t))) ≡ true
+    long n h =
+        ap (λ (l : List ℕ). within 0 n (length l)) (released-content σ t)
+        ∙ is-true (within 0 n (length t)) (and-both (leb 0 (length t)) (leb (length t) n) (le→leb 0 (length t) (omega arith)) (le→leb (length t) n h))
 
     here : (b : Bool) → b ≡ true → T (b && true && true)
     here true e = tt
     here false e = passes false e
+
+    by : (e : Bool) → length t ≤ cond e 256 512
+        → T (formedRow (cond e (composite (anyText 0 256 ∷ [])) (composite (anyText 1 3 ∷ anyText 0 512 ∷ [])) ∷ [])
+        (asked (seg Usr (cond e (several (released σ t) []) (several (plains (octets.octets "1")) (released σ t ∷ [])) ∷ []))) 1)
+    by true h = here (within 0 256 (length (contentIn (released σ t)))) (long 256 h)
+    by false h = here (within 0 512 (length (contentIn (released σ t)))) (long 512 h)
 
 unt-formed : (v : Version) (n : Leaf) → number n 1 + 4 < 1000000 → T (formed v (asked (seg Unt n))) → T (formed v (asked (seg Unt (grown n))))
 unt-formed v n l h = by n (number n 1 + 4) (first (number n 1 + 4) l) h
@@ -135,27 +163,32 @@ unt-formed v n l h = by n (number n 1 + 4) (first (number n 1 + 4) l) h
         (formedRow (simple (notEmptyReference ∷ []) ∷ []) (asked (seg Unt (e ∷ n))) 2) f
         (and-right (formedAs (simple (table.digits 1 6 ∷ [])) (asked (seg Unt (e ∷ n))) 1) (formedRow (simple (notEmptyReference ∷ []) ∷ []) (asked (seg Unt (e ∷ n))) 2) h)
 
--- ---- the text of VALUE has 512 octets at most
+-- ---- the text of VALUE is not too long
 
-pub text-short : (f : ℕ) (v : List ℕ) → T (lengthRight f v) → length (textBy f v) ≤ 512
-text-short f v h = by (eqb f 2) h
+pub text-short : (w : Version) (f : ℕ) (v : List ℕ) → T (lengthRight w f v) → length (textBy f v) ≤ mostText w
+text-short w f v h = by (earlier w) (eqb f 2) h
   where
-    by : (b : Bool) → T (within 1 (cond b 256 384) (length v)) → length (cond b (hexText v) (sixText v)) ≤ 512
-    by true h = omega (arith, hex-length v, leb→le (length v) 256 (and-right (leb 1 (length v)) (leb (length v) 256) h))
-    by false h = omega (arith, six-length v, leb→le (length v) 384 (and-right (leb 1 (length v)) (leb (length v) 384) h))
+    most : (n : ℕ) → T (within 1 n (length v)) → length v ≤ n
+    most n h = leb→le (length v) n (and-right (leb 1 (length v)) (leb (length v) n) h)
+
+    by : (a b : Bool) → T (within 1 (cond a 128 (cond b 256 384)) (length v)) → length (cond b (hexText v) (sixText v)) ≤ cond a 256 512
+    by true true h = omega (arith, hex-length v, most 128 h)
+    by true false h = omega (arith, six-length v, most 128 h)
+    by false true h = omega (arith, hex-length v, most 256 h)
+    by false false h = omega (arith, six-length v, most 384 h)
 
 -- ---- all of them
 
-filter-digits : (f : ℕ) → T (filterRight f) → T (octets.allPass tagOctet (decimalOf f))
-filter-digits f h = digits-tag (decimalOf f) (passes (allDigits (decimalOf f)) (decimal-digits f (by (eqb f 2) refl (eqb f 7) refl h)))
+filter-digits : (v : Version) (f : ℕ) → T (filterRight v f) → T (octets.allPass tagOctet (decimalOf f))
+filter-digits v f h = digits-tag (decimalOf f) (passes (allDigits (decimalOf f)) (decimal-digits f (by (eqb f 2) refl (eqb f 7) refl (filter-wide v f h))))
   where
     by : (a : Bool) → eqb f 2 ≡ a → (c : Bool) → eqb f 7 ≡ c → T (a || c) → f < 18446744073709551616
     by true d c e k = omega (arith, eqb-true f 2 d)
     by false d true e k = omega (arith, eqb-true f 7 e)
     by false d false e k = absurd k
 
-module _ (y : Syntax) (fits : T (fit (y .service))) (r : List ℕ) (f : ℕ) (t : List ℕ) (n : Leaf) (ref : T (refRight r)) (filter : T (filterRight f)) (may : T (octets.allPass (mayWrite y) t))
-    (short : length t ≤ 512) (small : number n 1 + 4 < 1000000) where
+module _ (y : Syntax) (fits : T (fit (y .service))) (r : List ℕ) (f : ℕ) (t : List ℕ) (n : Leaf) (ref : T (refRight r)) (filter : T (filterRight (y .version) f)) (may : T (octets.allPass (mayWrite y) t))
+    (short : length t ≤ mostText (y .version)) (small : number n 1 + 4 < 1000000) where
   letters : T (octets.allPass tagOctet r)
   letters = and-right (within 1 14 (length r)) (octets.allPass tagOctet r) ref
 
@@ -167,32 +200,32 @@ module _ (y : Syntax) (fits : T (fit (y .service))) (r : List ℕ) (f : ℕ) (t 
   number-digits : T (octets.allPass tagOctet (decimalOf (number n 1 + 4)))
   number-digits = digits-tag (decimalOf (number n 1 + 4)) (passes (allDigits (decimalOf (number n 1 + 4))) (decimal-digits (number n 1 + 4) (omega (arith, small))))
 
-  pub takes-well : Takes (wellS (y .service)) r f (y .service) t n
+  pub takes-well : Takes (wellS (y .service)) (y .version) r f (y .service) t n
   takes-well =
       let p = ok-passes y fits in
       let σ : Service = y .service in
       record {
-        ush = symbols-well σ (seg Ush (ushLeaf r f)) tt (ush-passes (ok σ) p r f letters (filter-digits f filter));
+        ush = symbols-well σ (seg Ush (ushLeaf r f)) tt (ush-passes (ok σ) p r f letters (filter-digits (y .version) f filter));
         usa = symbols-well σ (seg Usa usaLeaf) tt (usa-passes (ok σ) p);
-        ust = symbols-well σ (seg Ust (ustLeaf r)) tt (ust-passes (ok σ) p r letters);
-        usr = symbols-well σ (seg Usr (usrLeaf σ t)) tt (usr-passes (ok σ) p σ t (value-ok y fits t may));
+        ust = symbols-well σ (seg Ust (ustLeaf (y .version) r)) tt (ust-passes (ok σ) p (y .version) r letters);
+        usr = symbols-well σ (seg Usr (usrLeaf (y .version) σ t)) tt (usr-passes (ok σ) p (y .version) σ t (value-ok y fits t may));
         unt = λ h. symbols-well σ (seg Unt (grown n)) tt (unt-passes (ok σ) p n number-digits (well-symbols σ (seg Unt n) h));
       }
 
   -- 3
-  pub takes-inside : Takes (insideS y) r f (y .service) t n
+  pub takes-inside : Takes (insideS y) (y .version) r f (y .service) t n
   takes-inside =
       let p = clear-passes y fits in
       record {
-        ush = symbols-inside y (seg Ush (ushLeaf r f)) (ush-passes (clearS y) p r f letters (filter-digits f filter));
+        ush = symbols-inside y (seg Ush (ushLeaf r f)) (ush-passes (clearS y) p r f letters (filter-digits (y .version) f filter));
         usa = symbols-inside y (seg Usa usaLeaf) (usa-passes (clearS y) p);
-        ust = symbols-inside y (seg Ust (ustLeaf r)) (ust-passes (clearS y) p r letters);
-        usr = symbols-inside y (seg Usr (usrLeaf (y .service) t)) (usr-passes (clearS y) p (y .service) t (value-clear y fits t may));
+        ust = symbols-inside y (seg Ust (ustLeaf (y .version) r)) (ust-passes (clearS y) p (y .version) r letters);
+        usr = symbols-inside y (seg Usr (usrLeaf (y .version) (y .service) t)) (usr-passes (clearS y) p (y .version) (y .service) t (value-clear y fits t may));
         unt = λ h. symbols-inside y (seg Unt (grown n)) (unt-passes (clearS y) p n number-digits (inside-symbols y (seg Unt n) h));
       }
 
   -- 8
-  pub takes-formed : Takes (formedS y) r f (y .service) t n
+  pub takes-formed : Takes (formedS y) (y .version) r f (y .service) t n
   takes-formed = record {
     ush = ush-formed (y .version) r f long filter;
     usa = tt;
@@ -202,5 +235,5 @@ module _ (y : Syntax) (fits : T (fit (y .service))) (r : List ℕ) (f : ℕ) (t 
   }
 
   -- 12
-  pub takes-amount : Takes amountS r f (y .service) t n
+  pub takes-amount : Takes amountS (y .version) r f (y .service) t n
   takes-amount = record { ush = tt; usa = tt; ust = tt; usr = tt; unt = λ h. tt }

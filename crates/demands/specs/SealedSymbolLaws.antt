@@ -1,15 +1,17 @@
 -- The new segments are written well, and stay inside the repertoire.
 use Prim.Native.Nat.{ℕ, _+_}
 use mathlib.Core.List.{List, [], _∷_, _++_}
-use mathlib.Core.Bool.{Bool, true}
+use mathlib.Core.Bool.{Bool, true, false, cond}
 use lib.Dec.{T}
 use lib.ListN.{drop}
 use Rattle.syntax.specs.Octets.{octets, allPass}
+use Rattle.syntax.specs.Opening.{earlier}
 use Rattle.syntax.specs.Repertoire.{tagOctet}
 use Rattle.syntax.specs.Tree.{Component, Element, segment, Symbol, tok, comp, elem, term, each, flatC, flatE, flatS}
 use Rattle.syntax.specs.Tree as syntax
 use Rattle.syntax.specs.TreeLaws.{and-left, and-right, and-both}
 use Rattle.syntax.specs.declared.Service.{Service}
+use Rattle.syntax.specs.declared.Version.{Version}
 use Rattle.grammar.specs.Segments.{Unt, Ush, Usa, Usr, Ust, seg, number}
 use Rattle.grammar.specs.Interchange.{Leaf}
 use Rattle.writing.specs.Decimal.{decimalOf}
@@ -98,11 +100,20 @@ module _ (p : Symbol → Bool) (w : Passes p) where
       segment-passes 85 83 65 usaLeaf tt
       (several-passes (plains (octets "1")) ([] ∷ [] ∷ plains (octets "16") ∷ plains (octets "1") ∷ []) (one, (tt, (tt, (plains-pass (octets "16") tt, (one, tt))))), tt)
 
-  pub ust-passes : (r : List ℕ) → T (allPass tagOctet r) → T (allPass p (flatS (seg Ust (ustLeaf r))))
-  ust-passes r h = segment-passes 85 83 84 (ustLeaf r) tt (single-passes r h, (single-passes (octets "4") tt, tt))
+  -- by the edition
+  pub ust-passes : (v : Version) (r : List ℕ) → T (allPass tagOctet r) → T (allPass p (flatS (seg Ust (ustLeaf v r))))
+  ust-passes v r h = segment-passes 85 83 84 (ustLeaf v r) tt (single-passes r h, by (earlier v))
+    where
+      by : (e : Bool) → Elements (cond e [] (single (octets "4") ∷ []))
+      by true = tt
+      by false = (single-passes (octets "4") tt, tt)
 
-  pub usr-passes : (σ : Service) (t : List ℕ) → T (allPass p (flatC (released σ t))) → T (allPass p (flatS (seg Usr (usrLeaf σ t))))
-  usr-passes σ t h = segment-passes 85 83 82 (usrLeaf σ t) tt (several-passes (plains (octets "1")) (released σ t ∷ []) (plains-pass (octets "1") tt, (h, tt)), tt)
+  pub usr-passes : (v : Version) (σ : Service) (t : List ℕ) → T (allPass p (flatC (released σ t))) → T (allPass p (flatS (seg Usr (usrLeaf v σ t))))
+  usr-passes v σ t h = segment-passes 85 83 82 (usrLeaf v σ t) tt (by (earlier v), tt)
+    where
+      by : (e : Bool) → T (allPass p (flatE (cond e (several (released σ t) []) (several (plains (octets "1")) (released σ t ∷ [])))))
+      by true = several-passes (released σ t) [] (h, tt)
+      by false = several-passes (plains (octets "1")) (released σ t ∷ []) (plains-pass (octets "1") tt, (h, tt))
 
   pub unt-passes : (n : Leaf) → T (allPass tagOctet (decimalOf (number n 1 + 4))) → T (allPass p (flatS (seg Unt n))) → T (allPass p (flatS (seg Unt (grown n))))
   unt-passes n h k = segment-passes 85 78 84 (grown n) tt (single-passes (decimalOf (number n 1 + 4)) h, rest n (segment-of 85 78 84 n k))

@@ -25,13 +25,13 @@ use Rattle.grammar.specs.Places.{wide}
 use Rattle.grammar.specs.PlacesLaws.{wide-list}
 use Rattle.grammar.specs.Named.{placed, placedIn}
 use Rattle.walk.specs.RunLaws.{long-print}
-use Rattle.groups.specs.Calls.{serviceIn, messageIn}
+use Rattle.groups.specs.Calls.{versionBy, serviceIn, versionIn, messageIn}
 use Rattle.groups.specs.CallsLaws.{placed-every}
 use Rattle.weaving.specs.Seals.{newHeader, newTrailer, sealedIn, sealed, maySeal, mayWrite, writable}
 use Rattle.demands.specs.SealedMessageLaws.{May, may, order-sealed, refs-sealed, counts-sealed, scopes-sealed}
 use Rattle.demands.specs.SealedTreeLaws.{refs-same, size-same, any-same, every-sealed}
 use Rattle.demands.specs.SealedWrittenLaws.{wellS, list-well, well-list}
-use Rattle.demands.specs.SealedSegmentLaws.{Takes, message-takes, takes-well, takes-inside, takes-formed, takes-amount}
+use Rattle.demands.specs.SealedSegmentLaws.{Takes, mostText, message-takes, takes-well, takes-inside, takes-formed, takes-amount}
 use Rattle.grammar.specs.ListsLaws.{size-join, every-left, every-right, every-join, every-joined, joined-every}
 
 -- ---- a segment has four octets at least, so an interchange has few segments
@@ -65,10 +65,10 @@ placed-size σ p u r (ms ▷ x) {m} {q} e = by (same (refM x) r) (λ d. placed-s
 
 module _ (k : Option Una) (u : Leaf) (ms : Snoc Message) (z : Leaf) (v : Valid (interchange k u ms z)) (m r : List ℕ) (f : ℕ) (t : List ℕ) where
   abbrev new : Trailer
-  new = newTrailer (v .y .service) r t
+  new = newTrailer (v .y .version) (v .y .service) r t
 
   abbrev after : Snoc Message
-  after = sealedIn (newHeader r f) (newTrailer (v .y .service) r t) ms m
+  after = sealedIn (newHeader r f) (newTrailer (v .y .version) (v .y .service) r t) ms m
 
   module _ (σ : Service) (p : ℕ) (w : Leaf) (hs : Snoc Header) (b : Body) (ts : Snoc Trailer) (n : Leaf) (q : ℕ) (e : placedIn σ p u ms m ≡ some (placed (message (msg w hs b ts) n) q)) where
     -- UNT's count has room to grow
@@ -83,17 +83,17 @@ module _ (k : Option Una) (u : Leaf) (ms : Snoc Message) (z : Leaf) (v : Valid (
           leb→le (length (printInterchange (interchange k u ms z))) 65535 (and-right (leb 1 (length (printInterchange (interchange k u ms z)))) (leb (length (printInterchange (interchange k u ms z))) 65535) (v .octetsRight)),
         )
 
-    all-take : (rule : Segment → Rule) → Takes rule r f (v .y .service) t n → holds (every rule (shown (done u ms z))) → holds (every rule (shown (done u after z)))
+    all-take : (rule : Segment → Rule) → Takes rule (v .y .version) r f (v .y .service) t n → holds (every rule (shown (done u ms z))) → holds (every rule (shown (done u after z)))
     all-take rule a h =
         let U : Snoc Segment = nil ▷ seg Unb u in (
           every-join rule U (joined showMessage after) (every-left rule U (joined showMessage ms) (h .0))
               (joined-every rule showMessage after
-              (every-sealed (newHeader r f) new m σ p u (λ x. every rule (showMessage x)) ms e (λ g. message-takes rule r f (v .y .service) t w hs b ts n a g)
+              (every-sealed (newHeader r f) new m σ p u (λ x. every rule (showMessage x)) ms e (λ g. message-takes rule (v .y .version) r f (v .y .service) t w hs b ts n a g)
               (every-joined rule showMessage ms (every-right rule U (joined showMessage ms) (h .0))))),
           h .1,
         )
 
-    pub valid-at : May w hs r f → T (octets.allPass (mayWrite (v .y)) t) → length t ≤ 512 → length (printInterchange (interchange k u after z)) ≤ 65535 → Valid (interchange k u after z)
+    pub valid-at : May (v .y .version) w hs r f → T (octets.allPass (mayWrite (v .y)) t) → length t ≤ mostText (v .y .version) → length (printInterchange (interchange k u after z)) ≤ 65535 → Valid (interchange k u after z)
     valid-at y a s l =
         let fits = fit-in-force (interchange k u ms z) v in
         let d : number n 1 + 4 < 1000000 = small in
@@ -113,29 +113,30 @@ module _ (k : Option Una) (u : Leaf) (ms : Snoc Message) (z : Leaf) (v : Valid (
               (all-take (wellS σ′) (takes-well (v .y) fits r f t n (y .ref) (y .filter) a s d) (well-list σ′ (shown (done u ms z)) (v .written)));
           repertoire = all-take (insideS (v .y)) (takes-inside (v .y) fits r f t n (y .ref) (y .filter) a s d) (v .repertoire);
           inOrder = (
-            every-sealed H new m σ p u okMessage ms e (λ h. order-sealed r f σ′ t w hs b ts n y h) (v .inOrder .0),
+            every-sealed H new m σ p u okMessage ms e (λ h. order-sealed (v .y .version) r f σ′ t w hs b ts n y h) (v .inOrder .0),
             subst T (sym (any-same H new m ms)) (v .inOrder .1),
           );
           elements = all-take (formedS (v .y)) (takes-formed (v .y) fits r f t n (y .ref) (y .filter) a s d) (v .elements);
           references = (
             subst (λ (x : Snoc (List ℕ)). holds (distinct x)) (sym (refs-same H new m ms)) (v .references .0),
-            (every-sealed H new m σ p u refsMessage ms e (λ h. refs-sealed r f σ′ t w hs b ts n y o h) (v .references .1 .0), v .references .1 .1),
+            (every-sealed H new m σ p u refsMessage ms e (λ h. refs-sealed (v .y .version) r f σ′ t w hs b ts n y o h) (v .references .1 .0), v .references .1 .1),
           );
           counted = (
-            every-sealed H new m σ p u (countsMessage (v .y .version)) ms e (λ h. counts-sealed r f σ′ t w hs b ts n y (v .y .version) d g h) (v .counted .0),
+            every-sealed H new m σ p u (countsMessage (v .y .version)) ms e (λ h. counts-sealed (v .y .version) r f σ′ t w hs b ts n y d g h) (v .counted .0),
             subst (λ (x : ℕ). T (eqb (number z 1) x)) (sym (size-same H new m ms)) (v .counted .1),
           );
-          scoped = every-sealed H new m σ p u scopesMessage ms e (λ h. scopes-sealed r f σ′ t w hs b ts n y h) (v .scoped);
+          scoped = every-sealed H new m σ p u scopesMessage ms e (λ h. scopes-sealed (v .y .version) r f σ′ t w hs b ts n y h) (v .scoped);
           weighed = all-take amountS (takes-amount (v .y) fits r f t n (y .ref) (y .filter) a s d) (v .weighed);
         }
 
 -- the message that is named may be sealed, VALUE's text may be written, and the result is not too long
 pub sealed-valid : (i : Interchange) → Valid i → (m r : List ℕ) (f : ℕ) (t : List ℕ) (w : Leaf) (hs : Snoc Header) (b : Body) (ts : Snoc Trailer) (n : Leaf) {q : ℕ}
-    → messageIn i m ≡ some (placed (message (msg w hs b ts) n) q) → T (maySeal (msg w hs b ts) r f) → T (writable (syntaxIn i) t) → length t ≤ 512
-    → length (printInterchange (sealed i m (newHeader r f) (newTrailer (serviceIn i) r t))) ≤ 65535 → Valid (sealed i m (newHeader r f) (newTrailer (serviceIn i) r t))
+    → messageIn i m ≡ some (placed (message (msg w hs b ts) n) q) → T (maySeal (versionIn i) (msg w hs b ts) r f) → T (writable (syntaxIn i) t) → length t ≤ mostText (versionIn i)
+    → length (printInterchange (sealed i m (newHeader r f) (newTrailer (versionIn i) (serviceIn i) r t))) ≤ 65535 → Valid (sealed i m (newHeader r f) (newTrailer (versionIn i) (serviceIn i) r t))
 sealed-valid (interchange k u ms z) v m r f t w hs b ts n {q} e a c s l =
-    let σ : Service = serviceIn (interchange k u ms z) in
-    let d : serviceIn (interchange k u ms z) ≡ v .y .service = ap inForce (v .named) in
-    subst (λ (x : Service). Valid (sealed (interchange k u ms z) m (newHeader r f) (newTrailer x r t))) (sym d)
-    (valid-at k u ms z v (compared m) r f t σ (openingIn k .at) w hs b ts n q e (may w hs b ts r f a) (subst (λ (x : Option Syntax). T (writable x t)) (v .named) c) s
-    (subst (λ (x : Service). length (printInterchange (sealed (interchange k u ms z) m (newHeader r f) (newTrailer x r t))) ≤ 65535) d l))
+    let j : Interchange = interchange k u ms z in
+    subst (λ (x : Option Syntax). Valid (sealed (interchange k u ms z) m (newHeader r f) (newTrailer (versionBy x) (inForce x) r t))) (sym (v .named))
+    (valid-at k u ms z v (compared m) r f t (serviceIn j) (openingIn k .at) w hs b ts n q e
+    (may (v .y .version) w hs b ts r f (subst (λ (x : Option Syntax). T (maySeal (versionBy x) (msg w hs b ts) r f)) (v .named) a))
+    (subst (λ (x : Option Syntax). T (writable x t)) (v .named) c) (subst (λ (x : Option Syntax). length t ≤ mostText (versionBy x)) (v .named) s)
+    (subst (λ (x : Option Syntax). length (printInterchange (sealed (interchange k u ms z) m (newHeader r f) (newTrailer (versionBy x) (inForce x) r t))) ≤ 65535) (v .named) l))

@@ -12,7 +12,7 @@ use Rattle.grammar.specs.Interchange.{showHeader, showTrailer, showBody}
 use Rattle.grammar.specs.Places.{headersIn, trailersIn}
 use Rattle.writing.specs.Decimal.{decimalOf}
 use Rattle.groups.specs.Parts.{bodyIn}
-use Rattle.groups.specs.Calls.{serviceIn}
+use Rattle.groups.specs.Calls.{serviceIn, versionIn}
 use Rattle.weaving.specs.Seals.{newHeader, newTrailer, textBy}
 use Rattle.demands.specs.Printed.{MessageOf, unhIn}
 
@@ -39,7 +39,7 @@ pub record Sewn (s m r : List ℕ) (f : ℕ) (v x : List ℕ) : Type 0 where
       ≡ slice 0 behind s
       ++ (print (serviceIn (of .i)) (list (showHeader (newHeader r f)))
       ++ (slice behind unt s
-      ++ (print (serviceIn (of .i)) (list (showTrailer (newTrailer (serviceIn (of .i)) r (textBy f v))))
+      ++ (print (serviceIn (of .i)) (list (showTrailer (newTrailer (versionIn (of .i)) (serviceIn (of .i)) r (textBy f v))))
       ++ (slice unt count s
       ++ (decimalOf (number (of .t) 1 + 4)
       ++ slice count-end (length s) s)))))

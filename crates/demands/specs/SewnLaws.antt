@@ -27,7 +27,7 @@ use Rattle.grammar.specs.Named.{placed}
 use Rattle.writing.specs.Decimal.{decimalOf}
 use Rattle.writing.specs.Laid.{together}
 use Rattle.groups.specs.StandLaws.{list-join, print-append}
-use Rattle.groups.specs.Calls.{serviceIn, messageIn}
+use Rattle.groups.specs.Calls.{serviceIn, versionIn, messageIn}
 use Rattle.weaving.specs.Seals.{newHeader, newTrailer, grown, sealedMessage}
 use Rattle.grammar.specs.ListsLaws.{joined-join}
 use Rattle.weaving.specs.Seals.{textBy}
@@ -150,7 +150,7 @@ module _ (s m r : List ℕ) (f : ℕ) (v x : List ℕ) where
       let σ : Service = serviceIn (interchange n u ms z) in
       let M : Message = message (msg a hs b ts) (x0 ∷ es) in
       let h : Header = newHeader r f in
-      let g : Trailer = newTrailer (serviceIn (interchange n u ms z)) r (textBy f v) in
+      let g : Trailer = newTrailer (versionIn (interchange n u ms z)) (serviceIn (interchange n u ms z)) r (textBy f v) in
       let w = verdict-exact s (interchange n u ms z) .0 e in
       let fits : T (fit (serviceIn (interchange n u ms z))) = subst (λ (y : Option Syntax). T (fit (inForce y))) (sym (w .0 .named)) (fit-in-force (interchange n u ms z) (w .0)) in
       let y = around σ (openingIn n .at) u h g (compared m) ms named in

@@ -6,7 +6,9 @@ use mathlib.Core.List.{List, _++_}
 use lib.ListN.{length}
 use Rattle.syntax.specs.Content.{compared}
 use Rattle.syntax.specs.Octets.{octets as written}
+use Rattle.syntax.specs.Opening.{earlier}
 use Rattle.syntax.specs.Tree.{print}
+use Rattle.syntax.specs.declared.Version.{Version}
 use Rattle.grammar.specs.Lists.{Snoc, nil, _▷_, _+++_, list, any, size}
 use Rattle.grammar.specs.Grams.{Grams, sum}
 use Rattle.grammar.specs.Segments.{unb0020, unt0074, unz0036, ust0588, usx0020, usy0534}
@@ -85,9 +87,9 @@ controlsB (ack c ls) = nil
 abbrev pub controlsM : Message → Snoc Grams
 controlsM (message (msg h hs b ts) t) = controlsB b
 
-pub record CountsAgree (m : Message) : Type 0 where
-  -- "0588 counts the segments of its header and trailer pair together."
-  pub pair : (h : Header) (t : Trailer) → In h (headersOf m) → In t (trailersOf m) → refH h ≡ refT t → number0588 t ≡ size (showHeader h) + size (showTrailer t)
+pub record CountsAgree (v : Version) (m : Message) : Type 0 where
+  -- "0588 counts the segments of its header and trailer pair together."; the earlier edition has no 0588: "UST with 0534 only"
+  pub pair : earlier v ≡ false → (h : Header) (t : Trailer) → In h (headersOf m) → In t (trailersOf m) → refH h ≡ refT t → number0588 t ≡ size (showHeader h) + size (showTrailer t)
   -- "0074 counts UNH to UNT, both included."
   pub segments : number0074 m ≡ size (showMessage m)
   -- a control total "equals the message's load total"

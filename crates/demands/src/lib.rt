@@ -21,7 +21,7 @@ ghost use Rattle.grammar.specs.Interchange.{Message};
 ghost use Rattle.grammar.specs.Valid.{Interchange, printInterchange, Valid};
 ghost use Rattle.grammar.specs.Verdict.{verdictOf, accepted, refusedWith, totalsOf, totalsIn};
 ghost use Rattle.grammar.specs.Counted.{countedIn, messagesIn};
-ghost use Rattle.groups.specs.Calls.{given};
+ghost use Rattle.groups.specs.Calls.{given, versionIn};
 ghost use Rattle.ranges.specs.Ranges.{Parts, parts, Run, run, scope1Of, scope2Of};
 ghost use Rattle.f01.specs.F01.{f01Of};
 ghost use Rattle.filters.specs.Octets.{Octets};
@@ -107,9 +107,9 @@ pub fn pairs_one_to_one()
     ensures { λ _. ⌜ ((s : List ℕ) (i : Interchange) → verdictOf s ≡ accepted i → (m : Message) → In m (messagesIn i) → Pairs (headersOf m) (trailersOf m)) ⌝ }
 {}
 
-// "And all counts agree": 0588, 0074 and the control totals of every message, and 0036 of the interchange.
+// "And all counts agree": 0588 (where the edition has it), 0074 and the control totals of every message, and 0036 of the interchange.
 pub fn counts_agree()
-    ensures { λ _. ⌜ ((s : List ℕ) (i : Interchange) → verdictOf s ≡ accepted i → (number0036 i ≡ size (messagesIn i)) × ((m : Message) → In m (messagesIn i) → CountsAgree m)) ⌝ }
+    ensures { λ _. ⌜ ((s : List ℕ) (i : Interchange) → verdictOf s ≡ accepted i → (number0036 i ≡ size (messagesIn i)) × ((m : Message) → In m (messagesIn i) → CountsAgree (versionIn i) m)) ⌝ }
 {}
 
 // D2c. Ranges are given, not only right when given. Scope 1: for s, m and r a range is given if and only if s is accepted and has a message with the 0062 m

@@ -15,6 +15,7 @@ use syntax::content::content_is;
 use syntax::content::content_length;
 use syntax::content::is_blank;
 use syntax::content::next_octet;
+use syntax::opening::is_earlier;
 ghost use mathlib.Core.Path.{_≡_};
 ghost use mathlib.Core.Bool.{true, false, not, _&&_};
 ghost use mathlib.Core.List.{[], _∷_};
@@ -27,7 +28,7 @@ ghost use Rattle.syntax.specs.Segment.{piecesAt, anyRepeats};
 ghost use Rattle.grammar.specs.Segments as named;
 ghost use Rattle.grammar.specs.Loads.{controlUnit, controlBy};
 ghost use Rattle.grammar.specs.Elements as checked;
-ghost use Rattle.grammar.specs.Elements.{inRange, formedAs, formedRow, row, valueRow, formed, dateDigits};
+ghost use Rattle.grammar.specs.Elements.{inRange, formedAs, formedRow, row, valueRow, claimRow, formed, dateDigits};
 ghost use Rattle.elements.specs.Octets.{textAt, askedAt};
 ghost use Rattle.elements.specs.Kinds.{tagKind};
 ghost use Rattle.elements.specs.Fields.{Marked, Fields};
@@ -300,15 +301,28 @@ fn single_digits(
 }
 
 // 0563 1..3 : 0560 0..512
-fn value_formed(s: &[u8], at: usize, y: Syntax, marks: &[usize], p: usize) -> bool
+fn qualified_formed(s: &[u8], at: usize, y: Syntax, marks: &[usize], p: usize) -> bool
     requires { ⌜ Marked (y .service) (now s) at (now marks) ⌝ }
     requires { ⌜ (1 ≤ p) × (p ≤ 5) ⌝ }
-    ensures { λ r. ⌜ r ≡ formedAs (valueRow (y .version)) (askedAt (y .service) (now (s .entry)) at) p ⌝ }
+    ensures { λ r. ⌜ r ≡ formedAs (checked.composite (checked.anyText 1 3 ∷ checked.anyText 0 512 ∷ [])) (askedAt (y .service) (now (s .entry)) at) p ⌝ }
 {
     if composite(s, at, y, marks, p, 1, 3) {
         return text(s, at, y, marks, p, 1, 0, 512);
     }
     false
+}
+
+// S508: in the earlier edition it begins with 0560, 0 to 256.
+fn value_formed(s: &[u8], at: usize, y: Syntax, marks: &[usize], p: usize) -> bool
+    requires { ⌜ Marked (y .service) (now s) at (now marks) ⌝ }
+    requires { ⌜ (1 ≤ p) × (p ≤ 5) ⌝ }
+    ensures { λ r. ⌜ r ≡ formedAs (valueRow (y .version)) (askedAt (y .service) (now (s .entry)) at) p ⌝ }
+{
+    let v = y.version;
+    if is_earlier(v) {
+        return composite(s, at, y, marks, p, 0, 256);
+    }
+    qualified_formed(s, at, y, marks, p)
 }
 
 // 0001 : 0002, of which no length is printed.
@@ -342,6 +356,7 @@ fn date_digits(v: Version) -> usize
     ensures { λ r. ⌜ r ≡ dateDigits v ⌝ }
 {
     match v {
+        Version::Two => 6,
         Version::Three => 6,
         Version::Four => 8,
     }
@@ -409,12 +424,24 @@ fn ush_formed(s: &[u8], at: usize, y: Syntax, marks: &[usize]) -> bool
     single(s, at, y, marks, 5, 0, 3)
 }
 
+// 0588, which the earlier edition doesn't have.
+fn claim_formed(s: &[u8], at: usize, y: Syntax, marks: &[usize]) -> bool
+    requires { ⌜ Marked (y .service) (now s) at (now marks) ⌝ }
+    ensures { λ r. ⌜ r ≡ formedRow (claimRow (y .version)) (askedAt (y .service) (now (s .entry)) at) 2 ⌝ }
+{
+    let edition = y.version;
+    if is_earlier(edition) {
+        return true;
+    }
+    single_digits(s, at, y, marks, 2, 1, 6)
+}
+
 fn ust_formed(s: &[u8], at: usize, y: Syntax, marks: &[usize]) -> bool
     requires { ⌜ Marked (y .service) (now s) at (now marks) ⌝ }
     ensures { λ r. ⌜ r ≡ formedRow (row (y .version) named.Ust) (askedAt (y .service) (now (s .entry)) at) 1 ⌝ }
 {
     if single_reference(s, at, y, marks, 1, 1, 14) {
-        return single_digits(s, at, y, marks, 2, 1, 6);
+        return claim_formed(s, at, y, marks);
     }
     false
 }

@@ -2,8 +2,6 @@
 pub mod Octets
 pub mod Hex
 pub mod Six
-pub mod Filters
-pub mod Example
 -- how the code reads: octets of content two or four at a time, into a buffer
 pub mod Pieces
 pub mod Decoding
@@ -16,4 +14,3 @@ pub mod DecodingLaws
 pub mod HexLoopLaws
 pub mod SixLoopLaws
 pub mod TextLoopLaws
-pub mod FiltersLaws

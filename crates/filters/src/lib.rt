@@ -2,7 +2,6 @@
 pub mod hex;
 pub mod pieces;
 pub mod six;
-pub mod value;
 
 // What reading a text gives: how many octets it stands for, or that it stands for none.
 pub enum Decoded {

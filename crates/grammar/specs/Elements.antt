@@ -6,8 +6,9 @@ use lib.Dec.{leb}
 use lib.ListN.{length}
 use Rattle.syntax.specs.Octets.{octets, same, within}
 use Rattle.syntax.specs.Content.{allDigits, blank}
+use Rattle.syntax.specs.Opening.{earlier}
 use Rattle.syntax.specs.declared.Version.{Version}
-use Rattle.syntax.specs.declared.Version.the-variants.{Three, Four}
+use Rattle.syntax.specs.declared.Version.the-variants.{Two, Three, Four}
 use Rattle.grammar.specs.Segments.{Name, Unb, Unh, Unt, Unz, Ush, Usa, Usc, Usr, Ust, Usb, Usx, Usy, Kind, Named, Reserved, Free, kindIn, tags, Asked}
 use Rattle.grammar.specs.Loads.{controlRight}
 
@@ -22,12 +23,17 @@ pub data Checked : Type 0 where
 
 -- "date : time, digits 6 : 4 (version 3) or 8 : 4 (version 4)"
 abbrev pub dateDigits : Version → ℕ
+dateDigits Two = 6
 dateDigits Three = 6
 dateDigits Four = 8
 
--- 0563 1..3 : 0560 0..512, in USR and in USY
+-- 0563 1..3 : 0560 0..512, in USR and in USY; in the earlier edition "S508 starting with 0560, at most 256 long, with no qualifier before it"
 abbrev pub valueRow : Version → Checked
-valueRow v = composite (anyText 1 3 ∷ anyText 0 512 ∷ [])
+valueRow v = cond (earlier v) (composite (anyText 0 256 ∷ [])) (composite (anyText 1 3 ∷ anyText 0 512 ∷ []))
+
+-- 0588 1..6 digits, in UST; in the earlier edition "UST with 0534 only": "There 0588 isn't demanded."
+abbrev pub claimRow : Version → List Checked
+claimRow v = cond (earlier v) [] (simple (digits 1 6 ∷ []) ∷ [])
 
 -- | segment | elements |, from the first position on: each row of the paper, then the same as a list.
 -- "Of these elements only S002, S003, 0065's composite and those shown with `:` may hold further components."
@@ -50,7 +56,7 @@ row v Usc = []
 -- | USR | 0563 1..3 : 0560 0..512 |
 row v Usr = valueRow v ∷ []
 -- | UST | 0534 1..14; 0588 1..6 digits |
-row v Ust = simple (reference 1 14 ∷ []) ∷ simple (digits 1 6 ∷ []) ∷ []
+row v Ust = simple (reference 1 14 ∷ []) ∷ claimRow v
 -- | USB | 0503 1..3 |
 row v Usb = simple (anyText 1 3 ∷ []) ∷ []
 -- | USX | 0020 1..14 |
@@ -59,7 +65,7 @@ row v Usx = simple (reference 1 14 ∷ []) ∷ []
 row v Usy = simple (reference 1 14 ∷ []) ∷ valueRow v ∷ []
 
 -- "lengths of content"; absent is empty, and "missing or malformed" where a length is not printed. Of a reference: "one made only of spaces is malformed (8)",
--- and an empty one has no octet that is none
+-- and so is an empty one, which `blank` holds of too
 abbrev pub inRange : Range → List ℕ → Bool
 inRange (anyText a e) s = within a e (length s)
 inRange (reference a e) s = within a e (length s) && not (blank s)

@@ -9,7 +9,7 @@ use lib.Dec.{eqb}
 use Rattle.syntax.specs.Octets.{octets, same}
 use Rattle.syntax.specs.Content.{valueFrom}
 use Rattle.syntax.specs.Cutting.{firstOutside}
-use Rattle.syntax.specs.Opening.{isThere}
+use Rattle.syntax.specs.Opening.{earlier, isThere}
 use Rattle.syntax.specs.Tree.{Segment, printS}
 use Rattle.syntax.specs.declared.Syntax.{Syntax}
 use Rattle.syntax.specs.declared.Version.{Version}
@@ -174,10 +174,14 @@ claimed s = cond (inRange (digits 1 6) s) (valueFrom 0 s) 0
 abbrev pub counted : Snoc Header → Trailer → Rule
 counted hs (trailer c r) = test (eqb (claimed (ust0588 c)) (sizeAt (ust0534 c) hs + size (showTrailer (trailer c r))))
 
--- "then 10 for 0074, 0588 and CNT". "0074 counts UNH to UNT, both included."; in every version alike
+-- in the earlier edition "0588 isn't demanded", and nothing is compared with it
+abbrev pub paired : Version → Snoc Header → Snoc Trailer → Rule
+paired v hs ts = cond (earlier v) always (every (counted hs) ts)
+
+-- "then 10 for 0074, 0588 and CNT". "0074 counts UNH to UNT, both included."
 abbrev pub countsMessage : Version → Message → Rule
 countsMessage v (message (msg h hs b ts) t) =
-    test (eqb (unt0074 t) (size (showMessage (message (msg h hs b ts) t)))) and every (counted hs) ts and total b
+    test (eqb (unt0074 t) (size (showMessage (message (msg h hs b ts) t)))) and paired v hs ts and total b
 
 -- "0036 counts the messages."
 abbrev pub counts : Version → Reading → Rule

@@ -1,6 +1,8 @@
 -- Segments by name, and what is read off their elements. A leaf of a tree is a segment's elements: its place says the tag.
 use Prim.Native.Nat.{ℕ, zero, suc}
 use mathlib.Core.Bool.{Bool, true, false, cond}
+use Rattle.syntax.specs.Opening.{earlier}
+use Rattle.syntax.specs.declared.Version.{Version}
 use mathlib.Core.List.{List, [], _∷_}
 use mathlib.Core.Option.{Option, none, some}
 use lib.ListN.{length, getElem?}
@@ -141,8 +143,12 @@ abbrev pub ust0588 : List Element → List ℕ
 ust0588 es = elementContent es 2 0
 
 -- USR, USX, USY
-abbrev pub usr0560 : List Element → List ℕ
-usr0560 es = elementContent es 1 1
+-- S508 in USR and USY: 0563 : 0560, and in the earlier edition "starting with 0560 .. with no qualifier before it"
+abbrev pub valuePart : Version → ℕ
+valuePart v = cond (earlier v) 0 1
+
+abbrev pub usr0560 : Version → List Element → List ℕ
+usr0560 v es = elementContent es 1 (valuePart v)
 
 abbrev pub usx0020 : List Element → List ℕ
 usx0020 es = compared (elementContent es 1 0)
@@ -150,8 +156,8 @@ usx0020 es = compared (elementContent es 1 0)
 abbrev pub usy0534 : List Element → List ℕ
 usy0534 es = compared (elementContent es 1 0)
 
-abbrev pub usy0560 : List Element → List ℕ
-usy0560 es = elementContent es 2 1
+abbrev pub usy0560 : Version → List Element → List ℕ
+usy0560 v es = elementContent es 2 (valuePart v)
 
 -- ---- all that the rules on single segments ask of a segment: its tag, how many elements it has, and of the element at a position the content of a
 -- component, how many components there are, and whether it repeats; and whether anything repeats

@@ -13,7 +13,7 @@ use Rattle.syntax.specs.Service.{standard, withoutRepetition, servant, repetiti
 use Rattle.syntax.specs.Cutting.{stopFrom, endAt, tagOf}
 use Rattle.syntax.specs.Segment.{Piece, piece, pieces, piecesAt, atElement, atComponent, componentAt, partOf, repeats}
 use Rattle.syntax.specs.Content.{content}
-use Rattle.syntax.specs.Opening.{startsUna, unaService, readUna, openingOf, levelNamed, versionNamed, bothNamed, declaredAt, refusedUnb, isTag, isUnb, isThere, begunAt, begunBy, begunOf}
+use Rattle.syntax.specs.Opening.{startsUna, unaService, readUna, openingOf, levelNamed, versionNamed, bothNamed, declaredAt, refusedUnb, isTag, isUnb, isThere, begunAt, begunBy, begunOf, goes, repeating}
 use Rattle.syntax.specs.ContentLaws.{drop-short}
 use Rattle.syntax.specs.TagLaws.{no-repetition}
 use Rattle.syntax.specs.Tree as syntax
@@ -24,7 +24,6 @@ use Rattle.syntax.specs.ReaderLaws.{well-uncons}
 use Rattle.syntax.specs.declared.Breach.{Breach}
 use Rattle.syntax.specs.declared.Service.{Service}
 use Rattle.syntax.specs.declared.Syntax.{Syntax}
-use Rattle.syntax.specs.declared.Version.the-variants.{Three, Four}
 use Rattle.syntax.specs.declared.Found.the-variants.{At}
 use Rattle.syntax.specs.declared.cutting.Tag.{Tag}
 use Rattle.syntax.specs.declared.cutting.Tag.the-variants.{Is, Bad}
@@ -183,16 +182,18 @@ never e = let z : _≡_ {A = ℕ} 0 1 = cc in let y : ⊥ = omega arith in absur
 settled-by : (o : Opening) (l : LevelName) (n : VersionName) (x : Start) → bothNamed o l n ≡ Ready x → Settled o x
 settled-by o NoLevel n x e = never e
 settled-by o (Leveled l) NoVersion x e = never e
-settled-by o (Leveled l) (Versioned Four) x e =
-    let p : record { syntax = record { version = Four; level = l; service = o .service }; at = o .at } ≡ x = cc in
-    rw (← p) (record { same = refl; fits = λ h. h; place = refl })
-settled-by o (Leveled l) (Versioned Three) x e = by (o .una && not (eqb (o .service .repetition) 32)) e
+settled-by o (Leveled l) (Versioned n) x e = by (goes l n) (repeating n) (o .una && not (eqb (o .service .repetition) 32)) e
   where
-    by : (t : Bool) → cond t (refusedUnb 6 (o .at))
-        (Ready (record { syntax = record { version = Three; level = l; service = withoutRepetition (o .service) }; at = o .at })) ≡ Ready x → Settled o x
-    by true e = never e
-    by false e =
-        let p : record { syntax = record { version = Three; level = l; service = withoutRepetition (o .service) }; at = o .at } ≡ x = cc in
+    by : (g r t : Bool) → cond g (cond r (Ready (record { syntax = record { version = n; level = l; service = o .service }; at = o .at }))
+        (cond t (refusedUnb 6 (o .at)) (Ready (record { syntax = record { version = n; level = l; service = withoutRepetition (o .service) }; at = o .at }))))
+        (refusedUnb 6 (o .at)) ≡ Ready x → Settled o x
+    by false r t e = never e
+    by true true t e =
+        let p : record { syntax = record { version = n; level = l; service = o .service }; at = o .at } ≡ x = cc in
+        rw (← p) (record { same = refl; fits = λ h. h; place = refl })
+    by true false true e = never e
+    by true false false e =
+        let p : record { syntax = record { version = n; level = l; service = withoutRepetition (o .service) }; at = o .at } ≡ x = cc in
         rw (← p) (record { same = refl; fits = fit-without (o .service); place = refl })
 
 -- ---- a tree's first segment is UNB

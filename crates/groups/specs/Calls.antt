@@ -14,6 +14,8 @@ use Rattle.syntax.specs.Classes.{Table}
 use Rattle.syntax.specs.declared.Refusal.{Refusal}
 use Rattle.syntax.specs.declared.Service.{Service}
 use Rattle.syntax.specs.declared.Syntax.{Syntax}
+use Rattle.syntax.specs.declared.Version.{Version}
+use Rattle.syntax.specs.declared.Version.the-variants.{Four}
 use Rattle.grammar.specs.Lists.{holds}
 use Rattle.grammar.specs.Rules.{okMessage}
 use Rattle.grammar.specs.Interchange.{Leaf, Header, header, Open, msg, Message, message, showMessage}
@@ -46,6 +48,14 @@ then none f = none
 then (some a) f = f a
 
 -- ---- "Calls name a message by its 0062 .., as content."
+
+-- the version, by which the edition goes
+abbrev pub versionBy : Option Syntax → Version
+versionBy none = Four
+versionBy (some y) = y .version
+
+abbrev pub versionIn : Interchange → Version
+versionIn t = versionBy (syntaxIn t)
 
 -- the service characters in force
 abbrev pub serviceIn : Interchange → Service

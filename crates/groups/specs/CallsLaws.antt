@@ -42,7 +42,7 @@ use Rattle.finding.specs.declared.Found.{Found}
 use Rattle.finding.specs.declared.Found.the-variants.{Message as There, Missing, Refused as NotRead}
 use Rattle.groups.specs.Stand.{Stand}
 use Rattle.groups.specs.StandLaws.{stand-front, stand-back}
-use Rattle.groups.specs.Calls.{serviceIn, messageIn, Holds, NamedIs}
+use Rattle.groups.specs.Calls.{serviceIn, messageIn, versionBy, versionIn, Holds, NamedIs}
 use Rattle.groups.specs.declared.calls.Opened.{Opened}
 use Rattle.groups.specs.declared.calls.Named.{Named}
 use Rattle.groups.specs.declared.calls.Named.the-variants.{Message as Here, Missing as NoneSuch, Refused as NotHere}
@@ -184,3 +184,7 @@ module _ (s m t rows : List ℕ) {r : Named} (n : NamedIs s m r t rows) where
 
   pub as-refused : {f : Refusal} → r ≡ NotHere f → verdictOf s ≡ refusedWith f
   as-refused e = subst (λ (v : Named). NamedIs s m v t rows) e n
+
+-- the version of the message that is named is that of its interchange
+pub version-so : {s m : List ℕ} {y : Syntax} {c : Layout} {rows : List ℕ} (h : Holds s m y c rows) → versionIn (h .i) ≡ y .version
+version-so h = ap versionBy (h .settled)

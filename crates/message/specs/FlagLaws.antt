@@ -9,15 +9,17 @@ use lib.Dec.{eqb, ltb, eqb→eq, eqb-refl, leb·zero, leb·suc-suc}
 use Rattle.syntax.specs.Octets.{same}
 use Rattle.syntax.specs.TreeLaws.{off}
 use Rattle.syntax.specs.ContentLaws.{same-self}
-use Rattle.grammar.specs.Lists.{Snoc, nil, _▷_, each, size, any, among, Rule, test, holds, check, every, distinct}
+use Rattle.grammar.specs.Lists.{Snoc, nil, _▷_, each, size, any, among, Rule, always, test, holds, check, every, distinct}
 use Rattle.grammar.specs.TestLaws.{is-true, passes}
 use Rattle.grammar.specs.ListsLaws.{each-size}
 use Rattle.grammar.specs.Interchange.{Header, Body, plain, ack, Trailer, trailer}
 use Rattle.grammar.specs.Loads.{controls, put}
-use Rattle.grammar.specs.Rules.{refH, sizeAt, counted, one, total}
+use Rattle.syntax.specs.Opening.{earlier}
+use Rattle.syntax.specs.declared.Version.{Version}
+use Rattle.grammar.specs.Rules.{refH, sizeAt, counted, paired, one, total}
 use Rattle.grammar.specs.RuleLaws.{check-holds, holds-check}
 use Rattle.grammar.specs.PlacingLaws.{same-eq}
-use Rattle.message.specs.Summary.{firstIn, agreeIn, sumsIn, sumsOf, pairOf, sizeH, flagsOf, orElse, freeAt, allNamed, pairsRight, totalRight, sizeIn, named, loaded, controlledBy, controlled}
+use Rattle.message.specs.Summary.{firstIn, agreeIn, sumsIn, sumsOf, pairOf, sizeH, flagsOf, orElse, freeAt, allNamed, pairsRight, pairsCounted, totalRight, sizeIn, named, loaded, controlledBy, controlled}
 
 -- ---- tests
 
@@ -92,6 +94,14 @@ totals (ack c ls) = refl
 pub pairs-right : (hs : Snoc Header) (ts : Snoc Trailer) → check (every (counted hs) ts) ≡ pairsRight (pairOf hs ts)
 pairs-right hs nil = refl
 pairs-right hs (ts ▷ trailer c r) = refl
+
+-- where the edition counts them
+pub pairs-counted : (v : Version) (hs : Snoc Header) (ts : Snoc Trailer) → check (paired v hs ts) ≡ pairsCounted v (pairOf hs ts)
+pairs-counted v hs ts = by (earlier v)
+  where
+    by : (e : Bool) → check (cond e always (every (counted hs) ts)) ≡ cond e true (pairsRight (pairOf hs ts))
+    by true = refl
+    by false = pairs-right hs ts
 
 -- each header is named
 pub all-named : (names refs : Snoc (List ℕ)) → check (every (one names) refs) ≡ allNamed (flagsOf names refs)

@@ -7,6 +7,7 @@ use lib.Dec.{eqb, ltb}
 use Rattle.syntax.specs.Octets.{octets, same}
 use Rattle.syntax.specs.Content.{valueFrom, compared}
 use Rattle.syntax.specs.declared.Syntax.{Syntax}
+use Rattle.syntax.specs.Opening.{earlier}
 use Rattle.syntax.specs.declared.Version.{Version}
 use Rattle.grammar.specs.declared.Subset.{Subset}
 use Rattle.grammar.specs.Lists.{Snoc, nil, _▷_, each, size, any, among, test, check, every}
@@ -311,6 +312,10 @@ refsK doneS k a = true
 abbrev pub pairsRight : Pair → Bool
 pairsRight p = p .right && eqb (p .claim) (p .base + p .own)
 
+-- where the edition has a 0588
+abbrev pub pairsCounted : Version → Pair → Bool
+pairsCounted v p = cond (earlier v) true (pairsRight p)
+
 -- the control totals are the sum of the loads
 abbrev pub totalRight : Sums → Bool
 totalRight s = s .agree && (not (s .controlled) || eqb (s .control) (s .grams))
@@ -322,7 +327,7 @@ numberAt a p = valueFrom 0 (a .text p 0)
 abbrev pub countsK : Version → StateS → Kind → Asked → Bool
 countsK v startS k a = true
 countsK v (idleS u rs) k a = atIdle true (eqb (numberAt a 1) (size rs)) true k
-countsK v (busyS u rs S) k a = atBusy true true true (eqb (numberAt a 1) (suc (S .m .segments)) && (pairsRight (S .m .pair) && totalRight (S .m .sums))) true k
+countsK v (busyS u rs S) k a = atBusy true true true (eqb (numberAt a 1) (suc (S .m .segments)) && (pairsCounted v (S .m .pair) && totalRight (S .m .sums))) true k
 countsK v doneS k a = true
 
 -- ---- 11

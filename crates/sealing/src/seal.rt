@@ -162,7 +162,7 @@ fn put_sealed(
 ) -> usize
     requires { ⌜ Table y (now t) ⌝ }
     requires { ⌜ (length (now s) ≤ 65535) × (c .unt ≤ 65535) × (length (now reference) ≤ 14) × (length (now letters) ≤ 512) ⌝ }
-    ensures { λ r. ⌜ Laid (now (out .entry)) 0 (together (sealedPieces (y .service) (now (s .entry)) c (now (reference .entry)) filter (now (letters .entry)))) r (now (out .exit)) ⌝ }
+    ensures { λ r. ⌜ Laid (now (out .entry)) 0 (together (sealedPieces (y .version) (y .service) (now (s .entry)) c (now (reference .entry)) filter (now (letters .entry)))) r (now (out .exit)) ⌝ }
 {
     let p1 = put(&mut *out, 0, part(s, 0, c.heads));
     let p2 = put_header(&mut *out, p1, y.service, reference, filter);
@@ -183,7 +183,7 @@ fn write_sealed(
 ) -> Written
     requires { ⌜ Table y (now t) ⌝ }
     requires { ⌜ (length (now s) ≤ 65535) × (c .unt ≤ 65535) × (length (now reference) ≤ 14) × (length (now letters) ≤ 512) ⌝ }
-    ensures { λ r. ⌜ Writes (text (together (sealedPieces (y .service) (now (s .entry)) c (now (reference .entry)) filter (now (letters .entry))))) (now (out .entry)) r (now (out .exit)) ⌝ }
+    ensures { λ r. ⌜ Writes (text (together (sealedPieces (y .version) (y .service) (now (s .entry)) c (now (reference .entry)) filter (now (letters .entry))))) (now (out .entry)) r (now (out .exit)) ⌝ }
 {
     let mut none = [0u8; 1];
     let m = put_sealed(&mut none, s, t, y, c, reference, filter, letters);
@@ -206,7 +206,7 @@ fn seal_text(
     out: &mut [u8],
 ) -> Written
     requires { ⌜ Table y (now t) ⌝ }
-    requires { ⌜ (length (now s) ≤ 65535) × (c .unt ≤ 65535) × (length (now reference) ≤ 14) × (lengthRight filter (now value) ≡ true) ⌝ }
+    requires { ⌜ (length (now s) ≤ 65535) × (c .unt ≤ 65535) × (length (now reference) ≤ 14) × (lengthRight (y .version) filter (now value) ≡ true) ⌝ }
     ensures { λ r. ⌜ Writes (wovenOr y (now (s .entry)) c (now (reference .entry)) filter (textBy filter (now (value .entry)))) (now (out .entry)) r (now (out .exit)) ⌝ }
 {
     let mut room = [0u8; 512];
@@ -233,7 +233,8 @@ fn seal_value(
     requires { ⌜ (length (now s) ≤ 65535) × (c .unt ≤ 65535) × (length (now reference) ≤ 14) ⌝ }
     ensures { λ r. ⌜ Writes (sizedOr y (now (s .entry)) c (now (reference .entry)) filter (now (value .entry))) (now (out .entry)) r (now (out .exit)) ⌝ }
 {
-    if is_value_length(filter, value.len()) {
+    let edition = y.version;
+    if is_value_length(edition, filter, value.len()) {
         return seal_text(s, t, y, c, reference, filter, value, out);
     }
     refused(16)

@@ -8,7 +8,7 @@ use lib.Dec.{T, eqb, leb, le→leb, leb→le}
 use lib.ListN.{length, getD, drop, length-drop}
 use Rattle.syntax.specs.Octets.{octets, within, digit, capital, small, oneOf}
 use Rattle.syntax.specs.Service.{fit, kindOf}
-use Rattle.syntax.specs.Repertoire.{tagOctet, inside}
+use Rattle.syntax.specs.Repertoire.{insideC, tagOctet, inside}
 use Rattle.syntax.specs.Classes.{endClass, outsideClass, classOf}
 use Rattle.syntax.specs.RepertoireLaws.{Sorted, is-data, is-bad, is-release, is-separator, is-end, sorted, class-tag}
 use Rattle.syntax.specs.Cutting.{stopFrom, tagOf}
@@ -20,7 +20,7 @@ use Rattle.syntax.specs.ReaderLaws.{tag-data, Tagged, tag-split}
 use Rattle.syntax.specs.Clean.{sound, Clean, TagAt, Stopping, Tidy}
 use Rattle.syntax.specs.declared.Syntax.{Syntax}
 use Rattle.syntax.specs.declared.Level.{Level}
-use Rattle.syntax.specs.declared.Level.the-variants.{A, B, C}
+use Rattle.syntax.specs.declared.Level.the-variants.{A, B, C, D}
 use Rattle.syntax.specs.declared.Found.{Found}
 use Rattle.syntax.specs.declared.Found.the-variants.{At, Nothing}
 use Rattle.syntax.specs.declared.cutting.Tag.the-variants.{Is}
@@ -117,6 +117,15 @@ low-tag b h = by (digit b) refl h
     by false e k =
         let l = leb→le 65 b (and-left (leb 65 b) (leb b 90) k) in let m = leb→le b 90 (and-right (leb 65 b) (leb b 90) k) in (omega arith, omega arith)
 
+tag-inside-c : (b : ℕ) → T (tagOctet b) → insideC b ≡ true
+tag-inside-c b h =
+    let k = low-tag b h in
+    by (within 32 126 b) (and-both (leb 32 b) (leb b 126) (le→leb 32 b (omega (arith, k .0))) (le→leb b 126 (omega (arith, k .1))))
+  where
+    by : (w : Bool) → T w → (w || within 160 255 b) ≡ true
+    by true h = refl
+    by false h = absurd h
+
 -- letters and digits are inside every repertoire
 pub tag-inside : (l : Level) (b : ℕ) → T (tagOctet b) → inside l b ≡ true
 unfolding inside
@@ -134,13 +143,8 @@ tag-inside B b h = by (digit b) (capital b) (eqb b 32) (oneOf (octets ".,-()/='+
     by true false x y h = refl
     by false true x y h = refl
     by false false x y h = absurd h
-tag-inside C b h =
-    let k = low-tag b h in
-    by (within 32 126 b) (and-both (leb 32 b) (leb b 126) (le→leb 32 b (omega (arith, k .0))) (le→leb b 126 (omega (arith, k .1))))
-  where
-    by : (w : Bool) → T w → (w || within 160 255 b) ≡ true
-    by true h = refl
-    by false h = absurd h
+tag-inside C b h = tag-inside-c b h
+tag-inside D b h = tag-inside-c b h
 
 tag-class : (y : Syntax) → T (fit (y .service)) → (b x : ℕ) → x ≡ b → T (tagOctet b) → 0 ≡ classOf y x
 unfolding classOf

@@ -13,9 +13,9 @@ use Rattle.syntax.specs.declared.Breach.{Breach}
 use Rattle.syntax.specs.declared.Service.{Service}
 use Rattle.syntax.specs.declared.Syntax.{Syntax}
 use Rattle.syntax.specs.declared.Version.{Version}
-use Rattle.syntax.specs.declared.Version.the-variants.{Three, Four}
+use Rattle.syntax.specs.declared.Version.the-variants.{Two, Three, Four}
 use Rattle.syntax.specs.declared.Level.{Level}
-use Rattle.syntax.specs.declared.Level.the-variants.{A, B, C}
+use Rattle.syntax.specs.declared.Level.the-variants.{A, B, C, D}
 use Rattle.syntax.specs.declared.Found.{Found}
 use Rattle.syntax.specs.declared.Found.the-variants.{At, Nothing}
 use Rattle.syntax.specs.declared.cutting.Tag.{Tag}
@@ -63,18 +63,36 @@ abbrev pub levelNamed : List ℕ → LevelName
 levelNamed c =
     cond (same c (octets "UNOA")) (Leveled A)
     (cond (same c (octets "UNOB")) (Leveled B)
-    (cond (same c (octets "UNOC")) (Leveled C) NoLevel))
+    (cond (same c (octets "UNOC")) (Leveled C)
+    (cond (same c (octets "UNOD")) (Leveled D) NoLevel)))
 
 abbrev pub versionNamed : List ℕ → VersionName
-versionNamed c = cond (same c (octets "3")) (Versioned Three) (cond (same c (octets "4")) (Versioned Four) NoVersion)
+versionNamed c =
+    cond (same c (octets "2")) (Versioned Two)
+    (cond (same c (octets "3")) (Versioned Three)
+    (cond (same c (octets "4")) (Versioned Four) NoVersion))
+
+-- whether a version is the earlier edition's: "syntax version 2 in UNB", "Accept it where 0002 is 2"
+abbrev pub earlier : Version → Bool
+earlier Two = true
+earlier Three = false
+earlier Four = false
+
+-- "with repertoire UNOD .. besides the others": it goes with version 2 alone
+abbrev pub goes : Level → Version → Bool
+goes A v = true
+goes B v = true
+goes C v = true
+goes D v = earlier v
 
 abbrev pub refusedUnb : ℕ → ℕ → Begun
 refusedUnb n p = RefusedUnb (record { number = n; place = p })
 
--- whether a version has a repetition: "in version 3 no repetition"
+-- whether a version has a repetition: "in version 3 no repetition"; in version 2 "dates and UNA as in version 3"
 abbrev pub repeating : Version → Bool
 repeating Four = true
 repeating Three = false
+repeating Two = false
 
 -- "In version 3 a UNA repetition octet must be a space."
 abbrev pub settled : Opening → Level → Version → Begun
@@ -83,9 +101,9 @@ settled o l v =
     (cond (o .una && not (eqb (o .service .repetition) (octet " "))) (refusedUnb 6 (o .at))
     (Ready (record { syntax = record { version = v; level = l; service = withoutRepetition (o .service) }; at = o .at })))
 
--- 6: "0001 or 0002 unknown; version 3 with a repetition octet"
+-- 6: "0001 or 0002 unknown; version 3 with a repetition octet"; UNOD in another version than 2
 abbrev pub bothNamed : Opening → LevelName → VersionName → Begun
-bothNamed o (Leveled l) (Versioned n) = settled o l n
+bothNamed o (Leveled l) (Versioned n) = cond (goes l n) (settled o l n) (refusedUnb 6 (o .at))
 bothNamed o (Leveled l) NoVersion = refusedUnb 6 (o .at)
 bothNamed o NoLevel n = refusedUnb 6 (o .at)
 

@@ -7,7 +7,7 @@ use Rattle.syntax.specs.Service.{serves}
 use Rattle.syntax.specs.declared.Service.{Service}
 use Rattle.syntax.specs.declared.Syntax.{Syntax}
 use Rattle.syntax.specs.declared.Level.{Level}
-use Rattle.syntax.specs.declared.Level.the-variants.{A, B, C}
+use Rattle.syntax.specs.declared.Level.the-variants.{A, B, C, D}
 
 -- "A tag is three octets A to Z or 0 to 9, .."
 abbrev pub tagOctet : ℕ → Bool
@@ -17,11 +17,15 @@ tagOctet b = digit b || capital b
 abbrev pub insideA : ℕ → Bool
 insideA b = capital b || digit b || eqb b (octet " ") || oneOf (octets ".,-()/='+:?!\"%&*;<>") b
 
--- "UNOB adds a to z. UNOC: 0x20 to 0x7E and 0xA0 to 0xFF."
+abbrev pub insideC : ℕ → Bool
+insideC b = within 32 126 b || within 160 255 b
+
+-- "UNOB adds a to z. UNOC: 0x20 to 0x7E and 0xA0 to 0xFF." "UNOD (octets as for UNOC)"
 unfoldable pub inside : Level → ℕ → Bool
 inside A b = insideA b
 inside B b = insideA b || small b
-inside C b = within 32 126 b || within 160 255 b
+inside C b = insideC b
+inside D b = insideC b
 
 -- "Service characters in force are always inside."
 abbrev pub outside : Syntax → ℕ → Bool

@@ -14,7 +14,7 @@ use Rattle.syntax.specs.Classes.{endClass, releaseClass, outsideClass, d
 use Rattle.syntax.specs.declared.Service.{Service}
 use Rattle.syntax.specs.declared.Syntax.{Syntax}
 use Rattle.syntax.specs.declared.Level.{Level}
-use Rattle.syntax.specs.declared.Level.the-variants.{A, B, C}
+use Rattle.syntax.specs.declared.Level.the-variants.{A, B, C, D}
 
 -- ---- one store
 
@@ -162,10 +162,11 @@ basing-fill {l} {a} n {c} {t} {u} g m e f q = record {
     by x k false p = g .done x (let h : x < a = leb-false a x p in h)
 
 -- what holds of each level
-by-level : (P : Level → Type 0) → P A → P B → P C → (l : Level) → P l
-by-level P a b c A = a
-by-level P a b c B = b
-by-level P a b c C = c
+by-level : (P : Level → Type 0) → P A → P B → P C → P D → (l : Level) → P l
+by-level P a b c d A = a
+by-level P a b c d B = b
+by-level P a b c d C = c
+by-level P a b c d D = d
 
 abbrev classIn : Level → ℕ → ℕ
 classIn l b = dataClass (tagOctet b) (inside l b)
@@ -174,19 +175,19 @@ classIn l b = dataClass (tagOctet b) (inside l b)
 pub base-by : {l : Level} {c0 c1 c2 c3 c4 c5 c6 c7 c8 c9 c10 c11 c12 : ℕ} {t0 t1 t2 t3 t4 t5 t6 t7 t8 t9 t10 t11 t12 t13 : List ℕ} → Blank t0 → Filled 0 32 c0 t0 t1 → c0 ≡ classIn l 0 → Filled 32 35 c1 t1 t2 → c1 ≡ classIn l 32 → Filled 35 37 c2 t2 t3 → c2 ≡ classIn l 35 → Filled 37 48 c3 t3 t4 → c3 ≡ classIn l 37 → Filled 48 58 c4 t4 t5 → c4 ≡ classIn l 48 → Filled 58 64 c5 t5 t6 → c5 ≡ classIn l 58 → Filled 64 65 c6 t6 t7 → c6 ≡ classIn l 64 → Filled 65 91 c7 t7 t8 → c7 ≡ classIn l 65 → Filled 91 97 c8 t8 t9 → c8 ≡ classIn l 91 → Filled 97 123 c9 t9 t10 → c9 ≡ classIn l 97 → Filled 123 127 c10 t10 t11 → c10 ≡ classIn l 123 → Filled 127 160 c11 t11 t12 → c11 ≡ classIn l 127 → Filled 160 256 c12 t12 t13 → c12 ≡ classIn l 160 → Base l t13
 unfolding inside
 base-by {l} z f0 e0 f1 e1 f2 e2 f3 e3 f4 e4 f5 e5 f6 e6 f7 e7 f8 e8 f9 e9 f10 e10 f11 e11 f12 e12 =
-    let g1 : Basing l 32 _ = basing-fill 32 (basing-start z) (omega arith) (by-level (λ (l : Level). Alike l 0 32) refl refl refl l) f0 e0 in
-    let g2 : Basing l 35 _ = basing-fill 3 g1 (omega arith) (by-level (λ (l : Level). Alike l 32 3) refl refl refl l) f1 e1 in
-    let g3 : Basing l 37 _ = basing-fill 2 g2 (omega arith) (by-level (λ (l : Level). Alike l 35 2) refl refl refl l) f2 e2 in
-    let g4 : Basing l 48 _ = basing-fill 11 g3 (omega arith) (by-level (λ (l : Level). Alike l 37 11) refl refl refl l) f3 e3 in
-    let g5 : Basing l 58 _ = basing-fill 10 g4 (omega arith) (by-level (λ (l : Level). Alike l 48 10) refl refl refl l) f4 e4 in
-    let g6 : Basing l 64 _ = basing-fill 6 g5 (omega arith) (by-level (λ (l : Level). Alike l 58 6) refl refl refl l) f5 e5 in
-    let g7 : Basing l 65 _ = basing-fill 1 g6 (omega arith) (by-level (λ (l : Level). Alike l 64 1) refl refl refl l) f6 e6 in
-    let g8 : Basing l 91 _ = basing-fill 26 g7 (omega arith) (by-level (λ (l : Level). Alike l 65 26) refl refl refl l) f7 e7 in
-    let g9 : Basing l 97 _ = basing-fill 6 g8 (omega arith) (by-level (λ (l : Level). Alike l 91 6) refl refl refl l) f8 e8 in
-    let g10 : Basing l 123 _ = basing-fill 26 g9 (omega arith) (by-level (λ (l : Level). Alike l 97 26) refl refl refl l) f9 e9 in
-    let g11 : Basing l 127 _ = basing-fill 4 g10 (omega arith) (by-level (λ (l : Level). Alike l 123 4) refl refl refl l) f10 e10 in
-    let g12 : Basing l 160 _ = basing-fill 33 g11 (omega arith) (by-level (λ (l : Level). Alike l 127 33) refl refl refl l) f11 e11 in
-    let g13 : Basing l 256 _ = basing-fill 96 g12 (omega arith) (by-level (λ (l : Level). Alike l 160 96) refl refl refl l) f12 e12 in
+    let g1 : Basing l 32 _ = basing-fill 32 (basing-start z) (omega arith) (by-level (λ (l : Level). Alike l 0 32) refl refl refl refl l) f0 e0 in
+    let g2 : Basing l 35 _ = basing-fill 3 g1 (omega arith) (by-level (λ (l : Level). Alike l 32 3) refl refl refl refl l) f1 e1 in
+    let g3 : Basing l 37 _ = basing-fill 2 g2 (omega arith) (by-level (λ (l : Level). Alike l 35 2) refl refl refl refl l) f2 e2 in
+    let g4 : Basing l 48 _ = basing-fill 11 g3 (omega arith) (by-level (λ (l : Level). Alike l 37 11) refl refl refl refl l) f3 e3 in
+    let g5 : Basing l 58 _ = basing-fill 10 g4 (omega arith) (by-level (λ (l : Level). Alike l 48 10) refl refl refl refl l) f4 e4 in
+    let g6 : Basing l 64 _ = basing-fill 6 g5 (omega arith) (by-level (λ (l : Level). Alike l 58 6) refl refl refl refl l) f5 e5 in
+    let g7 : Basing l 65 _ = basing-fill 1 g6 (omega arith) (by-level (λ (l : Level). Alike l 64 1) refl refl refl refl l) f6 e6 in
+    let g8 : Basing l 91 _ = basing-fill 26 g7 (omega arith) (by-level (λ (l : Level). Alike l 65 26) refl refl refl refl l) f7 e7 in
+    let g9 : Basing l 97 _ = basing-fill 6 g8 (omega arith) (by-level (λ (l : Level). Alike l 91 6) refl refl refl refl l) f8 e8 in
+    let g10 : Basing l 123 _ = basing-fill 26 g9 (omega arith) (by-level (λ (l : Level). Alike l 97 26) refl refl refl refl l) f9 e9 in
+    let g11 : Basing l 127 _ = basing-fill 4 g10 (omega arith) (by-level (λ (l : Level). Alike l 123 4) refl refl refl refl l) f10 e10 in
+    let g12 : Basing l 160 _ = basing-fill 33 g11 (omega arith) (by-level (λ (l : Level). Alike l 127 33) refl refl refl refl l) f11 e11 in
+    let g13 : Basing l 256 _ = basing-fill 96 g12 (omega arith) (by-level (λ (l : Level). Alike l 160 96) refl refl refl refl l) f12 e12 in
     basing-end g13 (omega arith)
 
 -- ---- the six stores of `table`
@@ -214,6 +215,7 @@ unfolding inside
 inside-space A = refl
 inside-space B = refl
 inside-space C = refl
+inside-space D = refl
 
 -- the stores, last first, are the tests of `kindOf`
 ordered : (y : Syntax) (x : ℕ) →

@@ -28,16 +28,19 @@ pub struct Service {
     pub terminator: u8,
 }
 
+// The syntax versions: 2 is the earlier edition.
 pub enum Version {
+    Two,
     Three,
     Four,
 }
 
-// The repertoires UNOA, UNOB and UNOC.
+// The repertoires UNOA, UNOB, UNOC and UNOD.
 pub enum Level {
     A,
     B,
     C,
+    D,
 }
 
 // What UNB's first element and UNA settle for the whole interchange.

@@ -1,4 +1,6 @@
 // What the start of an interchange says: UNA or none, then UNB's first element. Crate `beginning` reads it.
+ghost use mathlib.Core.Path.{_≡_};
+ghost use Rattle.syntax.specs.Opening.{earlier};
 use crate::Breach;
 use crate::Level;
 use crate::Service;
@@ -36,4 +38,15 @@ pub struct Start {
 pub enum Begun {
     Ready(Start),
     Refused(Breach),
+}
+
+// Whether a version is the earlier edition's.
+pub fn is_earlier(v: Version) -> bool
+    ensures { λ r. ⌜ r ≡ earlier v ⌝ }
+{
+    match v {
+        Version::Two => true,
+        Version::Three => false,
+        Version::Four => false,
+    }
 }

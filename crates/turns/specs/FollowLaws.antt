@@ -16,7 +16,7 @@ use Rattle.grammar.specs.Segments as segments
 use Rattle.grammar.specs.Segments.{Name, Named, Free, Asked, asked, elementsOf, tagText, unb0020, unh0062, unt0062, unz0020, ush0534, ust0534, usy0534, unt0074, unz0036}
 use Rattle.grammar.specs.Interchange.{Leaf, certificate, Header, header, Trailer, trailer, link, Body, plain, ack, Open, msg, Message, message, Reading, start, idle, busy, done, showOpen}
 use Rattle.grammar.specs.Loads.{loads, controls, loadIn, controlIn}
-use Rattle.grammar.specs.Rules.{insideS, order, formedS, refs, counts, scopes, amountS, autack, isAutack, subset, refH, refT, refM, isFree, okItem, whole, filled, one, counted, total, scopeRight}
+use Rattle.grammar.specs.Rules.{insideS, order, formedS, refs, counts, scopes, amountS, autack, isAutack, subset, refH, refT, refM, isFree, okItem, whole, filled, one, paired, total, scopeRight}
 use Rattle.grammar.specs.RuleLaws.{check-holds, holds-check, is-autack}
 use Rattle.grammar.specs.Placing.{growNamed, grow, place, inOpen, inBody, itemB}
 use Rattle.grammar.specs.PlacingLaws.{same-eq}
@@ -27,7 +27,7 @@ use Rattle.elements.specs.declared.Kind.{Kind}
 use Rattle.elements.specs.declared.Kind.the-variants.{Unb, Unh, Unt, Unz, Ush, Usa, Usc, Usr, Ust, Usb, Usx, Usy, Reserved, Qty, Cnt, Other}
 use Rattle.message.specs.declared.Sums.{Sums}
 use Rattle.message.specs.Summary.{groupOf, sumsOf, summaryOf, flagsOf, StateS, busyS, stateOf, atHeads, atItems, closes, orderK, isFound, freeAt, refsK, countsK, scopeK, ustNext, itemNext, loaded, controlled, nextK, orderS, refsS, countsS, scopeS, nextS, AnswerS, refusedS, testsS, decidedS, answerOf}
-use Rattle.message.specs.FlagLaws.{alike, any-each, any-size, load-sums, control-sums, totals, pairs-right, all-named, Spot, no, yes, spot}
+use Rattle.message.specs.FlagLaws.{alike, any-each, any-size, load-sums, control-sums, totals, pairs-right, pairs-counted, all-named, Spot, no, yes, spot}
 
 -- ---- what is to be shown of a segment of the kind k whose view is a: where it has no place, 7 is broken; where it has one, each test answers as its
 -- rule does, given the rules before it, and the step gives what is kept of the result
@@ -251,8 +251,8 @@ module _ (y : Syntax) (u : Leaf) (ms : Snoc Message) (g : Segment) where
       (λ i. alike (refs z) (test (same (unt0062 (elementsOf g)) (unh0062 h)) and every (one (each refT ts)) (each refH hs))
       (λ p. p .1 .1 .1) (λ p. (q .nine .0, (q .nine .1 .0, (q .nine .1 .1, p))))
       ∙ ap (λ (n : Bool). same (unt0062 (elementsOf g)) (unh0062 h) && n) (all-named (each refT ts) (each refH hs)))
-      (λ i j. rw (← pairs-right hs ts, ← totals b)
-      (alike (counts (y .version) z) (test (eqb (unt0074 (elementsOf g)) (suc (size (showOpen (msg h hs b ts))))) and every (counted hs) ts and total b)
+      (λ i j. rw (← pairs-counted (y .version) hs ts, ← totals b)
+      (alike (counts (y .version) z) (test (eqb (unt0074 (elementsOf g)) (suc (size (showOpen (msg h hs b ts))))) and paired (y .version) hs ts and total b)
       (λ p. p .1) (λ p. (q .ten, p))))
       (λ i. holds-check (scopes z) (q .eleven))
       (λ i j. refl)

@@ -36,7 +36,7 @@ use Rattle.elements.specs.Formed.{formedBy}
 use Rattle.elements.specs.FormedLaws.{and-stop, and-go, formed-by}
 use Rattle.references.specs.Refs.{refsIn, Indexed, Offered, Fitting, OfferIs}
 use Rattle.message.specs.Heads.{headFlags}
-use Rattle.message.specs.Summary.{Summary, StateS, startS, idleS, busyS, atStart, atIdle, atBusy, mayCome, allNamed, pairsRight, totalRight, numberAt, orderK, refsK, countsK, scopeK, nextK, orderS, refsS, countsS, scopeS, nextS, opened, fresh, AnswerS, readS, refusedS, decidedS}
+use Rattle.message.specs.Summary.{Summary, StateS, startS, idleS, busyS, atStart, atIdle, atBusy, mayCome, allNamed, pairsCounted, totalRight, numberAt, orderK, refsK, countsK, scopeK, nextK, orderS, refsS, countsS, scopeS, nextS, opened, fresh, AnswerS, readS, refusedS, decidedS}
 use Rattle.message.specs.Steps.{summaryIn, Roomy}
 use Rattle.message.specs.StepsLaws.{marked-between, closed-range, unt-digits, unz-digits}
 use Rattle.turns.specs.Held.{phased, stateIn, stretchIn, repeatedRef, afterUnb, afterUnh, afterOther, openSize, Held, decidedFrom, StepIs, Ready}
@@ -432,12 +432,12 @@ module _ (y : Syntax) (s : List ℕ) (st : State) (h l b : List ℕ) (at next : 
             unt-other v d = stop (y .service .release) s h l b next (at-9 (y .version) here ask at unt-may (sym e ∙ not-false q n) (unt-refs ∙ not-true a v)) d
 
             module _ (v : not a ≡ false) {c : Bool}
-                (counts : c ≡ (eqb (numberAt ask 1) (st .message .segments + 1) && (pairsRight (st .message .pair) && totalRight (st .message .sums)))) where
+                (counts : c ≡ (eqb (numberAt ask 1) (st .message .segments + 1) && (pairsCounted (y .version) (st .message .pair) && totalRight (st .message .sums)))) where
               unt-counts : countsS (y .version) here ask ≡ c
               unt-counts =
                   let i : suc (st .message .segments) ≡ st .message .segments + 1 = omega arith in
                   by (λ (z : StateS) (k : Kind). countsK (y .version) z k ask) (busy-here ph) (g .kind)
-                  ∙ ap (λ (k : ℕ). eqb (numberAt ask 1) k && (pairsRight (st .message .pair) && totalRight (st .message .sums))) i ∙ sym counts
+                  ∙ ap (λ (k : ℕ). eqb (numberAt ask 1) k && (pairsCounted (y .version) (st .message .pair) && totalRight (st .message .sums))) i ∙ sym counts
 
               pub unt-wrong : not c ≡ true → {r : Step} → r ≡ Stop (record { number = 10; place = at }) → Told r
               unt-wrong w d =

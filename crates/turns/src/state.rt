@@ -14,7 +14,7 @@ ghost use Rattle.elements.specs.Kinds.{tagKind};
 ghost use Rattle.elements.specs.Octets.{textAt, askedAt};
 ghost use Rattle.elements.specs.Fields.{Marked, Fields, FieldsAs};
 ghost use Rattle.message.specs.Heads.{headFlags};
-ghost use Rattle.message.specs.Summary.{numberAt, pairsRight, totalRight, allNamed, mayCome, atBusy};
+ghost use Rattle.message.specs.Summary.{numberAt, pairsCounted, totalRight, allNamed, mayCome, atBusy};
 ghost use Rattle.message.specs.Steps.{stepM, summaryIn, Roomy, Sought, MovedIs};
 ghost use Rattle.turns.specs.Held.{unseenAs, seenIn, Entered, Sighted, stateIn, stretchIn, repeatedRef, afterUnb, afterUnh, afterOther, Ready, decidedFrom, StepIs};
 ghost use Rattle.elements.specs.Formed.{looked};
@@ -35,6 +35,7 @@ use elements::kind_of;
 use grammar::Subset;
 use message::Group;
 use message::Message;
+use message::Pair;
 use message::heads::all_named;
 use message::items::on_cnt;
 use message::items::on_other;
@@ -59,6 +60,7 @@ use references::refs::offer;
 use syntax::Breach;
 use syntax::Found;
 use syntax::Syntax;
+use syntax::Version;
 use syntax::content::bare;
 use syntax::content::content_is;
 use syntax::content::part;
@@ -67,6 +69,7 @@ use syntax::cutting::Cut;
 use syntax::cutting::Tag;
 use syntax::cutting::scan;
 use syntax::cutting::tag_in;
+use syntax::opening::is_earlier;
 
 // Where the interchange stands: before UNB, between messages, in one, behind UNZ.
 pub enum Phase {
@@ -395,19 +398,31 @@ fn on_unz(
     Step::On(after_other(st, Phase::Done, st.count, m))
 }
 
+// 0588, where the edition has one: each pair of the message has as many segments as it says.
+fn pairs_counted(v: Version, p: Pair) -> bool
+    requires { ⌜ (p .base < 65536) × (p .own < 65536) ⌝ }
+    ensures { λ r. ⌜ r ≡ pairsCounted v p ⌝ }
+{
+    if is_earlier(v) {
+        return true;
+    }
+    pairs_right(p)
+}
+
 // UNT's numbers: 0074, 0588 and CNT.
 fn counts_right(s: &[u8], at: usize, y: Syntax, m: Message, marks: &[usize]) -> bool
     requires { ⌜ Marked (y .service) (now s) at (now marks) ⌝ }
     requires { ⌜ inRange (digits 1 6) (textAt (y .service) (now s) at 1 0) ≡ true ⌝ }
     requires { ⌜ (m .segments < 65535) × (m .pair .base < 65536) × (m .pair .own < 65536) ⌝ }
-    ensures { λ r. ⌜ r ≡ (eqb (numberAt (askedAt (y .service) (now (s .entry)) at) 1) (m .segments + 1) && (pairsRight (m .pair) && totalRight (m .sums))) ⌝ }
+    ensures { λ r. ⌜ r ≡ (eqb (numberAt (askedAt (y .service) (now (s .entry)) at) 1) (m .segments + 1) && (pairsCounted (y .version) (m .pair) && totalRight (m .sums))) ⌝ }
 {
     let p = m.pair;
     let u = m.sums;
     if number_in(s, at, y, marks, 1) != wide(m.segments + 1) {
         return false;
     }
-    if !pairs_right(p) {
+    let v = y.version;
+    if !pairs_counted(v, p) {
         return false;
     }
     totals_right(u)

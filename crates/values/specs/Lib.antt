@@ -1,2 +1,5 @@
+pub mod Filters
+pub mod FiltersLaws
+pub mod Example
 pub mod Values
 pub mod ValuesLaws

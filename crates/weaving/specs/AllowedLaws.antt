@@ -11,7 +11,9 @@ use borrow.Author.Tests.{ne-eqb, eq-eqb, le-leb, lt-leb, lt-ltb, le-ltb, ltb-tru
 use Rattle.syntax.specs.Content.{compared}
 use Rattle.syntax.specs.Octets.{same, within, allPass}
 use Rattle.syntax.specs.Repertoire.{tagOctet}
+use Rattle.syntax.specs.Opening.{earlier}
 use Rattle.syntax.specs.declared.Syntax.{Syntax}
+use Rattle.syntax.specs.declared.Version.{Version}
 use Rattle.grammar.specs.Lists.{Snoc, nil, _▷_, each, size, among}
 use Rattle.grammar.specs.Interchange.{Header, Open, msg, showHeader}
 use Rattle.grammar.specs.Rules.{refH}
@@ -26,7 +28,7 @@ use Rattle.groups.specs.Calls.{Holds}
 use Rattle.groups.specs.declared.named.Range.{Range}
 use Rattle.groups.specs.declared.named.Sought.{Sought}
 use Rattle.groups.specs.declared.named.Sought.the-variants.{At, Nowhere}
-use Rattle.weaving.specs.Seals.{refRight, filterRight, takesMore, isNew, maySeal}
+use Rattle.weaving.specs.Seals.{refRight, filterRight, mostOctets, takesMore, isNew, maySeal}
 
 -- ---- REF
 
@@ -45,22 +47,32 @@ not-true e d = absurd (false≢true (sym e ∙ d))
 
 -- ---- F
 
-pub filter-two : (f : ℕ) → f ≡ 2 → true ≡ filterRight f
-filter-two f e = rw e
+module _ (v : Version) (f : ℕ) where
+  pub filter-two : f ≡ 2 → true ≡ filterRight v f
+  filter-two d = rw (eq-eqb f 2 d)
 
-pub filter-by : (f : ℕ) → (f ≡ 2 → ⊥) → eqb f 7 ≡ filterRight f
-filter-by f e = rw (ne-eqb f 2 e)
+  module _ {b : Bool} (e : b ≡ earlier v) where
+    pub filter-early : (f ≡ 2 → ⊥) → b ≡ true → false ≡ filterRight v f
+    filter-early d h = rw (ne-eqb f 2 d, ← e, h)
 
--- ---- VALUE's length
+    pub filter-late : (f ≡ 2 → ⊥) → b ≡ false → eqb f 7 ≡ filterRight v f
+    filter-late d h = rw (ne-eqb f 2 d, ← e, h)
 
-pub value-none : (f n : ℕ) → n ≡ 0 → false ≡ within 1 (cond (eqb f 2) 256 384) n
-value-none f n e = rw e
+    -- ---- VALUE's length
+    pub most-early : b ≡ true → 128 ≡ mostOctets v f
+    most-early h = rw (← e, h)
 
-pub value-hexed : (f n : ℕ) → (n ≡ 0 → ⊥) → f ≡ 2 → leb n 256 ≡ within 1 (cond (eqb f 2) 256 384) n
-value-hexed f n z e = rw (e, le-leb 1 n (omega arith))
+    pub most-hexed : b ≡ false → f ≡ 2 → 256 ≡ mostOctets v f
+    most-hexed h d = rw (← e, h, eq-eqb f 2 d)
 
-pub value-sixed : (f n : ℕ) → (n ≡ 0 → ⊥) → (f ≡ 2 → ⊥) → leb n 384 ≡ within 1 (cond (eqb f 2) 256 384) n
-value-sixed f n z e = rw (ne-eqb f 2 e, le-leb 1 n (omega arith))
+    pub most-sixed : b ≡ false → (f ≡ 2 → ⊥) → 384 ≡ mostOctets v f
+    most-sixed h d = rw (← e, h, ne-eqb f 2 d)
+
+pub length-none : (v : Version) (f n : ℕ) → n ≡ 0 → false ≡ within 1 (mostOctets v f) n
+length-none v f n e = rw e
+
+pub length-by : (v : Version) (f n : ℕ) {k : ℕ} → (n ≡ 0 → ⊥) → k ≡ mostOctets v f → leb n k ≡ within 1 (mostOctets v f) n
+length-by v f n z e = rw (← e, le-leb 1 n (omega arith))
 
 -- ---- "new in the message"
 
@@ -117,16 +129,16 @@ more-by (msg u hs b ts) {a} {n} e d = rw (← e, ← d) (ap (λ (x : Bool). not 
 -- ---- all of them
 
 module _ {s m : List ℕ} {y : Syntax} {c : Layout} {rows : List ℕ} (h : Holds s m y c rows) (r : List ℕ) (f : ℕ) {a : Bool} (e : a ≡ refRight r) where
-  pub seal-ref : a ≡ false → false ≡ maySeal (h .o) r f
+  pub seal-ref : a ≡ false → false ≡ maySeal (y .version) (h .o) r f
   seal-ref d = rw (← e, d)
 
-  module _ {b : Bool} (d : a ≡ true) (k : b ≡ filterRight f) where
-    pub seal-filter : b ≡ false → false ≡ maySeal (h .o) r f
+  module _ {b : Bool} (d : a ≡ true) (k : b ≡ filterRight (y .version) f) where
+    pub seal-filter : b ≡ false → false ≡ maySeal (y .version) (h .o) r f
     seal-filter z = rw (← e, d, ← k, z)
 
     module _ {g : Bool} (z : b ≡ true) (l : g ≡ (not (c .autack) && ltb (c .headers) 9)) where
-      pub seal-full : g ≡ false → false ≡ maySeal (h .o) r f
+      pub seal-full : g ≡ false → false ≡ maySeal (y .version) (h .o) r f
       seal-full w = rw (← e, d, ← k, z, ← more-by (h .o) (h .laid .autack) (h .laid .headers), ← l, w)
 
-      pub seal-new : {x : Bool} → g ≡ true → x ≡ isNew (h .o) r → x ≡ maySeal (h .o) r f
+      pub seal-new : {x : Bool} → g ≡ true → x ≡ isNew (h .o) r → x ≡ maySeal (y .version) (h .o) r f
       seal-new w q = q ∙ rw (← e, d, ← k, z, ← more-by (h .o) (h .laid .autack) (h .laid .headers), ← l, w)

@@ -9,13 +9,15 @@ use lib.ListN.{length, take, length-take, length-drop}
 use lib.Seq.{slice}
 use Rattle.syntax.specs.Service.{serves}
 use Rattle.syntax.specs.Octets.{octets}
+use Rattle.syntax.specs.Opening.{earlier}
 use Rattle.syntax.specs.Tree.{Octet, plain, freed, Element, Segment, segment, Symbol, tok, elem, term, flatC, flatE, each, spells, printS}
 use Rattle.syntax.specs.TreeLaws.{spells-append, print-cons}
 use Rattle.syntax.specs.declared.Service.{Service}
+use Rattle.syntax.specs.declared.Version.{Version}
 use Rattle.grammar.specs.Segments.{Ust, Usr, seg}
-use Rattle.writing.specs.Laid.{together}
-use Rattle.weaving.specs.Seals.{plains, released, single, ustLeaf, usrLeaf}
-use Rattle.weaving.specs.Woven.{headerText, trailerText, releasedText, headerPieces, trailerPieces}
+use Rattle.writing.specs.Laid.{Laid, together}
+use Rattle.weaving.specs.Seals.{plains, released, single, several, ustLeaf, usrLeaf}
+use Rattle.weaving.specs.Woven.{headerText, trailerText, releasedText, headerPieces, ustEnd, usrOpen, trailerPieces}
 
 module _ (σ : Service) where
   pub spells-plains : (t : List ℕ) → spells σ (flatC (plains t)) ≡ t
@@ -44,39 +46,68 @@ module _ (σ : Service) where
   unfolding headerText
   header-pieces r f = simp (spells-append, append-assoc, append-nil, spells-plains)
 
-  ust-print : (r : List ℕ) → printS σ (seg Ust (ustLeaf r)) ≡ 85 ∷ 83 ∷ 84 ∷ σ .element ∷ (r ++ σ .element ∷ 52 ∷ σ .terminator ∷ [])
-  ust-print r =
-      segment-print 85 83 84 (ustLeaf r)
-      ∙ ap (λ (l : List ℕ). 85 ∷ 83 ∷ 84 ∷ (l ++ σ .terminator ∷ [])) (single-print r (single (octets "4") ∷ []))
-      ∙ ap (λ (l : List ℕ). 85 ∷ 83 ∷ 84 ∷ σ .element ∷ l) (append-assoc r (σ .element ∷ 52 ∷ []) (σ .terminator ∷ []))
+  -- UST and USR, by the edition
+  ust-print : (v : Version) (r : List ℕ) → printS σ (seg Ust (ustLeaf v r)) ≡ 85 ∷ 83 ∷ 84 ∷ σ .element ∷ (r ++ ustEnd v σ)
+  ust-print v r =
+      segment-print 85 83 84 (ustLeaf v r)
+      ∙ ap (λ (l : List ℕ). 85 ∷ 83 ∷ 84 ∷ (l ++ σ .terminator ∷ [])) (single-print r (cond (earlier v) [] (single (octets "4") ∷ [])))
+      ∙ ap (λ (l : List ℕ). 85 ∷ 83 ∷ 84 ∷ σ .element ∷ l) (by (earlier v))
+    where
+      by : (e : Bool) → (r ++ spells σ (each elem flatE (cond e [] (single (octets "4") ∷ [])))) ++ σ .terminator ∷ []
+          ≡ r ++ cond e (σ .terminator ∷ []) (σ .element ∷ 52 ∷ σ .terminator ∷ [])
+      by true = ap (λ (l : List ℕ). l ++ σ .terminator ∷ []) (append-nil r)
+      by false = append-assoc r (σ .element ∷ 52 ∷ []) (σ .terminator ∷ [])
 
-  usr-print : (t : List ℕ) → printS σ (seg Usr (usrLeaf σ t)) ≡ 85 ∷ 83 ∷ 82 ∷ σ .element ∷ 49 ∷ σ .component ∷ (releasedText σ t ++ σ .terminator ∷ [])
-  usr-print t =
-      segment-print 85 83 82 (usrLeaf σ t)
-      ∙ ap (λ (ys : List Symbol). 85 ∷ 83 ∷ 82 ∷ σ .element ∷ 49 ∷ σ .component ∷ (spells σ ys ++ σ .terminator ∷ [])) (ends (flatC (released σ t)))
-      ∙ ap (λ (l : List ℕ). 85 ∷ 83 ∷ 82 ∷ σ .element ∷ 49 ∷ σ .component ∷ (l ++ σ .terminator ∷ [])) (spells-released t)
+  usr-print : (v : Version) (t : List ℕ) → printS σ (seg Usr (usrLeaf v σ t)) ≡ usrOpen v σ ++ (releasedText σ t ++ σ .terminator ∷ [])
+  usr-print v t = by (earlier v)
     where
       ends : (ys : List Symbol) → ys ++ [] ++ [] ++ [] ≡ ys
       ends ys = simp append-nil
 
-  pub trailer-pieces : (r t : List ℕ) → trailerText σ r t ≡ together (trailerPieces σ r t)
+      text : spells σ (flatC (released σ t) ++ [] ++ [] ++ []) ≡ releasedText σ t
+      text = ap (spells σ) (ends (flatC (released σ t))) ∙ spells-released t
+
+      by : (e : Bool) → printS σ (seg Usr (cond e (several (released σ t) []) (several (plains (octets "1")) (released σ t ∷ [])) ∷ []))
+          ≡ cond e (85 ∷ 83 ∷ 82 ∷ σ .element ∷ []) (85 ∷ 83 ∷ 82 ∷ σ .element ∷ 49 ∷ σ .component ∷ []) ++ (releasedText σ t ++ σ .terminator ∷ [])
+      by true =
+          segment-print 85 83 82 (several (released σ t) [] ∷ [])
+          ∙ ap (λ (l : List ℕ). 85 ∷ 83 ∷ 82 ∷ σ .element ∷ (l ++ σ .terminator ∷ [])) text
+      by false =
+          segment-print 85 83 82 (several (plains (octets "1")) (released σ t ∷ []) ∷ [])
+          ∙ ap (λ (l : List ℕ). 85 ∷ 83 ∷ 82 ∷ σ .element ∷ 49 ∷ σ .component ∷ (l ++ σ .terminator ∷ [])) text
+
+  pub trailer-pieces : (v : Version) (r t : List ℕ) → trailerText v σ r t ≡ together (trailerPieces v σ r t)
   unfolding trailerText
-  trailer-pieces r t =
-      print-cons σ (seg Ust (ustLeaf r)) (seg Usr (usrLeaf σ t) ∷ [])
-      ∙ ap (λ (l : List ℕ). printS σ (seg Ust (ustLeaf r)) ++ l) (print-cons σ (seg Usr (usrLeaf σ t)) [] ∙ append-nil (printS σ (seg Usr (usrLeaf σ t))) ∙ usr-print t)
-      ∙ ap (λ (l : List ℕ). l ++ 85 ∷ 83 ∷ 82 ∷ σ .element ∷ 49 ∷ σ .component ∷ (releasedText σ t ++ σ .terminator ∷ [])) (ust-print r)
-      ∙ ap (λ (l : List ℕ). 85 ∷ 83 ∷ 84 ∷ σ .element ∷ l)
-      (append-assoc r (σ .element ∷ 52 ∷ σ .terminator ∷ []) (85 ∷ 83 ∷ 82 ∷ σ .element ∷ 49 ∷ σ .component ∷ (releasedText σ t ++ σ .terminator ∷ [])))
+  trailer-pieces v r t =
+      print-cons σ (seg Ust (ustLeaf v r)) (seg Usr (usrLeaf v σ t) ∷ [])
+      ∙ ap (λ (l : List ℕ). printS σ (seg Ust (ustLeaf v r)) ++ l)
+      (print-cons σ (seg Usr (usrLeaf v σ t)) [] ∙ append-nil (printS σ (seg Usr (usrLeaf v σ t))) ∙ usr-print v t)
+      ∙ ap (λ (l : List ℕ). l ++ (usrOpen v σ ++ (releasedText σ t ++ σ .terminator ∷ []))) (ust-print v r)
+      ∙ ap (λ (l : List ℕ). 85 ∷ 83 ∷ 84 ∷ σ .element ∷ l) (append-assoc r (ustEnd v σ) (usrOpen v σ ++ (releasedText σ t ++ σ .terminator ∷ [])))
+
+-- what ends UST, and what opens USR, as the code lays it
+module _ (v : Version) (σ : Service) {at n : ℕ} {out left : List ℕ} {b : Bool} (e : b ≡ earlier v) where
+  pub close-early : b ≡ true → Laid out at (σ .terminator ∷ []) n left → Laid out at (ustEnd v σ) n left × (n ≤ at + 3)
+  close-early h g = let k : n ≡ at + 1 = g .place in (rw (← e, h) g, omega (arith, k))
+
+  pub close-late : b ≡ false → Laid out at (σ .element ∷ 52 ∷ σ .terminator ∷ []) n left → Laid out at (ustEnd v σ) n left × (n ≤ at + 3)
+  close-late h g = let k : n ≡ at + 3 = g .place in (rw (← e, h) g, omega (arith, k))
+
+  pub usr-early : b ≡ true → Laid out at (85 ∷ 83 ∷ 82 ∷ σ .element ∷ []) n left → Laid out at (usrOpen v σ) n left × (n ≤ at + 6)
+  usr-early h g = let k : n ≡ at + 4 = g .place in (rw (← e, h) g, omega (arith, k))
+
+  pub usr-late : b ≡ false → Laid out at (85 ∷ 83 ∷ 82 ∷ σ .element ∷ 49 ∷ σ .component ∷ []) n left → Laid out at (usrOpen v σ) n left × (n ≤ at + 6)
+  usr-late h g = let k : n ≡ at + 6 = g .place in (rw (← e, h) g, omega (arith, k))
 
 -- ---- there is room to count in
 
 pub header-most : (at : ℕ) {a b c d e r n : ℕ} → a ≡ at + 6 → b ≡ a + n → c ≡ b + 5 → d ≤ c + 20 → e ≡ d + 5 → r ≡ e + 13 → n ≤ 14 → r ≤ at + 100
 header-most at i j k l m o h = omega arith
 
-pub trailer-most : (at : ℕ) {a b c d e r n : ℕ} → a ≡ at + 4 → b ≡ a + n → c ≡ b + 3 → d ≡ c + 6 → e ≤ d + 1024 → r ≡ e + 1 → n ≤ 14 → r ≤ at + 1100
+pub trailer-most : (at : ℕ) {a b c d e r n : ℕ} → a ≡ at + 4 → b ≡ a + n → c ≤ b + 3 → d ≤ c + 6 → e ≤ d + 1024 → r ≡ e + 1 → n ≤ 14 → r ≤ at + 1100
 trailer-most at i j k l m o h = omega arith
 
-pub trailer-room : {at a b c d e n : ℕ} → a ≡ at + 4 → b ≡ a + n → c ≡ b + 3 → d ≡ c + 6 → e ≤ d + 1024 → at < 1073741824 → n ≤ 14 → e + 1 < 18446744073709551616
+pub trailer-room : {at a b c d e n : ℕ} → a ≡ at + 4 → b ≡ a + n → c ≤ b + 3 → d ≤ c + 6 → e ≤ d + 1024 → at < 1073741824 → n ≤ 14 → e + 1 < 18446744073709551616
 trailer-room i j k l m o h = omega arith
 
 pub part-short : (s : List ℕ) {z : List ℕ} (a e : ℕ) → z ≡ slice a e s → length s ≤ 65535 → length z ≤ 65535

@@ -21,7 +21,9 @@ use Rattle.grammar.specs.Valid.{Interchange, interchange, printInterchange}
 use Rattle.writing.specs.Decimal.{decimalOf}
 use Rattle.filters.specs.Hex.{hexText}
 use Rattle.filters.specs.Six.{sixText}
-use Rattle.groups.specs.Calls.{serviceIn}
+use Rattle.syntax.specs.Opening.{earlier}
+use Rattle.syntax.specs.declared.Version.{Version}
+use Rattle.groups.specs.Calls.{serviceIn, versionIn}
 
 -- ---- elements of the new segments
 
@@ -57,16 +59,16 @@ usaLeaf = several (plains (octets "1")) ([] ∷ [] ∷ plains (octets "16") ∷ 
 abbrev pub newHeader : List ℕ → ℕ → Header
 newHeader r f = header (ushLeaf r f) (nil ▷ usaLeaf) nil
 
--- ---- "the trailer directly before UNT `UST+REF+4'USR+1:VALUE'`"
+-- ---- "the trailer directly before UNT `UST+REF+4'USR+1:VALUE'`"; "Sealing such a file writes its own edition's trailer": `UST+REF'USR+VALUE'`
 
-abbrev pub ustLeaf : List ℕ → Leaf
-ustLeaf r = single r ∷ single (octets "4") ∷ []
+abbrev pub ustLeaf : Version → List ℕ → Leaf
+ustLeaf v r = single r ∷ cond (earlier v) [] (single (octets "4") ∷ [])
 
-abbrev pub usrLeaf : Service → List ℕ → Leaf
-usrLeaf σ t = several (plains (octets "1")) (released σ t ∷ []) ∷ []
+abbrev pub usrLeaf : Version → Service → List ℕ → Leaf
+usrLeaf v σ t = cond (earlier v) (several (released σ t) []) (several (plains (octets "1")) (released σ t ∷ [])) ∷ []
 
-abbrev pub newTrailer : Service → List ℕ → List ℕ → Trailer
-newTrailer σ r t = trailer (ustLeaf r) (some (usrLeaf σ t))
+abbrev pub newTrailer : Version → Service → List ℕ → List ℕ → Trailer
+newTrailer v σ r t = trailer (ustLeaf v r) (some (usrLeaf v σ t))
 
 -- ---- "0074 grows by 4, without leading zeros": it is UNT's first element, and everything else of UNT stays
 
@@ -92,9 +94,9 @@ sealed (interchange n u ms z) r h t = interchange n u (sealedIn h t ms (compared
 abbrev pub refRight : List ℕ → Bool
 refRight r = within 1 14 (length r) && allPass tagOctet r
 
--- "F is 2 or 7."
-abbrev pub filterRight : ℕ → Bool
-filterRight f = eqb f 2 || eqb f 7
+-- "F is 2 or 7."; in the earlier edition "F 2 only"
+abbrev pub filterRight : Version → ℕ → Bool
+filterRight v f = eqb f 2 || (not (earlier v) && eqb f 7)
 
 -- ".. that isn't AUTACK", and has eight headers at most
 abbrev pub takesMore : Open → Bool
@@ -104,12 +106,15 @@ takesMore (msg u hs b ts) = not (autack u) && leb (size hs) 8
 abbrev pub isNew : Open → List ℕ → Bool
 isNew (msg u hs b ts) r = not (among (each refH hs) (compared r))
 
-abbrev pub maySeal : Open → List ℕ → ℕ → Bool
-maySeal o r f = refRight r && filterRight f && takesMore o && isNew o r
+abbrev pub maySeal : Version → Open → List ℕ → ℕ → Bool
+maySeal v o r f = refRight r && filterRight v f && takesMore o && isNew o r
 
--- "VALUE has 1 to 256 octets for F = 2, 1 to 384 for F = 7"
-abbrev pub lengthRight : ℕ → List ℕ → Bool
-lengthRight f v = within 1 (cond (eqb f 2) 256 384) (length v)
+-- "VALUE has 1 to 256 octets for F = 2, 1 to 384 for F = 7"; in the earlier edition "VALUE of 1 to 128 octets"
+abbrev pub mostOctets : Version → ℕ → ℕ
+mostOctets v f = cond (earlier v) 128 (cond (eqb f 2) 256 384)
+
+abbrev pub lengthRight : Version → ℕ → List ℕ → Bool
+lengthRight v f x = within 1 (mostOctets v f) (length x)
 
 -- ---- 14: "VALUE can't be written (repertoire, release not in force)"
 
@@ -132,4 +137,4 @@ signedText σ (msg u hs b ts) r f = syntax.print σ (list (showHeader (newHeader
 
 -- "the sealed interchange", where t is the text of VALUE
 abbrev pub sealedText : Interchange → List ℕ → List ℕ → ℕ → List ℕ → List ℕ
-sealedText i m r f t = printInterchange (sealed i m (newHeader r f) (newTrailer (serviceIn i) r t))
+sealedText i m r f t = printInterchange (sealed i m (newHeader r f) (newTrailer (versionIn i) (serviceIn i) r t))

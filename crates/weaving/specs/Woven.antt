@@ -4,6 +4,8 @@ use mathlib.Core.Bool.{false, cond}
 use mathlib.Core.List.{List, [], _∷_}
 use lib.ListN.{length, drop}
 use lib.Seq.{slice}
+use Rattle.syntax.specs.Opening.{earlier}
+use Rattle.syntax.specs.declared.Version.{Version}
 use Rattle.syntax.specs.Refusals.{atZero}
 use Rattle.syntax.specs.Octets.{allPass}
 use Rattle.syntax.specs.Service.{serves}
@@ -31,8 +33,8 @@ use Rattle.weaving.specs.Seals.{newHeader, newTrailer, lengthRight, text
 unfoldable pub headerText : Service → List ℕ → ℕ → List ℕ
 headerText σ r f = print σ (list (showHeader (newHeader r f)))
 
-unfoldable pub trailerText : Service → List ℕ → List ℕ → List ℕ
-trailerText σ r t = print σ (list (showTrailer (newTrailer σ r t)))
+unfoldable pub trailerText : Version → Service → List ℕ → List ℕ → List ℕ
+trailerText v σ r t = print σ (list (showTrailer (newTrailer v σ r t)))
 
 -- a text with its service characters released
 abbrev pub releasedText : Service → List ℕ → List ℕ
@@ -51,12 +53,19 @@ headerPieces σ r f =
     ∷ (85 ∷ 83 ∷ 65 ∷ σ .element ∷ 49 ∷ σ .component ∷ σ .component ∷ σ .component ∷ 49 ∷ 54 ∷ σ .component ∷ 49 ∷ σ .terminator ∷ [])
     ∷ []
 
-abbrev pub trailerPieces : Service → List ℕ → List ℕ → List (List ℕ)
-trailerPieces σ r t =
+-- what ends UST behind REF, and what stands in USR before VALUE, by the edition
+abbrev pub ustEnd : Version → Service → List ℕ
+ustEnd v σ = cond (earlier v) (σ .terminator ∷ []) (σ .element ∷ 52 ∷ σ .terminator ∷ [])
+
+abbrev pub usrOpen : Version → Service → List ℕ
+usrOpen v σ = cond (earlier v) (85 ∷ 83 ∷ 82 ∷ σ .element ∷ []) (85 ∷ 83 ∷ 82 ∷ σ .element ∷ 49 ∷ σ .component ∷ [])
+
+abbrev pub trailerPieces : Version → Service → List ℕ → List ℕ → List (List ℕ)
+trailerPieces v σ r t =
     (85 ∷ 83 ∷ 84 ∷ σ .element ∷ [])
     ∷ r
-    ∷ (σ .element ∷ 52 ∷ σ .terminator ∷ [])
-    ∷ (85 ∷ 83 ∷ 82 ∷ σ .element ∷ 49 ∷ σ .component ∷ [])
+    ∷ ustEnd v σ
+    ∷ usrOpen v σ
     ∷ releasedText σ t
     ∷ (σ .terminator ∷ [])
     ∷ []
@@ -86,14 +95,14 @@ restPieces σ s p = slice p (p + 4) s ∷ decimalOf (countAt σ s p) ∷ slice (
 abbrev pub octetsPieces : Service → List ℕ → Layout → List ℕ → ℕ → List (List ℕ)
 octetsPieces σ s c r f = headerText σ r f ∷ slice (c .body) (c .tail) s ∷ []
 
-abbrev pub sealedPieces : Service → List ℕ → Layout → List ℕ → ℕ → List ℕ → List (List ℕ)
-sealedPieces σ s c r f t =
-    slice 0 (c .heads) s ∷ headerText σ r f ∷ slice (c .heads) (c .unt) s ∷ trailerText σ r t ∷ together (restPieces σ s (c .unt)) ∷ []
+abbrev pub sealedPieces : Version → Service → List ℕ → Layout → List ℕ → ℕ → List ℕ → List (List ℕ)
+sealedPieces v σ s c r f t =
+    slice 0 (c .heads) s ∷ headerText σ r f ∷ slice (c .heads) (c .unt) s ∷ trailerText v σ r t ∷ together (restPieces σ s (c .unt)) ∷ []
 
 -- or 14, where the text of VALUE can't be written
 abbrev pub wovenOr : Syntax → List ℕ → Layout → List ℕ → ℕ → List ℕ → Text
-wovenOr y s c r f t = cond (allPass (mayWrite y) t) (text (together (sealedPieces (y .service) s c r f t))) (noText (atZero 14))
+wovenOr y s c r f t = cond (allPass (mayWrite y) t) (text (together (sealedPieces (y .version) (y .service) s c r f t))) (noText (atZero 14))
 
 -- or 16, where its length is not allowed
 abbrev pub sizedOr : Syntax → List ℕ → Layout → List ℕ → ℕ → List ℕ → Text
-sizedOr y s c r f v = cond (lengthRight f v) (wovenOr y s c r f (textBy f v)) (noText (atZero 16))
+sizedOr y s c r f v = cond (lengthRight (y .version) f v) (wovenOr y s c r f (textBy f v)) (noText (atZero 16))

@@ -50,8 +50,8 @@ use Rattle.writing.specs.Laid.{together}
 use Rattle.groups.specs.Stand.{Stand}
 use Rattle.groups.specs.StandLaws.{list-join, print-append, stand-front, stand-back, stand-asked, stand-slice}
 use Rattle.groups.specs.PartsLaws.{body-stands}
-use Rattle.groups.specs.Calls.{serviceIn, messageIn, Holds}
-use Rattle.groups.specs.CallsLaws.{placed-every}
+use Rattle.groups.specs.Calls.{serviceIn, versionIn, messageIn, Holds}
+use Rattle.groups.specs.CallsLaws.{placed-every, version-so}
 use Rattle.weaving.specs.Seals.{single, newHeader, newTrailer, grown, sealedMessage, sealedIn, sealed, signedText, sealedText}
 use Rattle.weaving.specs.Woven.{headerText, trailerText, countBy, countAt, endBy, countEnd, restPieces, octetsPieces, sealedPieces}
 use Rattle.weaving.specs.PiecesLaws.{segment-print, single-print}
@@ -268,17 +268,17 @@ unt-digits s m (interchange n u ms z) o k q e named =
     (every-joined (formedS y) showMessage ms (every-right (formedS y) (nil ▷ seg Unb u) (grammar.joined showMessage ms) (v .0 .elements .0))) in
     unt-formed (y .version) k (w .1)
 
-module _ (s m : List ℕ) {σ : Service} {c : Layout} {rows : List ℕ} (r : List ℕ) (f : ℕ) (t : List ℕ) where
-  woven-by : (i : Interchange) (o : Open) (k : Leaf) (q : ℕ) → verdictOf s ≡ accepted i → serviceIn i ≡ σ → T (fit σ)
+module _ (s m : List ℕ) {ν : Version} {σ : Service} {c : Layout} {rows : List ℕ} (r : List ℕ) (f : ℕ) (t : List ℕ) where
+  woven-by : (i : Interchange) (o : Open) (k : Leaf) (q : ℕ) → verdictOf s ≡ accepted i → serviceIn i ≡ σ → versionIn i ≡ ν → T (fit σ)
       → messageIn i m ≡ some (placed (message o k) q) → PartsLie σ s q o k c rows → Stand σ s q (showMessage (message o k))
-      → together (sealedPieces σ s c r f t) ≡ sealedText i m r f t
+      → together (sealedPieces ν σ s c r f t) ≡ sealedText i m r f t
   unfolding headerText trailerText
-  woven-by i o [] q e d fits named laid st = absurd (false≢true (unt-digits s m i o [] q e named))
-  woven-by (interchange n u ms z) (msg a hs b ts) (x ∷ es) q e d fits named laid st =
+  woven-by i o [] q e d j fits named laid st = absurd (false≢true (unt-digits s m i o [] q e named))
+  woven-by (interchange n u ms z) (msg a hs b ts) (x ∷ es) q e d j fits named laid st =
       let i : Interchange = interchange n u ms z in
       let M : Message = message (msg a hs b ts) (x ∷ es) in
       let h : Header = newHeader r f in
-      let g : Trailer = newTrailer σ r t in
+      let g : Trailer = newTrailer ν σ r t in
       let v = verdict-exact s i .0 e in
       let w : Around σ (openingIn n .at) u h g (compared m) ms M q = around σ (openingIn n .at) u h g (compared m) ms (ap (λ (τ : Service). placedIn τ (openingIn n .at) u ms (compared m)) (sym d) ∙ named) in
       let us : Stand σ s (q + wide σ (showOpen (msg a hs b ts))) (nil ▷ seg Unt (x ∷ es)) = stand-back σ s q (showOpen (msg a hs b ts)) (nil ▷ seg Unt (x ∷ es)) st in
@@ -304,7 +304,8 @@ module _ (s m : List ℕ) {σ : Service} {c : Layout} {rows : List ℕ} (r : Lis
       let gs : printS σ (seg Unt (grown (x ∷ es))) ≡ U ++ (N ++ R) =
       grown-print σ s (c .unt) fits x es (decimalOf (number (x ∷ es) 1 + 4)) ∙ ap (λ (l : List ℕ). U ++ (l ++ R)) count in
       let out : sealedText i m r f t ≡ P ++ (I ++ W) ++ (H ++ (B ++ (G ++ (U ++ (N ++ (R ++ D)))))) =
-      ap (λ (τ : Service). P ++ print τ (list (shown (done u (sealedIn h (newTrailer τ r t) ms (compared m)) z)))) d
+      ap (λ (v : Version). P ++ print (serviceIn i) (list (shown (done u (sealedIn h (newTrailer v (serviceIn i) r t) ms (compared m)) z)))) j
+      ∙ ap (λ (τ : Service). P ++ print τ (list (shown (done u (sealedIn h (newTrailer ν τ r t) ms (compared m)) z)))) d
       ∙ ap (λ (l : Snoc Message). P ++ print σ (list (shown (done u l z)))) (w .becomes)
       ∙ ap (λ (l : List ℕ). P ++ l) (whole-print σ u (w .before) (sealedMessage h g M) (w .after) z)
       ∙ ap (λ (l : List ℕ). P ++ (I ++ (l ++ D))) (sealed-print σ h g a hs b ts (x ∷ es) ∙ ap (λ (l : List ℕ). W ++ (H ++ (B ++ (G ++ l)))) gs)
@@ -319,8 +320,8 @@ module _ (s m : List ℕ) {σ : Service} {c : Layout} {rows : List ℕ} (r : Lis
 
 -- what the code lays is the printing of the sealed interchange
 pub woven : {s m : List ℕ} {y : Syntax} {c : Layout} {rows : List ℕ} (h : Holds s m y c rows) (r : List ℕ) (f : ℕ) (t : List ℕ)
-    → together (sealedPieces (y .service) s c r f t) ≡ sealedText (h .i) m r f t
-woven {s} {m} h r f t = woven-by s m r f t (h .i) (h .o) (h .t) (h .q) (h .read) (h .service) (h .fits) (h .named) (h .laid) (h .stands)
+    → together (sealedPieces (y .version) (y .service) s c r f t) ≡ sealedText (h .i) m r f t
+woven {s} {m} h r f t = woven-by s m r f t (h .i) (h .o) (h .t) (h .q) (h .read) (h .service) (version-so h) (h .fits) (h .named) (h .laid) (h .stands)
 
 -- and of the octets to be signed
 signed-by : {s : List ℕ} {σ : Service} {c : Layout} {rows : List ℕ} (r : List ℕ) (f : ℕ) (o : Open) (k : Leaf) (q : ℕ)

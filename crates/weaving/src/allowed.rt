@@ -1,20 +1,22 @@
 // What may be sealed, and under which reference: number 16.
 ghost use mathlib.Core.Path.{_≡_};
 ghost use mathlib.Core.List.{List};
-ghost use mathlib.Core.Bool.{true, cond, not, _&&_};
+ghost use mathlib.Core.Bool.{true, not, _&&_};
 ghost use Prim.Native.Nat.{ℕ, _≤_};
-ghost use lib.Dec.{T, eqb, ltb};
+ghost use lib.Dec.{T, ltb};
 ghost use lib.ListN.{length};
 ghost use Rattle.syntax.specs.Octets.{within, allPass};
 ghost use Rattle.syntax.specs.Repertoire.{tagOctet};
 ghost use Rattle.syntax.specs.Classes.{Table};
 ghost use Rattle.groups.specs.Calls.{Holds};
-ghost use Rattle.weaving.specs.Seals.{refRight, filterRight, isNew, maySeal};
+ghost use Rattle.weaving.specs.Seals.{refRight, filterRight, isNew, maySeal, mostOctets};
 use groups::named::Sought;
 use groups::named::group_named;
 use groups::named::headers_of;
 use syntax::Syntax;
+use syntax::Version;
 use syntax::cutting::tag_octet;
+use syntax::opening::is_earlier;
 use walk::sections::Layout;
 
 // A to Z and 0 to 9.
@@ -46,11 +48,15 @@ fn is_reference(reference: &[u8]) -> bool
     are_tag_octets(reference)
 }
 
-fn is_filter(filter: u64) -> bool
-    ensures { λ r. ⌜ r ≡ filterRight filter ⌝ }
+// F: 2, or 7 but in the earlier edition.
+fn is_filter(version: Version, filter: u64) -> bool
+    ensures { λ r. ⌜ r ≡ filterRight version filter ⌝ }
 {
     if filter == 2 {
         return true;
+    }
+    if is_earlier(version) {
+        return false;
     }
     filter == 7
 }
@@ -95,11 +101,12 @@ pub fn may_seal(
 ) -> bool
     requires { ⌜ Table y (now t) ⌝ }
     requires { ⌜ (c .headers ≤ 9) × (length (now rows) ≡ 18) ⌝ }
-    ensures { λ r. ⌜ ((m : List ℕ) (h : Holds (now (s .entry)) m y c (now (rows .entry))) → r ≡ maySeal (h .o) (now (reference .entry)) filter) ⌝ }
+    ensures { λ r. ⌜ ((m : List ℕ) (h : Holds (now (s .entry)) m y c (now (rows .entry))) → r ≡ maySeal (y .version) (h .o) (now (reference .entry)) filter) ⌝ }
     ensures { λ r. ⌜ (r ≡ true → length (now (reference .entry)) ≤ 14) ⌝ }
 {
+    let edition = y.version;
     if is_reference(reference) {
-        if is_filter(filter) {
+        if is_filter(edition, filter) {
             if has_room(c) {
                 return is_new(s, t, y, c, rows, reference);
             }
@@ -108,15 +115,24 @@ pub fn may_seal(
     false
 }
 
-// VALUE has 1 to 256 octets for F 2, 1 to 384 for F 7.
-pub fn is_value_length(filter: u64, n: usize) -> bool
-    ensures { λ r. ⌜ r ≡ within 1 (cond (eqb filter 2) 256 384) n ⌝ }
+// How long VALUE may be: 256 octets for F 2, 384 for F 7; in the earlier edition 128.
+fn most_octets(version: Version, filter: u64) -> usize
+    ensures { λ r. ⌜ r ≡ mostOctets version filter ⌝ }
+{
+    if is_earlier(version) {
+        return 128;
+    }
+    if filter == 2 {
+        return 256;
+    }
+    384
+}
+
+pub fn is_value_length(version: Version, filter: u64, n: usize) -> bool
+    ensures { λ r. ⌜ r ≡ within 1 (mostOctets version filter) n ⌝ }
 {
     if n == 0 {
         return false;
     }
-    if filter == 2 {
-        return n <= 256;
-    }
-    n <= 384
+    n <= most_octets(version, filter)
 }

@@ -23,8 +23,8 @@ enum-known-l c = search needs
 enum-known-n : tie.Need-enum-known-n
 enum-known-n c = search needs
 
-settle-requires : tie.Need-settle-requires
-settle-requires c κs = search needs
+named-requires : tie.Need-named-requires
+named-requires c κs = search needs
 
 enum-told : tie.Need-enum-told
 enum-told c = search needs
@@ -42,7 +42,7 @@ returns : tie.Need-returns
 returns c =
     let p = c .before .before .before .before .before .before .before in
     let a = p .before .before .before .before .before .before .args in
-    c .settle .ensures
+    c .named .ensures
     ∙ ap₂ (bothNamed (a .o)) (sym (c .before .before .before .before .before .l .given .1))
     (sym (c .before .before .n .given .1))
     ∙ named-by (a .s .now) (a .y .service) (a .o)
@@ -79,7 +79,7 @@ declared-spec =
     version-named-requires
     enum-known-l
     enum-known-n
-    settle-requires
+    named-requires
     enum-told
     unb-refused-requires
     enum-told-2

@@ -46,17 +46,42 @@ returns-3 c =
       c .if3 .taken,
     )
 
+slice-aggregate-content-is-4 : tie.Need-slice-aggregate-content-is-4
+slice-aggregate-content-is-4 c = search needs
+
+content-is-requires-4 : tie.Need-content-is-requires-4
+content-is-requires-4 c κs = search needs
+
 returns-4 : tie.Need-returns-4
 returns-4 c =
-    let q = c .before .before .before in
+    let r = c .before .before .before in
+    let q = r .before .before .before in
     let p = q .before .before .before in
     rw (
       ← p .before .content-is .ensures,
       p .if1 .left,
       ← q .before .content-is2 .ensures,
       q .if2 .left,
-      ← c .before .content-is3 .ensures,
-      c .if3 .left,
+      ← r .before .content-is3 .ensures,
+      r .if3 .left,
+      ← c .before .content-is4 .ensures,
+      c .if4 .taken,
+    )
+
+returns-5 : tie.Need-returns-5
+returns-5 c =
+    let r = c .before .before .before in
+    let q = r .before .before .before in
+    let p = q .before .before .before in
+    rw (
+      ← p .before .content-is .ensures,
+      p .if1 .left,
+      ← q .before .content-is2 .ensures,
+      q .if2 .left,
+      ← r .before .content-is3 .ensures,
+      r .if3 .left,
+      ← c .before .content-is4 .ensures,
+      c .if4 .left,
     )
 
 pub level-named-spec : {M : Type 1} → statement M
@@ -72,4 +97,7 @@ level-named-spec =
     slice-aggregate-content-is-3
     content-is-requires-3
     returns-3
-    returns-4)
+    slice-aggregate-content-is-4
+    content-is-requires-4
+    returns-4
+    returns-5)

@@ -27,14 +27,36 @@ returns-2 c =
       c .if2 .taken,
     )
 
+slice-aggregate-content-is-3 : tie.Need-slice-aggregate-content-is-3
+slice-aggregate-content-is-3 c = search needs
+
+content-is-requires-3 : tie.Need-content-is-requires-3
+content-is-requires-3 c κs = search needs
+
 returns-3 : tie.Need-returns-3
 returns-3 c =
-    let p = c .before .before .before in
+    let q = c .before .before .before in
+    let p = q .before .before .before in
     rw (
       ← p .before .content-is .ensures,
       p .if1 .left,
-      ← c .before .content-is2 .ensures,
-      c .if2 .left,
+      ← q .before .content-is2 .ensures,
+      q .if2 .left,
+      ← c .before .content-is3 .ensures,
+      c .if3 .taken,
+    )
+
+returns-4 : tie.Need-returns-4
+returns-4 c =
+    let q = c .before .before .before in
+    let p = q .before .before .before in
+    rw (
+      ← p .before .content-is .ensures,
+      p .if1 .left,
+      ← q .before .content-is2 .ensures,
+      q .if2 .left,
+      ← c .before .content-is3 .ensures,
+      c .if3 .left,
     )
 
 pub version-named-spec : {M : Type 1} → statement M
@@ -47,4 +69,7 @@ version-named-spec =
     slice-aggregate-content-is-2
     content-is-requires-2
     returns-2
-    returns-3)
+    slice-aggregate-content-is-3
+    content-is-requires-3
+    returns-3
+    returns-4)

@@ -12,31 +12,27 @@ use Rattle.groups.proofs.links.link_named.Reads as link-named-reads
 use Rattle.syntax.proofs.content.part.Reads as part-reads
 use Rattle.syntax.proofs.reading.component_part.Reads as component-part-reads
 
--- src/lib.rt:82:11
 link-named-requires : tie.Need-link-named-requires
 link-named-requires c κs = search needs
 
--- src/lib.rt:83:20
 enum-known-x : tie.Need-enum-known-x
 enum-known-x c = search needs
 
--- src/lib.rt:83:26
+value-part-requires : tie.Need-value-part-requires
+value-part-requires c κs = search needs
+
 component-part-requires : tie.Need-component-part-requires
 component-part-requires c κs = search needs
 
--- src/lib.rt:84:28
 enum-told : tie.Need-enum-told
 enum-told c = search needs
 
--- src/lib.rt:84:28
 part-requires : tie.Need-part-requires
 part-requires c κs = search needs
 
--- src/lib.rt:77:1
 returns : tie.Need-returns
-returns c = λ m rows h. link-at h (c .before .before .before .before .before .before .before .args .header .now) (c .before .before .before .before .link-named .ensures) (c .before .before .x .given .1) (c .component-part .ensures)
+returns c = λ m rows h. link-at h (c .before .before .before .before .before .before .before .before .args .header .now) (c .before .before .before .before .before .link-named .ensures) (c .before .before .before .x .given .1) (c .before .value-part .ensures) (c .component-part .ensures)
 
--- src/lib.rt:77:1
 returns-2 : tie.Need-returns-2
 returns-2 c = λ m rows h. link-none h (c .before .before .before .before .before .before .args .header .now) (c .before .before .before .link-named .ensures) (c .before .enum-told .given .1) (c .part .ensures)
 
@@ -46,6 +42,7 @@ link-text-spec =
     (tie.spec
     link-named-requires
     enum-known-x
+    value-part-requires
     component-part-requires
     enum-told
     part-requires

@@ -11,7 +11,6 @@ use Rattle.values.proofs.value_in.Statement.{statement}
 use Rattle.values.proofs.value_in.Tie as tie
 use Rattle.values.proofs.value_in.Reads as reads
 use Rattle.values.proofs.value_in.Lts as lts
-use Rattle.filters.proofs.value.value_of.Reads as value-of-reads
 use Rattle.groups.proofs.named.group_named.Reads as group-named-reads
 use Rattle.groups.proofs.named.headers_of.Reads as headers-of-reads
 use Rattle.syntax.proofs.reading.component_part.Reads as component-part-reads

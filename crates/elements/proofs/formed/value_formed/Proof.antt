@@ -1,21 +1,21 @@
-use Rattle.grammar.specs.Elements.{anyText}
-use Rattle.elements.specs.Octets.{askedAt}
-use Rattle.elements.specs.FormedLaws.{more-go, more-stop}
 use borrow.Author.Needs.{needs}
 use Rattle.elements.proofs.formed.value_formed.Statement.{statement}
 use Rattle.elements.proofs.formed.value_formed.Tie as tie
 
+is-earlier-requires : tie.Need-is-earlier-requires
+is-earlier-requires c κs = search needs
+
 composite-requires : tie.Need-composite-requires
 composite-requires c κs = search needs
 
-text-requires : tie.Need-text-requires
-text-requires c κs = search needs
-
 returns : tie.Need-returns
-returns c = more-go (askedAt (c .before .before .before .before .before .args .y .service) (c .before .before .before .before .before .args .s .now) (c .before .before .before .before .before .args .at)) (c .before .before .before .before .before .args .p) (anyText 1 3) (c .before .before .composite .ensures) (anyText 0 512) (c .before .if1 .taken) (c .text .ensures)
+returns c = rw (← c .before .before .is-earlier .ensures, c .before .if1 .taken) (c .composite .ensures)
+
+qualified-formed-requires : tie.Need-qualified-formed-requires
+qualified-formed-requires c κs = search needs
 
 returns-2 : tie.Need-returns-2
-returns-2 c = more-stop (askedAt (c .before .before .before .before .args .y .service) (c .before .before .before .before .args .s .now) (c .before .before .before .before .args .at)) (c .before .before .before .before .args .p) (anyText 1 3) (c .before .composite .ensures) (anyText 0 512) (c .if1 .left)
+returns-2 c = rw (← c .before .before .is-earlier .ensures, c .before .if1 .left) (c .qualified-formed .ensures)
 
 pub value-formed-spec : {M : Type 1} → statement M
-value-formed-spec = tie.close (tie.spec composite-requires text-requires returns returns-2)
+value-formed-spec = tie.close (tie.spec is-earlier-requires composite-requires returns qualified-formed-requires returns-2)

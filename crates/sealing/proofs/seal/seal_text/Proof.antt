@@ -23,7 +23,7 @@ slice-aggregate-filter-text c = search needs
 
 -- src/seal.rt:213:9
 filter-text-requires : tie.Need-filter-text-requires
-filter-text-requires c κs = (text-fits (c .before .before .before .before .before .args .filter) (c .before .before .before .before .before .args .value .now) (c .before .before .before .before .before .pre .1 .3)) .0
+filter-text-requires c κs = (text-fits (c .before .before .before .before .before .args .y .version) (c .before .before .before .before .before .args .filter) (c .before .before .before .before .before .args .value .now) (c .before .before .before .before .before .pre .1 .3)) .0
 
 -- src/seal.rt:214:24
 slice-aggregate-part : tie.Need-slice-aggregate-part
@@ -39,7 +39,7 @@ is-writable-requires c κs = search needs
 
 -- src/seal.rt:216:9
 write-sealed-requires : tie.Need-write-sealed-requires
-write-sealed-requires c κs = let t = (text-fits (c .before .before .before .before .before .before .before .before .before .before .before .before .args .filter) (c .before .before .before .before .before .before .before .before .before .before .before .before .args .value .now) (c .before .before .before .before .before .before .before .before .before .before .before .before .pre .1 .3)) in let e = ap length (text-laid (textBy (c .before .before .before .before .before .before .before .before .before .before .before .before .args .filter) (c .before .before .before .before .before .before .before .before .before .before .before .before .args .value .now)) (c .before .before .before .before .before .before .filter-text .ensures) refl ((text-fits (c .before .before .before .before .before .before .before .before .before .before .before .before .args .filter) (c .before .before .before .before .before .before .before .before .before .before .before .before .args .value .now) (c .before .before .before .before .before .before .before .before .before .before .before .before .pre .1 .3)) .1) (c .before .before .before .part .ensures)) in (c .before .before .before .before .before .before .before .before .before .before .before .before .pre .0, (c .before .before .before .before .before .before .before .before .before .before .before .before .pre .1 .0, c .before .before .before .before .before .before .before .before .before .before .before .before .pre .1 .1, c .before .before .before .before .before .before .before .before .before .before .before .before .pre .1 .2, omega (arith, e, t .1)))
+write-sealed-requires c κs = let t = (text-fits (c .before .before .before .before .before .before .before .before .before .before .before .before .args .y .version) (c .before .before .before .before .before .before .before .before .before .before .before .before .args .filter) (c .before .before .before .before .before .before .before .before .before .before .before .before .args .value .now) (c .before .before .before .before .before .before .before .before .before .before .before .before .pre .1 .3)) in let e = ap length (text-laid (textBy (c .before .before .before .before .before .before .before .before .before .before .before .before .args .filter) (c .before .before .before .before .before .before .before .before .before .before .before .before .args .value .now)) (c .before .before .before .before .before .before .filter-text .ensures) refl ((text-fits (c .before .before .before .before .before .before .before .before .before .before .before .before .args .y .version) (c .before .before .before .before .before .before .before .before .before .before .before .before .args .filter) (c .before .before .before .before .before .before .before .before .before .before .before .before .args .value .now) (c .before .before .before .before .before .before .before .before .before .before .before .before .pre .1 .3)) .1) (c .before .before .before .part .ensures)) in (c .before .before .before .before .before .before .before .before .before .before .before .before .pre .0, (c .before .before .before .before .before .before .before .before .before .before .before .before .pre .1 .0, c .before .before .before .before .before .before .before .before .before .before .before .before .pre .1 .1, c .before .before .before .before .before .before .before .before .before .before .before .before .pre .1 .2, omega (arith, e, t .1)))
 
 -- src/seal.rt:216:9
 same-length : tie.Need-same-length
@@ -47,7 +47,7 @@ same-length c = search needs
 
 -- src/seal.rt:216:9
 returns : tie.Need-returns
-returns c = woven-writes (c .before .before .before .before .before .before .before .before .before .before .before .before .before .before .before .args .y) (c .before .before .before .before .before .before .before .before .before .before .before .before .before .before .before .args .s .now) (c .before .before .before .before .before .before .before .before .before .before .before .before .before .before .before .args .c) (c .before .before .before .before .before .before .before .before .before .before .before .before .before .before .before .args .reference .now) (c .before .before .before .before .before .before .before .before .before .before .before .before .before .before .before .args .filter) (text-laid (textBy (c .before .before .before .before .before .before .before .before .before .before .before .before .before .before .before .args .filter) (c .before .before .before .before .before .before .before .before .before .before .before .before .before .before .before .args .value .now)) (c .before .before .before .before .before .before .before .before .before .filter-text .ensures) refl ((text-fits (c .before .before .before .before .before .before .before .before .before .before .before .before .before .before .before .args .filter) (c .before .before .before .before .before .before .before .before .before .before .before .before .before .before .before .args .value .now) (c .before .before .before .before .before .before .before .before .before .before .before .before .before .before .before .pre .1 .3)) .1) (c .before .before .before .before .before .before .part .ensures)) (c .before .before .before .before .before .is-writable .ensures) (c .before .before .before .before .if1 .taken) (c .before .before .write-sealed .ensures)
+returns c = woven-writes (c .before .before .before .before .before .before .before .before .before .before .before .before .before .before .before .args .y) (c .before .before .before .before .before .before .before .before .before .before .before .before .before .before .before .args .s .now) (c .before .before .before .before .before .before .before .before .before .before .before .before .before .before .before .args .c) (c .before .before .before .before .before .before .before .before .before .before .before .before .before .before .before .args .reference .now) (c .before .before .before .before .before .before .before .before .before .before .before .before .before .before .before .args .filter) (text-laid (textBy (c .before .before .before .before .before .before .before .before .before .before .before .before .before .before .before .args .filter) (c .before .before .before .before .before .before .before .before .before .before .before .before .before .before .before .args .value .now)) (c .before .before .before .before .before .before .before .before .before .filter-text .ensures) refl ((text-fits (c .before .before .before .before .before .before .before .before .before .before .before .before .before .before .before .args .y .version) (c .before .before .before .before .before .before .before .before .before .before .before .before .before .before .before .args .filter) (c .before .before .before .before .before .before .before .before .before .before .before .before .before .before .before .args .value .now) (c .before .before .before .before .before .before .before .before .before .before .before .before .before .before .before .pre .1 .3)) .1) (c .before .before .before .before .before .before .part .ensures)) (c .before .before .before .before .before .is-writable .ensures) (c .before .before .before .before .if1 .taken) (c .before .before .write-sealed .ensures)
 
 -- src/seal.rt:218:5
 refused-requires : tie.Need-refused-requires
@@ -55,7 +55,7 @@ refused-requires c κs = search needs
 
 -- src/seal.rt:198:1
 returns-2 : tie.Need-returns-2
-returns-2 c = woven-barred (c .before .before .before .before .before .before .before .before .before .before .before .before .args .y) (c .before .before .before .before .before .before .before .before .before .before .before .before .args .s .now) (c .before .before .before .before .before .before .before .before .before .before .before .before .args .c) (c .before .before .before .before .before .before .before .before .before .before .before .before .args .reference .now) (c .before .before .before .before .before .before .before .before .before .before .before .before .args .filter) (text-laid (textBy (c .before .before .before .before .before .before .before .before .before .before .before .before .args .filter) (c .before .before .before .before .before .before .before .before .before .before .before .before .args .value .now)) (c .before .before .before .before .before .before .filter-text .ensures) refl ((text-fits (c .before .before .before .before .before .before .before .before .before .before .before .before .args .filter) (c .before .before .before .before .before .before .before .before .before .before .before .before .args .value .now) (c .before .before .before .before .before .before .before .before .before .before .before .before .pre .1 .3)) .1) (c .before .before .before .part .ensures)) (c .before .before .is-writable .ensures) (c .before .if1 .left) (writes-none (c .refused .ensures))
+returns-2 c = woven-barred (c .before .before .before .before .before .before .before .before .before .before .before .before .args .y) (c .before .before .before .before .before .before .before .before .before .before .before .before .args .s .now) (c .before .before .before .before .before .before .before .before .before .before .before .before .args .c) (c .before .before .before .before .before .before .before .before .before .before .before .before .args .reference .now) (c .before .before .before .before .before .before .before .before .before .before .before .before .args .filter) (text-laid (textBy (c .before .before .before .before .before .before .before .before .before .before .before .before .args .filter) (c .before .before .before .before .before .before .before .before .before .before .before .before .args .value .now)) (c .before .before .before .before .before .before .filter-text .ensures) refl ((text-fits (c .before .before .before .before .before .before .before .before .before .before .before .before .args .y .version) (c .before .before .before .before .before .before .before .before .before .before .before .before .args .filter) (c .before .before .before .before .before .before .before .before .before .before .before .before .args .value .now) (c .before .before .before .before .before .before .before .before .before .before .before .before .pre .1 .3)) .1) (c .before .before .before .part .ensures)) (c .before .before .is-writable .ensures) (c .before .if1 .left) (writes-none (c .refused .ensures))
 
 pub seal-text-spec : {M : Type 1} → statement M
 seal-text-spec =

@@ -4,7 +4,7 @@ use mathlib.Core.Path.{refl}
 use borrow.Author.Needs.{needs}
 use Rattle.syntax.specs.Repertoire.{inside}
 use Rattle.syntax.specs.RepertoireLaws.{stretch-of}
-use Rattle.syntax.specs.declared.Level.the-variants.{A, B, C}
+use Rattle.syntax.specs.declared.Level.the-variants.{A, B, C, D}
 use Rattle.syntax.proofs.repertoire.is_inside.Statement.{statement}
 use Rattle.syntax.proofs.repertoire.is_inside.Tie as tie
 use Rattle.syntax.proofs.repertoire.is_inside.Reads as reads
@@ -21,6 +21,9 @@ enum-told-2 c = search needs
 -- src/repertoire.rt:49:21
 enum-told-3 : tie.Need-enum-told-3
 enum-told-3 c = search needs
+
+enum-told-4 : tie.Need-enum-told-4
+enum-told-4 c = search needs
 
 -- src/repertoire.rt:25:1
 returns : tie.Need-returns
@@ -142,6 +145,22 @@ returns-24 : tie.Need-returns-24
 unfolding inside
 returns-24 c = stretch-of C false 127 33 refl (c .before .before .before .enum-told3 .given .1) (omega arith) (omega arith)
 
+returns-25 : tie.Need-returns-25
+unfolding inside
+returns-25 c = stretch-of D true 32 95 refl (c .before .before .enum-told4 .given .1) (omega arith) (omega arith)
+
+returns-26 : tie.Need-returns-26
+unfolding inside
+returns-26 c = stretch-of D true 160 96 refl (c .before .before .before .enum-told4 .given .1) (omega arith) (omega arith)
+
+returns-27 : tie.Need-returns-27
+unfolding inside
+returns-27 c = stretch-of D false 0 32 refl (c .before .enum-told4 .given .1) (omega arith) (omega arith)
+
+returns-28 : tie.Need-returns-28
+unfolding inside
+returns-28 c = stretch-of D false 127 33 refl (c .before .before .before .enum-told4 .given .1) (omega arith) (omega arith)
+
 pub is-inside-spec : {M : Type 1} → statement M
 is-inside-spec =
     tie.close
@@ -149,6 +168,7 @@ is-inside-spec =
     enum-told
     enum-told-2
     enum-told-3
+    enum-told-4
     returns
     returns-2
     returns-3
@@ -172,4 +192,8 @@ is-inside-spec =
     returns-21
     returns-22
     returns-23
-    returns-24)
+    returns-24
+    returns-25
+    returns-26
+    returns-27
+    returns-28)

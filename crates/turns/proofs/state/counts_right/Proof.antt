@@ -15,17 +15,17 @@ wide-requires c κs = search needs
 returns : tie.Need-returns
 returns c = counts-wrong (c .before .before .before .number-in .ensures .0) (c .before .wide .ensures) _ (c .if1 .taken)
 
-pairs-right-requires : tie.Need-pairs-right-requires
-pairs-right-requires c κs = search needs
+pairs-counted-requires : tie.Need-pairs-counted-requires
+pairs-counted-requires c κs = search needs
 
 returns-2 : tie.Need-returns-2
-returns-2 c = counts-pairs-wrong (c .before .before .before .before .before .number-in .ensures .0) (c .before .before .before .wide .ensures) (c .before .before .if1 .left) (c .before .pairs-right .ensures) _ (c .if2 .taken)
+returns-2 c = counts-pairs-wrong (c .before .before .before .before .before .number-in .ensures .0) (c .before .before .before .wide .ensures) (c .before .before .if1 .left) (c .before .pairs-counted .ensures) _ (c .if2 .taken)
 
 totals-right-requires : tie.Need-totals-right-requires
 totals-right-requires c κs = search needs
 
 returns-3 : tie.Need-returns-3
-returns-3 c = counts-pairs-right (c .before .before .before .before .before .before .number-in .ensures .0) (c .before .before .before .before .wide .ensures) (c .before .before .before .if1 .left) (c .before .before .pairs-right .ensures) (c .before .if2 .left) (c .totals-right .ensures)
+returns-3 c = counts-pairs-right (c .before .before .before .before .before .before .number-in .ensures .0) (c .before .before .before .before .wide .ensures) (c .before .before .before .if1 .left) (c .before .before .pairs-counted .ensures) (c .before .if2 .left) (c .totals-right .ensures)
 
 pub counts-right-spec : {M : Type 1} → statement M
 counts-right-spec =
@@ -35,7 +35,7 @@ counts-right-spec =
     add-wide
     wide-requires
     returns
-    pairs-right-requires
+    pairs-counted-requires
     returns-2
     totals-right-requires
     returns-3)

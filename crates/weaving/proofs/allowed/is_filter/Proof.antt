@@ -1,17 +1,21 @@
 use borrow.Author.Needs.{needs}
-use Rattle.weaving.specs.AllowedLaws.{filter-two, filter-by}
+use Rattle.weaving.specs.AllowedLaws.{filter-two, filter-early, filter-late}
 use Rattle.weaving.proofs.allowed.is_filter.Statement.{statement}
 use Rattle.weaving.proofs.allowed.is_filter.Tie as tie
-use Rattle.weaving.proofs.allowed.is_filter.Reads as reads
-use Rattle.weaving.proofs.allowed.is_filter.Lts as lts
 
--- src/allowed.rt:67:9
 returns : tie.Need-returns
 returns c = search (filter-two, needs)
 
--- src/allowed.rt:63:1
+is-earlier-requires : tie.Need-is-earlier-requires
+is-earlier-requires c κs = search needs
+
 returns-2 : tie.Need-returns-2
-returns-2 c = search (filter-by, needs)
+returns-2 c = search (filter-early, needs)
+
+returns-3 : tie.Need-returns-3
+returns-3 c = search (filter-late, needs)
 
 pub is-filter-spec : {M : Type 1} → statement M
-is-filter-spec = tie.close (tie.spec returns returns-2)
+is-filter-spec =
+    tie.close
+    (tie.spec returns is-earlier-requires returns-2 returns-3)

@@ -8,32 +8,47 @@ use mathlib.Core.Option.{Option, none, some}
 use lib.Dec.{eqb}
 use lib.ListN.{length}
 use Rattle.syntax.specs.Octets.{octets, same}
+use Rattle.syntax.specs.Opening.{earlier}
+use Rattle.syntax.specs.declared.Version.{Version}
 use Rattle.writing.specs.Laid.{Laid}
 use Rattle.writing.specs.Written.{refusedAs, tooLong, Writes}
 use Rattle.writing.specs.WrittenLaws.{writes-none, writes-over, writes-fit}
 use Rattle.writing.specs.declared.Written.{Written}
 use Rattle.writing.specs.declared.Written.the-variants.{Length as Wrote}
 use Rattle.filters.specs.Hex.{hexValue}
 use Rattle.filters.specs.Six.{sixValue}
-use Rattle.filters.specs.Filters.{valueBy, orBad}
+use Rattle.edc.specs.Edc.{edcValue}
+use Rattle.values.specs.Filters.{otherValue, valueBy, orBad}
 use Rattle.filters.specs.Decoding.{Decodes}
 use Rattle.filters.specs.declared.Decoded.{Decoded}
 use Rattle.filters.specs.declared.Decoded.the-variants.{Length, Bad}
 
-module _ (code t : List ℕ) {b : Bool} {out out′ : List ℕ} (e : b ≡ eqb (length t) 0) where
-  pub value-empty : b ≡ true → Decodes (valueBy code t) out 0 Bad out′
+module _ (v : Version) (code t : List ℕ) {b : Bool} {out out′ : List ℕ} (e : b ≡ eqb (length t) 0) where
+  pub value-empty : b ≡ true → Decodes (valueBy v code t) out 0 Bad out′
   value-empty z = record { is = rw (← e, z) }
 
   module _ {h : Bool} (z : b ≡ false) (f : h ≡ same code (octets "2")) where
-    pub value-hex : {r : Decoded} → h ≡ true → Decodes (hexValue t) out 0 r out′ → Decodes (valueBy code t) out 0 r out′
+    pub value-hex : {r : Decoded} → h ≡ true → Decodes (hexValue t) out 0 r out′ → Decodes (valueBy v code t) out 0 r out′
     value-hex y g = rw (← e, z, ← f, y) g
 
-    module _ {s : Bool} (y : h ≡ false) (k : s ≡ same code (octets "7")) where
-      pub value-six : {r : Decoded} → s ≡ true → Decodes (sixValue t) out 0 r out′ → Decodes (valueBy code t) out 0 r out′
-      value-six w g = rw (← e, z, ← f, y, ← k, w) g
+    pub value-other : {r : Decoded} → h ≡ false → Decodes (otherValue v code t) out 0 r out′ → Decodes (valueBy v code t) out 0 r out′
+    value-other y g = rw (← e, z, ← f, y) g
 
-      pub value-none : s ≡ false → Decodes (valueBy code t) out 0 Bad out′
-      value-none w = record { is = rw (← e, z, ← f, y, ← k, w) }
+-- the filter beside hex, by the edition
+module _ (v : Version) (code t : List ℕ) {b : Bool} {out out′ : List ℕ} (e : b ≡ earlier v) where
+  module _ (z : b ≡ true) {s : Bool} (k : s ≡ same code (octets "6")) where
+    pub other-edc : {r : Decoded} → s ≡ true → Decodes (edcValue t) out 0 r out′ → Decodes (otherValue v code t) out 0 r out′
+    other-edc w g = rw (← e, z, ← k, w) g
+
+    pub other-early : s ≡ false → Decodes (otherValue v code t) out 0 Bad out′
+    other-early w = record { is = rw (← e, z, ← k, w) }
+
+  module _ (z : b ≡ false) {s : Bool} (k : s ≡ same code (octets "7")) where
+    pub other-six : {r : Decoded} → s ≡ true → Decodes (sixValue t) out 0 r out′ → Decodes (otherValue v code t) out 0 r out′
+    other-six w g = rw (← e, z, ← k, w) g
+
+    pub other-late : s ≡ false → Decodes (otherValue v code t) out 0 Bad out′
+    other-late w = record { is = rw (← e, z, ← k, w) }
 
 -- ---- read into no room first
 
