@@ -1,4 +1,4 @@
-// calls DELIVERIES AUTACK    times every exported call on the delivery file, against the plain judge on the same octets, in this one process
+// calls DELIVERIES AUTACK GS1    times every exported call on the delivery file, against the plain judge on the same octets, in this one process
 #include <stdint.h>
 #include <stdio.h>
 #include <stdlib.h>
@@ -9,8 +9,8 @@
 uint64_t plain_judge(const uint8_t *s, size_t n);
 
 enum { ROUNDS = 21, ROOM = 1 << 17 };
-static uint8_t octets[ROOM], autack[ROOM], out[ROOM], reg[ROOM];
-static size_t size, autack_size, reg_size;
+static uint8_t octets[ROOM], autack[ROOM], gs1[ROOM], out[ROOM], reg[ROOM];
+static size_t size, autack_size, gs1_size, reg_size;
 static uint64_t sink;
 
 #define TEXT(t) (const uint8_t *)(t), sizeof(t) - 1
@@ -21,6 +21,7 @@ static uint64_t totals(void) { return gurandepi_totals(octets, size, TEXT("M8"))
 static uint64_t scope1(void) { return gurandepi_scope1(octets, size, TEXT("M8"), TEXT("A8")).number; }
 static uint64_t scope2(void) { return gurandepi_scope2(octets, size, TEXT("M8"), TEXT("B8")).number; }
 static uint64_t f01(void) { return gurandepi_f01(autack, autack_size, octets, size, TEXT("K1"), TEXT("F1")).number; }
+static uint64_t scope3(void) { return gurandepi_scope3(gs1, gs1_size, octets, size, TEXT("K1"), TEXT("G1")).number; }
 static uint64_t value(void) { return gurandepi_value(octets, size, TEXT("M8"), TEXT("A8"), out, ROOM).number; }
 static uint64_t seal_octets(void) { return gurandepi_seal_octets(octets, size, TEXT("M8"), TEXT("C8"), 2, out, ROOM).number; }
 static uint64_t seal(void) { return gurandepi_seal(octets, size, TEXT("M8"), TEXT("C8"), 2, octets, 256, out, ROOM).number; }
@@ -57,13 +58,14 @@ static size_t read_file(const char *path, uint8_t *into) {
 }
 
 int main(int argc, char **argv) {
-    if (argc != 3) return 2;
+    if (argc != 4) return 2;
     size = read_file(argv[1], octets);
     autack_size = read_file(argv[2], autack);
+    gs1_size = read_file(argv[3], gs1);
     reg_size = gurandepi_register_write(octets, size, reg, ROOM).length;
     static const struct { const char *name; uint64_t (*call)(void); } calls[] = {
-        {"judge", judge}, {"totals", totals}, {"scope1", scope1}, {"scope2", scope2}, {"f01", f01}, {"value", value},
-        {"seal_octets", seal_octets}, {"seal", seal}, {"register_write", register_write}, {"register_check", register_check}};
+        {"judge", judge}, {"totals", totals}, {"scope1", scope1}, {"scope2", scope2}, {"f01", f01}, {"scope3", scope3},
+        {"value", value}, {"seal_octets", seal_octets}, {"seal", seal}, {"register_write", register_write}, {"register_check", register_check}};
     printf("%-16s %10s %10s %8s   on %zu octets\n", "call", "ns/octet", "plain", "ratio", size);
     for (size_t k = 0; k < sizeof calls / sizeof *calls; k++) {
         uint64_t number = calls[k].call();

@@ -24,9 +24,10 @@ typedef struct {
     unsigned elements;
     bool repeats;
     size_t bad;    // first octet outside the repertoire, or n
+    size_t behind; // the place behind its tag
     // the message now open
     enum group group;
-    bool autack, usr, any, filled, uneven, controlled, differs;
+    bool autack, gs1, usr, any, filled, uneven, controlled, differs;
     unsigned usas, certificates, segments, headers, own;
     header h[HEADERS];
     header *named;
@@ -152,6 +153,40 @@ static size_t split(judge *j, size_t i) {
     return n;
 }
 
+// Component c of element e, from 0, however far behind in the segment, and in x how many components that element has and whether it repeats.
+static text far(judge *j, unsigned e, unsigned c, element *x) {
+    text found = {j->s, 0};
+    size_t start = j->behind + 1;
+    bool releases = false;
+    unsigned k = 0;
+    x->parts = 0, x->repeats = false;
+    if (j->s[j->behind] == j->end) return found;
+    for (size_t i = start;; i++) {
+        uint8_t class = j->class[j->s[i]];
+        if (class == DATA) continue;
+        if (class == RELEASE) {
+            releases = true;
+            i++;
+            continue;
+        }
+        if (k == e && !x->repeats && x->parts++ == c) found = content(j, start, i, releases);
+        releases = false;
+        start = i + 1;
+        if (k == e && class == REPETITION) x->repeats = true;
+        if (class == COMPONENT || class == REPETITION) continue;
+        if (k == e || class == END) return found;
+        k++;
+    }
+}
+
+// Whether element e, from 0, is there, not repeated and of one component; of a reference spaces do not count.
+static bool there(judge *j, unsigned e, bool spaces) {
+    element x;
+    text t = far(j, e, 0, &x);
+    while (!spaces && t.n > 0 && t.p[t.n - 1] == ' ') t.n--;
+    return t.n > 0 && !x.repeats && x.parts == 1;
+}
+
 // Component c of element e, from 0; empty if it is not there.
 static text at(const judge *j, unsigned e, unsigned c) {
     return c < j->e[e].parts ? j->e[e].part[c] : (text){j->s, 0};
@@ -253,6 +288,9 @@ static bool in_heads(const judge *j) { return j->group >= OPENED && j->group <= 
 static bool may_close(const judge *j) { return !j->autack || j->group == TRAILER || (j->group == ACK && j->filled); }
 static bool even(const judge *j) { return j->version == 2 || j->named == NULL || j->claim == j->named->segments + j->own; }
 
+// In the GS1 subset each header has a USC.
+static bool uncertified(const judge *j) { return j->gs1 && j->group == HEADER; }
+
 static int on_unh(judge *j) {
     if (j->group != IDLE) return 7;
     if (!named(j, 0, 14) || !composite(j, 1, 1, 6)) return 8;
@@ -260,6 +298,8 @@ static int on_unh(judge *j) {
     if (!use(j, j->unh)) return 9;
     j->group = OPENED;
     j->autack = IS(at(j, 1, 0), "AUTACK");
+    element x;
+    j->gs1 = j->autack && IS(far(j, 1, 4, &x), "EAN001");
     j->segments = 1;
     j->headers = 0;
     j->named = NULL;
@@ -288,11 +328,11 @@ static int on_unz(judge *j) {
 }
 
 static int on_ush(judge *j) {
-    if (!in_heads(j) || j->headers == HEADERS) return 7;
+    if (!in_heads(j) || uncertified(j) || j->headers == HEADERS) return 7;
     if (!single(j, 0, 1, 3) || !named(j, 1, 14) || !single(j, 2, 1, 3) || !single(j, 3, 0, 3) || !single(j, 4, 0, 3)) return 8;
     text ref = reference(j, 1), scope = at(j, 2, 0);
     if (find(j, ref)) return 9;
-    if (j->autack ? !IS(scope, "F01") : !IS(scope, "1") && !IS(scope, "2")) return 11;
+    if (j->gs1 ? !IS(scope, "3") : j->autack ? !IS(scope, "F01") : !IS(scope, "1") && !IS(scope, "2")) return 11;
     j->h[j->headers++] = (header){ref, 1, false};
     j->group = HEADER;
     j->usas = 0;
@@ -309,6 +349,7 @@ static int on_usa(judge *j) {
 
 static int on_usc(judge *j) {
     if ((j->group != HEADER && j->group != CERTIFICATE) || j->certificates++ == 2) return 7;
+    if (j->gs1 && !there(j, 0, true)) return 8;
     j->group = CERTIFICATE;
     j->usas = 0;
     j->usr = false;
@@ -342,8 +383,9 @@ static int on_ust(judge *j) {
 }
 
 static int on_usb(judge *j) {
-    if (!in_heads(j) || !j->autack || j->headers == 0) return 7;
+    if (!in_heads(j) || uncertified(j) || !j->autack || j->headers == 0) return 7;
     if (!single(j, 0, 1, 3)) return 8;
+    if (j->gs1 && !IS(at(j, 0, 0), "1") && !IS(at(j, 0, 0), "2")) return 8;
     j->group = ACK;
     j->any = j->filled = false;
     return 0;
@@ -351,7 +393,7 @@ static int on_usb(judge *j) {
 
 static int on_usx(judge *j) {
     if (j->group != ACK || (j->any && !j->filled)) return 7;
-    if (!named(j, 0, 14)) return 8;
+    if (!named(j, 0, 14) || (j->gs1 && !there(j, 6, false))) return 8;
     j->any = true;
     j->filled = false;
     return 0;
@@ -494,6 +536,7 @@ uint64_t plain_judge(const uint8_t *s, size_t n) {
         size_t e = checked(tag) ? split(j, i + 3) : skip(j, i + 3);
         if (e == n) return REFUSED(4, i, segment);
         if (j->bad < n) return REFUSED(3, j->bad, segment);
+        j->behind = i + 3;
         no = turn(j, tag);
         if (no) return REFUSED(no, i, segment);
         i = e + 1;

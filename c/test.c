@@ -99,16 +99,26 @@ static void look_whose(struct gurandepi_range r) {
         fault("a refusal of neither interchange", "");
 }
 
-/* Where the two interchanges are equal, the very same octets may be lent for both. */
-static void make_f01(void) {
-    struct gurandepi_range r = gurandepi_f01(OCTETS(0), OCTETS(1), OCTETS(2), OCTETS(3));
+typedef struct gurandepi_range across(const uint8_t *, size_t, const uint8_t *, size_t, const uint8_t *, size_t, const uint8_t *, size_t);
+
+/* A call on two interchanges. Where they are equal, the very same octets may be lent for both. */
+static void make_across(across *call) {
+    struct gurandepi_range r = call(OCTETS(0), OCTETS(1), OCTETS(2), OCTETS(3));
     uint64_t own[] = {r.start, r.end};
     if (lent[0].length == lent[1].length && memcmp(lent[0].now, lent[1].now, GUARD + lent[0].length) == 0) {
-        struct gurandepi_range one = gurandepi_f01(OCTETS(0), OCTETS(0), OCTETS(2), OCTETS(3));
+        struct gurandepi_range one = call(OCTETS(0), OCTETS(0), OCTETS(2), OCTETS(3));
         if (memcmp(&r, &one, sizeof r) != 0) fault("another answer where one interchange is lent twice", "");
     }
     if (r.number != GURANDEPI_OK && r.number <= GURANDEPI_BAD_AMOUNT) look_whose(r);
     tell(r.number, r.place, r.segment, own, 2);
+}
+
+static void make_f01(void) {
+    make_across(gurandepi_f01);
+}
+
+static void make_scope3(void) {
+    make_across(gurandepi_scope3);
 }
 
 static void make_value(void) {
@@ -173,6 +183,7 @@ static struct call {
     {"scope1", "hhh", make_scope1, 0, 0},
     {"scope2", "hhh", make_scope2, 0, 0},
     {"f01", "hhhh", make_f01, 0, 0},
+    {"scope3", "hhhh", make_scope3, 0, 0},
     {"value", "hhhc", make_value, 0, 0},
     {"sealoct", "hhhnc", make_seal_octets, 0, 0},
     {"seal", "hhhnhc", make_seal, 0, 0},

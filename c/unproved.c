@@ -16,6 +16,7 @@ void inner_totals(struct gurandepi_loads *, const struct octets *, const struct 
 void inner_scope1(struct gurandepi_parts *, const struct octets *, const struct octets *, const struct octets *);
 void inner_scope2(struct gurandepi_range *, const struct octets *, const struct octets *, const struct octets *);
 void inner_f01(struct gurandepi_range *, const struct octets *, const struct octets *, const struct octets *, const struct octets *);
+void inner_scope3(struct gurandepi_range *, const struct octets *, const struct octets *, const struct octets *, const struct octets *);
 void inner_value(struct gurandepi_written *, const struct octets *, const struct octets *, const struct octets *, const struct room *);
 void inner_seal_octets(struct gurandepi_written *, const struct octets *, const struct octets *, const struct octets *, uint64_t, const struct room *);
 void inner_seal(struct gurandepi_written *, const struct octets *, const struct octets *, const struct octets *, uint64_t, const struct octets *, const struct room *);
@@ -55,6 +56,13 @@ struct gurandepi_range gurandepi_f01(const uint8_t *autack, size_t autack_length
                                      const uint8_t *message, size_t message_length, const uint8_t *header, size_t header_length) {
     struct gurandepi_range r;
     inner_f01(&r, OCTETS(autack), OCTETS(referenced), OCTETS(message), OCTETS(header));
+    return r;
+}
+
+struct gurandepi_range gurandepi_scope3(const uint8_t *autack, size_t autack_length, const uint8_t *referenced, size_t referenced_length,
+                                        const uint8_t *message, size_t message_length, const uint8_t *header, size_t header_length) {
+    struct gurandepi_range r;
+    inner_scope3(&r, OCTETS(autack), OCTETS(referenced), OCTETS(message), OCTETS(header));
     return r;
 }
 

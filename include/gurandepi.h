@@ -45,8 +45,8 @@ extern "C" {
  * declaration is changed or gone, or for equal octets another answer is given. The library has no version of its own: take
  * both from one tree.
  */
-#define GURANDEPI_MAJOR 3
-#define GURANDEPI_MINOR 1
+#define GURANDEPI_MAJOR 4
+#define GURANDEPI_MINOR 0
 
 /*
  * The octets of the longest interchange, and of the longest result. An `out` of so many octets has room for every result:
@@ -75,8 +75,8 @@ enum gurandepi_number {
     GURANDEPI_BAD_COUNT = 10,       /* a count of segments or messages, or a control total, differs. Place: UNT or UNZ */
     GURANDEPI_BAD_SCOPE = 11,       /* the scope code of a security header. Place: USH */
     GURANDEPI_BAD_AMOUNT = 12,      /* the amount of a load. Place: QTY */
-    GURANDEPI_NOT_FOUND = 13,       /* no such message, header or F01 run; or the register is not this interchange's.
-                                       Place: 0 */
+    GURANDEPI_NOT_FOUND = 13,       /* no such message, header, F01 run or message of scope 3; or the register is not this
+                                       interchange's. Place: 0 */
     GURANDEPI_BAD_VALUE = 14,       /* the filter of a value is unknown, its text is bad or empty; or a value cannot be
                                        written in this interchange. Place: 0 */
     GURANDEPI_NO_ROOM = 15,         /* the result is longer than `out`, or than 65,535 octets. Place: 0 */
@@ -172,6 +172,17 @@ struct gurandepi_range gurandepi_f01(const uint8_t *autack, size_t autack_length
                                      const uint8_t *referenced, size_t referenced_length,
                                      const uint8_t *message, size_t message_length,
                                      const uint8_t *header, size_t header_length);
+
+/*
+ * What a header of scope 3 seals, in an AUTACK of the GS1 subset (EAN001 in UNH): in the interchange that the AUTACK refers
+ * to, from the UNH through the UNT of the message that it names. Lent, answered and refused with 1 to 12 as gurandepi_f01.
+ * 13: no such message or header of scope 3, no USY names the header, `referenced` is another interchange than the one
+ * referred to, or has no message of that 0062 that is no AUTACK.
+ */
+struct gurandepi_range gurandepi_scope3(const uint8_t *autack, size_t autack_length,
+                                        const uint8_t *referenced, size_t referenced_length,
+                                        const uint8_t *message, size_t message_length,
+                                        const uint8_t *header, size_t header_length);
 
 /*
  * The value that a header's seal carries, of any scope, as octets: read by the filter that the header names (hexadecimal,

@@ -67,6 +67,10 @@ mod c {
             autack: *const u8, autack_length: usize, referenced: *const u8, referenced_length: usize,
             message: *const u8, message_length: usize, header: *const u8, header_length: usize
         ) -> Range;
+        pub fn gurandepi_scope3(
+            autack: *const u8, autack_length: usize, referenced: *const u8, referenced_length: usize,
+            message: *const u8, message_length: usize, header: *const u8, header_length: usize
+        ) -> Range;
         pub fn gurandepi_value(
             interchange: *const u8, interchange_length: usize, message: *const u8, message_length: usize,
             header: *const u8, header_length: usize, out: *mut u8, out_length: usize
@@ -237,6 +241,34 @@ pub fn f01_places(autack: &[u8], referenced: &[u8], message: &[u8], header: &[u8
     let (a, i, m, h) = (autack, referenced, message, header);
     let r =
         unsafe { c::gurandepi_f01(a.as_ptr(), a.len(), i.as_ptr(), i.len(), m.as_ptr(), m.len(), h.as_ptr(), h.len()) };
+    given(r.number, r.place, r.segment, || range(r.start, r.end))
+}
+
+/// What a header of scope 3 seals, in an AUTACK of the GS1 subset (EAN001 in UNH): in the interchange that the AUTACK refers
+/// to, from the UNH through the UNT of the message that it names. Lent, handed back and refused as [`f01`].
+///
+#[cfg_attr(linked, doc = "```")]
+#[cfg_attr(not(linked), doc = "```no_run")]
+/// # let file = std::fs::read("../examples/scope3.edi").unwrap();
+/// let part = gurandepi::scope3(&file, &file, b"AUT00001", b"1").unwrap();
+/// assert_eq!(part, b"UNH+MESSAGE003+INVOIC:D:01B:UN:EAN010'BGM+380+1+9'UNT+3+MESSAGE003'");
+/// ```
+pub fn scope3<'r>(autack: &[u8], referenced: &'r [u8], message: &[u8], header: &[u8]) -> Result<&'r [u8], Refusal> {
+    Ok(&referenced[scope3_places(autack, referenced, message, header)?])
+}
+
+/// Where the part stands that [`scope3`] gives, in `referenced`.
+///
+#[cfg_attr(linked, doc = "```")]
+#[cfg_attr(not(linked), doc = "```no_run")]
+/// # let file = std::fs::read("../examples/scope3.edi").unwrap();
+/// assert_eq!(gurandepi::scope3_places(&file, &file, b"AUT00001", b"1"), Ok(72..139));
+/// ```
+pub fn scope3_places(autack: &[u8], referenced: &[u8], message: &[u8], header: &[u8]) -> Result<Range<usize>, Refusal> {
+    let (a, i, m, h) = (autack, referenced, message, header);
+    let r = unsafe {
+        c::gurandepi_scope3(a.as_ptr(), a.len(), i.as_ptr(), i.len(), m.as_ptr(), m.len(), h.as_ptr(), h.len())
+    };
     given(r.number, r.place, r.segment, || range(r.start, r.end))
 }
 

@@ -64,7 +64,7 @@ pub enum Reason {
     Scope,
     /// The amount of a load. The place is the QTY.
     Amount,
-    /// No such message, header or F01 run; or the register is not this interchange's.
+    /// No such message, header, F01 run or message of scope 3; or the register is not this interchange's.
     NotFound,
     /// The filter of a value is unknown, its text is bad or empty; or a value cannot be written in this interchange.
     Value,

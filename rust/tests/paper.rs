@@ -9,6 +9,7 @@ use gurandepi::*;
 const P: &str = include_str!("../../examples/p.edi");
 const P7: &str = include_str!("../../examples/p7.edi");
 const F01: &str = include_str!("../../examples/f01.edi");
+const SCOPE3: &str = include_str!("../../examples/scope3.edi");
 
 fn said(answer: Result<(), Refusal>) -> String {
     answer.map_or_else(|refusal| refusal.to_string(), |()| "accepted".to_string())
@@ -67,6 +68,15 @@ fn f01_refuses_the_autack_before_the_other() {
     assert_eq!(f01_places(file, file, b"11", b"1"), Ok(50..91));
     assert_eq!((f01(file, short, b"11", b"1"), judge(file)), (Err(refusal), Ok(())));
     assert_eq!((f01(short, b"", b"11", b"1"), judge(short)), (Err(refusal), Err(refusal)));
+}
+
+#[cfg_attr(linked, test)]
+fn scope3_seals_the_message_that_is_named_and_no_autack() {
+    let (file, itself) = (SCOPE3.as_bytes(), SCOPE3.replace("++++++MESSAGE003", "++++++AUT00001"));
+    assert_eq!(scope3_places(file, file, b"AUT00001", b"1"), Ok(72..139));
+    assert_eq!(f01(file, file, b"AUT00001", b"1").unwrap_err().reason, Reason::NotFound);
+    assert_eq!(judge(itself.as_bytes()), Ok(()));
+    assert_eq!(scope3(itself.as_bytes(), itself.as_bytes(), b"AUT00001", b"1").unwrap_err().reason, Reason::NotFound);
 }
 
 #[cfg_attr(linked, test)]

@@ -23,7 +23,7 @@ pub record Companion1 (s : List ℕ) (x : Answered Parts) : Type 0 where
   pub told : own (partNumbers x) ≡ startOf (headerPart x) ∷ endOf (headerPart x) ∷ startOf (bodyPart x) ∷ endOf (bodyPart x) ∷ []
   pub refused : (f : Refusal) → x ≡ refusedAs f → Empty s (headerPart x) × Empty s (bodyPart x)
 
--- scope 2 and F01: what `scope2_places` or `f01_places` tells, and the part that `scope2_run` or `f01_run` hands back of s
+-- scope 2, F01 and scope 3: what `scope2_places`, `f01_places` or `scope3_places` tells, and the part that `scope2_run`, `f01_run` or `scope3_run` hands back of s
 pub record CompanionRun (s : List ℕ) (x : Answered Run) : Type 0 where
   pub told : own (runNumbers x) ≡ startOf (runPart x) ∷ endOf (runPart x) ∷ []
   pub refused : (f : Refusal) → x ≡ refusedAs f → Empty s (runPart x)

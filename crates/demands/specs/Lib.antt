@@ -39,7 +39,9 @@ pub mod AskedForLaws
 pub mod PairedLaws
 pub mod TiedLaws
 pub mod PartedLaws
+pub mod ReferringLaws
 pub mod ReferredLaws
+pub mod Scope3Laws
 pub mod SewnLaws
 pub mod AllowedLaws
 pub mod ValuedLaws

@@ -46,7 +46,7 @@ use Rattle.syntax.specs.declared.opening.Begun.the-variants.{Ready, Refused}
 use Rattle.grammar.specs.Lists.{check}
 use Rattle.grammar.specs.TestLaws.{is-true, passes}
 use Rattle.grammar.specs.Interchange.{Reading, start, idle, busy, done}
-use Rattle.grammar.specs.Rules.{insideS, order, formedS, refs, counts, scopes, amountS}
+use Rattle.grammar.specs.Rules.{insideS, order, formedS, subsets, refs, counts, scopes, amountS}
 use Rattle.grammar.specs.Valid.{Una}
 use Rattle.grammar.specs.Placing.{place}
 use Rattle.grammar.specs.Verdict.{on, foundAt, Answer, read, refused, tests, decided, then, atEnd, unless-done, walk, unaAt, accepted, refusedWith, Verdict, concluded, verdictBy, verdictOf}
@@ -225,7 +225,7 @@ module _ (y : Syntax) (s : List ℕ) where
     decided-of (some z) =
         either (OfAnswer (y .service) s i) (check (insideS y (t .g)))
         (either (OfAnswer (y .service) s i) (check (order z))
-        (either (OfAnswer (y .service) s i) (check (formedS y (t .g)))
+        (either (OfAnswer (y .service) s i) (check (formedS y (t .g)) && check (subsets z))
         (either (OfAnswer (y .service) s i) (check (refs z))
         (either (OfAnswer (y .service) s i) (check (counts (y .version) z))
         (either (OfAnswer (y .service) s i) (check (scopes z))

@@ -30,12 +30,15 @@ each-other {s} h x w = by (autackM x) (every-in other (check-holds (every other 
 pub some-there : (s : Snoc Message) → T (runRight s) → any s ≡ true
 some-there s h = and-l (any s) (check (every other s)) (is-true (runRight s) h)
 
+pub other-so : (x : Message) → autackM x ≡ false → holds (other x)
+other-so x e = subst (λ (b : Bool). T (not b)) (sym e) tt
+
 pub right-run : (s : Snoc Message) → any s ≡ true → ((x : Message) → In x s → autackM x ≡ false) → runRight s ≡ true
 right-run s a n = ap (λ (b : Bool). b && check (every other s)) a ∙ holds-check (every other s) (all s n)
   where
     all : (s : Snoc Message) → ((x : Message) → In x s → autackM x ≡ false) → holds (every other s)
     all nil n = tt
-    all (s ▷ x) n = (all s (λ y w. n y (in-earlier w)), subst (λ (b : Bool). T (not b)) (sym (n x (in-last refl))) tt)
+    all (s ▷ x) n = (all s (λ y w. n y (in-earlier w)), other-so x (n x (in-last refl)))
 
 -- ---- so they are parted
 

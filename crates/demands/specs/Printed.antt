@@ -19,7 +19,7 @@ use Rattle.grammar.specs.Named.{placed}
 use Rattle.grammar.specs.Counted.{messagesIn}
 use Rattle.groups.specs.Parts.{scopeH, bodyIn}
 use Rattle.groups.specs.Calls.{serviceIn, messageIn}
-use Rattle.demands.specs.Stated.{In, placeBehind, Refers}
+use Rattle.demands.specs.Stated.{In, placeBehind, Refers, Refers3}
 
 -- the message m of the reading of s
 pub record MessageOf (s m : List ℕ) : Type 0 where
@@ -85,6 +85,14 @@ pub record Scope2 (s m r : List ℕ) (a b : ℕ) : Type 0 where
 pub record F01 (a s m r : List ℕ) (x y : ℕ) : Type 0 where
   pub of : Refers a s m r
   -- it starts behind UNA, UNB and the messages before it
-  pub start : x ≡ placeBehind (of .i) (of .before)
-  pub octets : slice x y s ≡ print (serviceIn (of .i)) (list (joined showMessage (of .run)))
+  pub start : x ≡ placeBehind (of .to .i) (of .before)
+  pub octets : slice x y s ≡ print (serviceIn (of .to .i)) (list (joined showMessage (of .run)))
+  pub end : y ≡ x + length (slice x y s)
+
+-- scope 3: from x to y the message, from UNH through UNT, in the interchange s to which the AUTACK's interchange a refers
+pub record Scope3 (a s m r : List ℕ) (x y : ℕ) : Type 0 where
+  pub of : Refers3 a s m r
+  -- it starts behind UNA, UNB and the messages before it
+  pub start : x ≡ placeBehind (of .to .i) (of .there .before)
+  pub octets : slice x y s ≡ print (serviceIn (of .to .i)) (list (showMessage (of .sealed)))
   pub end : y ≡ x + length (slice x y s)

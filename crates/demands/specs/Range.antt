@@ -81,3 +81,12 @@ ruleF ms = test (any ms) and every other ms and every okMessage ms
 
 abbrev pub f01 : Grammar (Snoc Message)
 f01 = record { segments = joined showMessage; rule = ruleF; loads = joined loadsM }
+
+-- ---- scope 3: "from the UNH through the UNT of the message named"
+
+-- "no such message, other than an AUTACK": one that is an AUTACK fails
+abbrev pub rule3 : Message → Rule
+rule3 m = other m and okMessage m
+
+abbrev pub scope3 : Grammar Message
+scope3 = record { segments = showMessage; rule = rule3; loads = loadsM }

@@ -1,13 +1,13 @@
 -- Each range has one reading: tags decide where a segment goes, so a list of segments is shown by one tree only.
 use Prim.Native.Nat.{ℕ}
 use native.Mathlib.Omega.{arith}
-use mathlib.Core.Path.{_≡_, refl, ap, _∙_, sym}
+use mathlib.Core.Path.{_≡_, refl, ap, _∙_, sym, subst}
 use mathlib.Core.List.{List, [], _∷_, _++_, append-assoc, append-nil}
 use mathlib.Core.Option.{Option, some}
 use mathlib.Core.Bool.{false}
 use lib.Dec.{T, leb→le, le→leb}
 use Rattle.syntax.specs.Service.{fit}
-use Rattle.syntax.specs.Tree.{Segment}
+use Rattle.syntax.specs.Tree.{Segment, print, well}
 use Rattle.syntax.specs.ReaderLaws.{print-injective}
 use Rattle.syntax.specs.declared.Service.{Service}
 use Rattle.grammar.specs.Lists.{Snoc, nil, _▷_, _+++_, joined, list, size, holds, every, few}
@@ -15,10 +15,11 @@ use Rattle.grammar.specs.SnocLaws.{onto, not-nil}
 use Rattle.grammar.specs.Segments.{Unb, Unh, seg}
 use Rattle.grammar.specs.Interchange.{Header, Trailer, plain, msg, Message, Reading, start, idle, busy, shown, showMessage}
 use Rattle.grammar.specs.Rules.{order, okHeader, okItem, okBody, okTrailers}
+use Rattle.grammar.specs.RuleLaws.{free-heads}
 use Rattle.grammar.specs.Placing.{place}
 use Rattle.grammar.specs.PlacingLaws.{shows, Back, first, from, last-free, back, Before, shut-order}
 use Rattle.groups.specs.StandLaws.{list-join}
-use Rattle.demands.specs.Range.{Grammar, Reads, Range1, range1, scope1, Range2, range2, scope2, f01}
+use Rattle.demands.specs.Range.{Grammar, Reads, Range1, range1, scope1, Range2, range2, scope2, f01, scope3}
 use Rattle.grammar.specs.ListsLaws.{size-join, joined-join, every-join}
 
 -- ---- lists that grow at the end, as plain lists
@@ -98,7 +99,7 @@ behind1 : (t : Range1) → list (shown (within1 t)) ≡ (seg Unb [] ∷ seg Unh 
 behind1 (range1 h b) = simp (list-join, append-assoc, append-nil)
 
 ordered1 : (t : Range1) → holds (scope1 .rule t) → holds (order (within1 t))
-ordered1 (range1 h b) k = (tt, (tt, ((tt, k .0), (items-ok (nil ▷ h) b (k .1), tt))))
+ordered1 (range1 h b) k = (tt, (tt, ((tt, k .0), (items-ok (nil ▷ h) b (k .1), (tt, tt)))))
 
 one1 : (t v : Range1) → within1 t ≡ within1 v → t ≡ v
 one1 (range1 h b) (range1 i c) e =
@@ -141,7 +142,7 @@ behind2 (range2 h hs b ts) = simp (joined-join, list-join, append-assoc)
 
 ordered2 : (t : Range2) → holds (scope2 .rule t) → holds (order (within2 t))
 ordered2 (range2 h hs b ts) k =
-    (tt, (few-front h hs (k .1 .0), (every-join okHeader (nil ▷ h) hs (tt, k .0) (k .1 .1 .0), (items-ok (nil ▷ h +++ hs) b (k .1 .1 .1), trailers-ok b ts))))
+    (tt, (few-front h hs (k .1 .0), (every-join okHeader (nil ▷ h) hs (tt, k .0) (k .1 .1 .0), (items-ok (nil ▷ h +++ hs) b (k .1 .1 .1), (trailers-ok b ts, free-heads [] refl (nil ▷ h +++ hs) (plain b))))))
 
 one2 : (t v : Range2) → within2 t ≡ within2 v → t ≡ v
 one2 (range2 h hs b ts) (range2 i is c us) e =
@@ -176,3 +177,19 @@ standsF = record {
 
 pub one-reading-f01 : (σ : Service) → T (fit σ) → (o : List ℕ) (t v : Snoc Message) → Reads f01 σ o t → Reads f01 σ o v → t ≡ v
 one-reading-f01 = reads-one f01 standsF
+
+-- ---- scope 3: a run of one message
+
+-- a reading of one message is one of the run that it is
+one-run : (σ : Service) (o : List ℕ) (t : Message) → Reads scope3 σ o t → Reads f01 σ o (nil ▷ t)
+one-run σ o t k = record {
+  ordered = (tt, ((tt, k .ordered .0), (tt, k .ordered .1)));
+  written = subst (λ (l : List Segment). T (well σ l)) (sym (list-join nil (showMessage t))) (k .written);
+  printed = ap (print σ) (list-join nil (showMessage t)) ∙ k .printed;
+}
+
+pub one-reading-3 : (σ : Service) → T (fit σ) → (o : List ℕ) (t v : Message) → Reads scope3 σ o t → Reads scope3 σ o v → t ≡ v
+one-reading-3 σ f o t v a b = last-one (one-reading-f01 σ f o (nil ▷ t) (nil ▷ v) (one-run σ o t a) (one-run σ o v b))
+  where
+    last-one : _≡_ {A = Snoc Message} (nil ▷ t) (nil ▷ v) → t ≡ v
+    last-one e = cc

@@ -8,15 +8,15 @@ use Rattle.syntax.specs.Tree.{Segment, print}
 use Rattle.syntax.specs.declared.Syntax.{Syntax}
 use Rattle.grammar.specs.Lists.{Snoc, joined, list, each, size}
 use Rattle.grammar.specs.Grams.{Grams, sum}
-use Rattle.grammar.specs.Interchange.{plain, Message, showHeader, showTrailer, showMessage}
+use Rattle.grammar.specs.Interchange.{plain, Message, showHeader, showTrailer, showBody, showMessage}
 use Rattle.grammar.specs.Rules.{refM}
 use Rattle.grammar.specs.Valid.{syntaxIn}
 use Rattle.grammar.specs.Verdict.{Verdict, accepted, refusedWith, verdictOf, loadsM, Totals, totalled, totalsOf}
 use Rattle.groups.specs.Parts.{bodyIn}
 use Rattle.groups.specs.Calls.{serviceIn}
 use Rattle.demands.specs.Stated.{headersOf, bodyOf, trailersOf}
-use Rattle.demands.specs.Printed.{Scope1, Scope2, F01}
-use Rattle.demands.specs.Range.{Reads, Same, totalIn, Range1, range1, scope1, Range2, range2, scope2, f01}
+use Rattle.demands.specs.Printed.{Scope1, Scope2, F01, Scope3}
+use Rattle.demands.specs.Range.{Reads, Same, totalIn, Range1, range1, scope1, Range2, range2, scope2, f01, scope3}
 
 -- "Equal octets read alike only under equal service characters: UNA lies outside all three scopes. Demand 3 therefore names them; its version, repertoire and
 -- service characters are always those of the interchange in which the octets lie"
@@ -116,8 +116,8 @@ pub record ReadF (t s m r : List ℕ) (a b : ℕ) : Type 0 where
   -- messages of the verdict's reading: from the first to the last that is no AUTACK
   pub part : F01 t s m r a b
   -- they are a reading of the octets; there is no other
-  pub reads : Reads f01 (serviceIn (part .of .i)) (slice a b s) (part .of .run)
-  pub only : (v : Snoc Message) → Reads f01 (serviceIn (part .of .i)) (slice a b s) v → v ≡ part .of .run
+  pub reads : Reads f01 (serviceIn (part .of .to .i)) (slice a b s) (part .of .run)
+  pub only : (v : Snoc Message) → Reads f01 (serviceIn (part .of .to .i)) (slice a b s) v → v ≡ part .of .run
   -- each message's loads and total are those that are given for its 0062, and the run's total is their sum
   pub totals : each (λ (x : Message). totalsOf s (refM x)) (part .of .run) ≡ each (λ (x : Message). totalsFor (loadsM x)) (part .of .run)
   pub total : totalIn f01 (part .of .run) ≡ sum (each (λ (x : Message). sum (loadsM x)) (part .of .run))
@@ -132,7 +132,39 @@ pub record AlikeF (t s m r : List ℕ) (a b : ℕ) (t′ s′ m′ r′ : List �
   pub bodies : each bodyOf (left .part .of .run) ≡ each bodyOf (right .part .of .run)
   pub trailers : each trailersOf (left .part .of .run) ≡ each trailersOf (right .part .of .run)
   -- and the octets of each message
-  pub octets : each (λ (x : Message). print (serviceIn (left .part .of .i)) (list (showMessage x))) (left .part .of .run)
-      ≡ each (λ (x : Message). print (serviceIn (right .part .of .i)) (list (showMessage x))) (right .part .of .run)
+  pub octets : each (λ (x : Message). print (serviceIn (left .part .of .to .i)) (list (showMessage x))) (left .part .of .run)
+      ≡ each (λ (x : Message). print (serviceIn (right .part .of .to .i)) (list (showMessage x))) (right .part .of .run)
   -- the totals that are given for each message of the one and of the other
   pub totals : each (λ (x : Message). totalsOf s (refM x)) (left .part .of .run) ≡ each (λ (x : Message). totalsOf s′ (refM x)) (right .part .of .run)
+
+-- ---- scope 3
+
+-- from a to b the message, in the interchange that is referred to
+pub record Read3 (t s m r : List ℕ) (a b : ℕ) : Type 0 where
+  -- the message of the verdict's reading that is referred to, which is no AUTACK
+  pub part : Scope3 t s m r a b
+  -- it is a reading of the octets; there is no other
+  pub reads : Reads scope3 (serviceIn (part .of .to .i)) (slice a b s) (part .of .sealed)
+  pub only : (v : Message) → Reads scope3 (serviceIn (part .of .to .i)) (slice a b s) v → v ≡ part .of .sealed
+  -- its loads and total are those that are given for its 0062
+  pub totals : totalsOf s (refM (part .of .sealed)) ≡ totalsFor (scope3 .loads (part .of .sealed))
+
+-- segments as they are printed in the interchange of the one, or of the other
+abbrev pub octets3 : {t s m r : List ℕ} {a b : ℕ} → Read3 t s m r a b → Snoc Segment → List ℕ
+octets3 x gs = print (serviceIn (x .part .of .to .i)) (list gs)
+
+-- two ranges with one reading
+pub record Alike3 (t s m r : List ℕ) (a b : ℕ) (t′ s′ m′ r′ : List ℕ) (a′ b′ : ℕ) : Type 0 where
+  pub left : Read3 t s m r a b
+  pub right : Read3 t′ s′ m′ r′ a′ b′
+  pub same : Same scope3 (left .part .of .sealed) (right .part .of .sealed)
+  -- "the same split into header, body and trailers": part by part
+  pub headers : headersOf (left .part .of .sealed) ≡ headersOf (right .part .of .sealed)
+  pub body : bodyOf (left .part .of .sealed) ≡ bodyOf (right .part .of .sealed)
+  pub trailers : trailersOf (left .part .of .sealed) ≡ trailersOf (right .part .of .sealed)
+  -- and the octets of each part
+  pub header-octets : octets3 left (joined showHeader (headersOf (left .part .of .sealed))) ≡ octets3 right (joined showHeader (headersOf (right .part .of .sealed)))
+  pub body-octets : octets3 left (showBody (bodyOf (left .part .of .sealed))) ≡ octets3 right (showBody (bodyOf (right .part .of .sealed)))
+  pub trailer-octets : octets3 left (joined showTrailer (trailersOf (left .part .of .sealed))) ≡ octets3 right (joined showTrailer (trailersOf (right .part .of .sealed)))
+  -- the totals that are given for the two messages
+  pub totals : totalsOf s (refM (left .part .of .sealed)) ≡ totalsOf s′ (refM (right .part .of .sealed))

@@ -4,7 +4,7 @@ use native.Mathlib.Omega.{arith}
 use mathlib.Core.Path.{_≡_, refl, ap, _∙_, sym, subst}
 use mathlib.Core.List.{List, _++_, append-assoc}
 use mathlib.Core.Option.{Option, some}
-use mathlib.Core.Bool.{Bool, true, false, cond, not}
+use mathlib.Core.Bool.{Bool, true, false, cond}
 use lib.Dec.{T, T-not, leb→le, le→leb}
 use lib.ListN.{length}
 use lib.Seq.{slice}
@@ -19,11 +19,11 @@ use Rattle.syntax.specs.declared.Service.{Service}
 use Rattle.syntax.specs.declared.Syntax.{Syntax}
 use Rattle.grammar.specs.Lists.{Snoc, nil, _▷_, _+++_, joined, list, each, size, any, check, among, holds, every, few, distinct}
 use Rattle.grammar.specs.Grams.{sum}
-use Rattle.grammar.specs.Segments.{Unb, Unh, Unt, Unz, seg, unh0062Text}
+use Rattle.grammar.specs.Segments.{Unb, Unh, Unt, Unz, seg, unh0062Text, ush0541}
 use Rattle.grammar.specs.Interchange.{Leaf, Header, header, Trailer, Body, plain, ack, Open, msg, Message, message, showHeader, showTrailer, showBody, showOpen, showMessage, shown, idle}
 use Rattle.grammar.specs.declared.Subset.{Subset}
-use Rattle.grammar.specs.declared.Subset.the-variants.{None, F01 as AckF01}
-use Rattle.grammar.specs.Rules.{autack, subset, isAutack, okHeader, okItem, okBody, okMessage, scopeRight, scopesMessage, refM}
+use Rattle.grammar.specs.declared.Subset.the-variants.{None, F01 as AckF01, Gs1 as AckGs1}
+use Rattle.grammar.specs.Rules.{autack, subset, isAutack, okHeader, okItem, okBody, okMessage, scopeCode, scopeRight, scopesMessage, refM}
 use Rattle.grammar.specs.Valid.{Interchange, interchange, Valid, inForce, openingIn}
 use Rattle.grammar.specs.Verdict.{Verdict, accepted, verdictOf, loadsB, loadsM, totalsIn, totalsBy, totalsOf}
 use Rattle.grammar.specs.VerdictLaws.{verdict-exact, totals-read}
@@ -41,15 +41,18 @@ use Rattle.groups.specs.Calls.{given, serviceIn, messageIn}
 use Rattle.groups.specs.CallsLaws.{placed-every}
 use Rattle.ranges.specs.Ranges.{parts, scope1Of, run, scope2Of}
 use Rattle.f01.specs.F01.{f01Of}
-use Rattle.demands.specs.Printed.{Scope1, Scope2, F01}
+use Rattle.scope3.specs.Scope3.{scope3Of}
+use Rattle.demands.specs.Printed.{Scope1, Scope2, F01, Scope3}
 use Rattle.demands.specs.Stated.{headersOf, bodyOf, trailersOf}
 use Rattle.demands.specs.AskedLaws.{read-stands, message-stands}
 use Rattle.demands.specs.PrintedLaws.{scope1-printed, scope2-printed}
-use Rattle.demands.specs.PartedLaws.{right-run}
+use Rattle.demands.specs.OnceLaws.{every-in}
+use Rattle.demands.specs.PartedLaws.{other-so, right-run}
 use Rattle.demands.specs.ReferredLaws.{f01-printed}
-use Rattle.demands.specs.Range.{Grammar, Reads, Same, totalIn, Range1, range1, scope1, Range2, range2, scope2, f01}
-use Rattle.demands.specs.RangeLaws.{one-reading-1, one-reading-2, one-reading-f01}
-use Rattle.demands.specs.Read.{syntaxBy, syntaxOf, totalsFor, Read1, tree1, Alike1, Read2, tree2, Alike2, ReadF, AlikeF}
+use Rattle.demands.specs.Scope3Laws.{scope3-printed}
+use Rattle.demands.specs.Range.{Grammar, Reads, Same, totalIn, Range1, range1, scope1, Range2, range2, scope2, f01, scope3}
+use Rattle.demands.specs.RangeLaws.{one-reading-1, one-reading-2, one-reading-f01, one-reading-3}
+use Rattle.demands.specs.Read.{syntaxBy, syntaxOf, totalsFor, Read1, tree1, Alike1, Read2, tree2, Alike2, ReadF, AlikeF, Read3, Alike3}
 use Rattle.grammar.specs.ListsLaws.{size-join, joined-join, every-left, every-right}
 use Rattle.grammar.specs.TestLaws.{is-true, passes, or-left, or-right}
 
@@ -127,11 +130,12 @@ items-so hs (plain nil) k = record { items = nil; plainly = refl; free = tt }
 items-so hs (plain (b ▷ i)) k = record { items = b ▷ i; plainly = refl; free = k .1 }
 items-so hs (ack c ls) k = absurd (k .0)
 
-no-autack : (a : Subset) (x : Header) (code : List ℕ) → T (not (same code (octets "F01"))) → holds (scopeRight a x) → scopeH x ≡ code → isAutack a ≡ false
-no-autack AckF01 (header c us cs) code n k e = absurd (T-not (same code (octets "F01")) n (subst (λ (l : List ℕ). T (same l (octets "F01"))) e k))
+no-autack : (a : Subset) (x : Header) (code : List ℕ) → T (scopeCode None code) → holds (scopeRight a x) → scopeH x ≡ code → isAutack a ≡ false
+no-autack AckF01 (header c us cs) code n k e = absurd (subst (λ (l : List ℕ). T (scopeCode None l)) (sym e ∙ same-eq (ush0541 c) (octets "F01") k) n)
+no-autack AckGs1 (header c us cs) code n k e = absurd (subst (λ (l : List ℕ). T (scopeCode None l)) (sym e ∙ same-eq (ush0541 c) (octets "3") k) n)
 no-autack None x code n k e = refl
 
-module _ (code : List ℕ) (n : T (not (same code (octets "F01")))) where
+module _ (code : List ℕ) (n : T (scopeCode None code)) where
   body-so : (o : Open) (t : Leaf) (x : Header) (bs ls : Snoc Header) → headersIn o ≡ bs ▷ x +++ ls → scopeH x ≡ code
       → holds (okMessage (message o t)) → holds (scopesMessage (message o t)) → Items (bodyIn o)
   body-so (msg u hs w ts) t x bs ls e c k j =
@@ -379,12 +383,12 @@ messages-written s (interchange n u ms z) e =
 module _ (t s m r : List ℕ) (a b : ℕ) where
   read-f : F01 t s m r a b → ReadF t s m r a b
   read-f p =
-      let v = valid-so s (p .of .i) (p .of .read) in
-      let σ : Service = serviceIn (p .of .i) in
-      let w : messagesIn (p .of .i) ≡ p .of .before +++ p .of .run +++ p .of .behind = p .of .whole in
+      let v = valid-so s (p .of .to .i) (p .of .to .read) in
+      let σ : Service = serviceIn (p .of .to .i) in
+      let w : messagesIn (p .of .to .i) ≡ p .of .before +++ p .of .run +++ p .of .behind = p .of .whole in
       let right : T (runRight (p .of .run)) = passes (runRight (p .of .run)) (right-run (p .of .run) (p .of .some-inside) (p .of .none-inside)) in
-      let o = every-left okMessage (p .of .before +++ p .of .run) (p .of .behind) (subst (λ (z : Snoc Message). holds (every okMessage z)) w (messages-ordered (p .of .i) v)) in
-      let wr = subst (λ (z : Snoc Message). T (well σ (list (joined showMessage z)))) w (messages-written s (p .of .i) (p .of .read)) in
+      let o = every-left okMessage (p .of .before +++ p .of .run) (p .of .behind) (subst (λ (z : Snoc Message). holds (every okMessage z)) w (messages-ordered (p .of .to .i) v)) in
+      let wr = subst (λ (z : Snoc Message). T (well σ (list (joined showMessage z)))) w (messages-written s (p .of .to .i) (p .of .to .read)) in
       let w1 = well-parted σ (joined showMessage (p .of .before +++ p .of .run)) (joined showMessage (p .of .behind))
       (subst (λ (z : Snoc Segment). T (well σ (list z))) (joined-join showMessage (p .of .before +++ p .of .run) (p .of .behind)) wr) in
       let w2 = well-parted σ (joined showMessage (p .of .before)) (joined showMessage (p .of .run))
@@ -404,10 +408,10 @@ module _ (t s m r : List ℕ) (a b : ℕ) where
       record {
         part = p;
         reads = k;
-        only = λ z q. one-reading-f01 σ (fits-so (p .of .i) v) (slice a b s) z (p .of .run) q k;
+        only = λ z q. one-reading-f01 σ (fits-so (p .of .to .i) v) (slice a b s) z (p .of .run) q k;
         totals =
-            each-as (λ (m : Message). totalsOf s (refM m)) (λ (m : Message). totalsIn (messagesIn (p .of .i)) (refM m)) (λ m. totals-read s (p .of .i) (refM m) v (verdict-exact s (p .of .i) .0 (p .of .read) .1) ∙ ap (totalsIn (messagesIn (p .of .i))) (bare-message m)) (p .of .run)
-            ∙ totals-each (messagesIn (p .of .i)) (p .of .before) (p .of .run) (p .of .behind) w (messages-distinct (p .of .i) v);
+            each-as (λ (m : Message). totalsOf s (refM m)) (λ (m : Message). totalsIn (messagesIn (p .of .to .i)) (refM m)) (λ m. totals-read s (p .of .to .i) (refM m) v (verdict-exact s (p .of .to .i) .0 (p .of .to .read) .1) ∙ ap (totalsIn (messagesIn (p .of .to .i))) (bare-message m)) (p .of .run)
+            ∙ totals-each (messagesIn (p .of .to .i)) (p .of .before) (p .of .run) (p .of .behind) w (messages-distinct (p .of .to .i) v);
         total = sum-each (p .of .run);
       }
 
@@ -421,9 +425,9 @@ module _ (t s m r t′ s′ m′ r′ : List ℕ) (a b a′ b′ : ℕ) where
   f01-same p q e o =
       let x = f01-read t s m r a b p in
       let y = f01-read t′ s′ m′ r′ a′ b′ q in
-      let σ : Service = serviceIn (x .part .of .i) in
-      let τ : Service = serviceIn (y .part .of .i) in
-      let f : σ ≡ τ = service-so s s′ (x .part .of .i) (y .part .of .i) (x .part .of .read) (y .part .of .read) e in
+      let σ : Service = serviceIn (x .part .of .to .i) in
+      let τ : Service = serviceIn (y .part .of .to .i) in
+      let f : σ ≡ τ = service-so s s′ (x .part .of .to .i) (y .part .of .to .i) (x .part .of .to .read) (y .part .of .to .read) e in
       let k : x .part .of .run ≡ y .part .of .run = sym (x .only (y .part .of .run) (reads-as f01 τ σ (slice a′ b′ s′) (slice a b s) (y .part .of .run) (sym f) (sym o) (y .reads))) in
       record {
         left = x;
@@ -436,4 +440,57 @@ module _ (t s m r t′ s′ m′ r′ : List ℕ) (a b a′ b′ : ℕ) where
             ap (λ (z : Service). each (λ (m : Message). print z (list (showMessage m))) (x .part .of .run)) f
             ∙ ap (each (λ (m : Message). print τ (list (showMessage m)))) k;
         totals = x .totals ∙ ap (each (λ (m : Message). totalsFor (loadsM m))) k ∙ sym (y .totals);
+      }
+
+-- ---- scope 3
+
+module _ (t s m r : List ℕ) (a b : ℕ) where
+  read-3 : Scope3 t s m r a b → Read3 t s m r a b
+  read-3 p =
+      let i : Interchange = p .of .to .i in
+      let x : Message = p .of .sealed in
+      let v = valid-so s i (p .of .to .read) in
+      let σ : Service = serviceIn i in
+      let w = row-written σ showMessage (messagesIn i) (p .of .there .before) (p .of .there .behind) x (p .of .there .whole) (messages-written s i (p .of .to .read)) in
+      let k : Reads scope3 σ (slice a b s) x =
+      record {
+        ordered = (other-so x (p .of .other), every-in okMessage (messages-ordered i v) (p .of .there));
+        written = w .1;
+        printed = sym (p .octets);
+      } in
+      record {
+        part = p;
+        reads = k;
+        only = λ z q. one-reading-3 σ (fits-so i v) (slice a b s) z x q k;
+        totals =
+            totals-read s i (refM x) v (verdict-exact s i .0 (p .of .to .read) .1) ∙ ap (totalsIn (messagesIn i)) (bare-message x)
+            ∙ ap (λ (z : Snoc Message). totalsIn z (refM x)) (p .of .there .whole)
+            ∙ totals-at (p .of .there .before) (p .of .there .behind) x (subst (λ (z : Snoc Message). holds (distinct (each refM z))) (p .of .there .whole) (messages-distinct i v));
+      }
+
+  -- what the scope 3 call hands back has one reading
+  pub scope3-read : scope3Of t s m r ≡ given (run a b) → Read3 t s m r a b
+  scope3-read e = read-3 (scope3-printed t s m r a b e)
+
+module _ (t s m r t′ s′ m′ r′ : List ℕ) (a b a′ b′ : ℕ) where
+  pub scope3-same : scope3Of t s m r ≡ given (run a b) → scope3Of t′ s′ m′ r′ ≡ given (run a′ b′) → syntaxOf s ≡ syntaxOf s′ → slice a b s ≡ slice a′ b′ s′
+      → Alike3 t s m r a b t′ s′ m′ r′ a′ b′
+  scope3-same p q e o =
+      let x = scope3-read t s m r a b p in
+      let y = scope3-read t′ s′ m′ r′ a′ b′ q in
+      let σ : Service = serviceIn (x .part .of .to .i) in
+      let τ : Service = serviceIn (y .part .of .to .i) in
+      let f : σ ≡ τ = service-so s s′ (x .part .of .to .i) (y .part .of .to .i) (x .part .of .to .read) (y .part .of .to .read) e in
+      let k : x .part .of .sealed ≡ y .part .of .sealed = sym (x .only (y .part .of .sealed) (reads-as scope3 τ σ (slice a′ b′ s′) (slice a b s) (y .part .of .sealed) (sym f) (sym o) (y .reads))) in
+      record {
+        left = x;
+        right = y;
+        same = same-of scope3 (x .part .of .sealed) (y .part .of .sealed) k;
+        headers = ap headersOf k;
+        body = ap bodyOf k;
+        trailers = ap trailersOf k;
+        header-octets = print-as f (ap (λ (z : Message). joined showHeader (headersOf z)) k);
+        body-octets = print-as f (ap (λ (z : Message). showBody (bodyOf z)) k);
+        trailer-octets = print-as f (ap (λ (z : Message). joined showTrailer (trailersOf z)) k);
+        totals = x .totals ∙ ap (λ (z : Message). totalsFor (scope3 .loads z)) k ∙ sym (y .totals);
       }

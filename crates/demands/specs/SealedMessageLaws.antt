@@ -17,10 +17,11 @@ use Rattle.syntax.specs.declared.Version.{Version}
 use Rattle.grammar.specs.Lists.{Snoc, nil, _▷_, _+++_, each, joined, size, among, Rule, always, test, _and_, holds, every, few, distinct}
 use Rattle.grammar.specs.ListsLaws.{size-join}
 use Rattle.grammar.specs.TestLaws.{passes}
-use Rattle.grammar.specs.Segments.{Unh, seg, number, unh0062, unt0062, ust0534, ust0588}
+use Rattle.grammar.specs.RuleLaws.{free-heads}
+use Rattle.grammar.specs.Segments.{Unh, seg, number, unh0062, unh0057, unt0062, ust0534, ust0588}
 use Rattle.grammar.specs.Interchange.{Leaf, Header, Trailer, trailer, Body, plain, ack, msg, Message, message, showHeader, showTrailer, showBody, showOpen, showMessage}
-use Rattle.grammar.specs.declared.Subset.the-variants.{None, F01}
-use Rattle.grammar.specs.Rules.{autack, subset, okHeader, okBody, whole, okMessage, refH, refT, linked, one, refsMessage, sizeAt, claimed, counted, paired, countsMessage, scopeRight, scopesMessage}
+use Rattle.grammar.specs.declared.Subset.the-variants.{None, F01, Gs1}
+use Rattle.grammar.specs.Rules.{autack, subset, okHeader, okHeads, okBody, whole, okMessage, subsetH, subsetsMessage, refH, refT, linked, one, refsMessage, sizeAt, claimed, counted, paired, countsMessage, scopeRight, scopesMessage}
 use Rattle.weaving.specs.Seals.{single, usrLeaf, newHeader, newTrailer, grown, sealedMessage, refRight, filterRight, takesMore, isNew, maySeal}
 use Rattle.demands.specs.SealedListLaws.{front, same-swap, each-front, joined-front, every-front, distinct-front, away, aways, wider, longer, first-among}
 use Rattle.demands.specs.SealedNumberLaws.{ref-header, ref-trailer, grown-number, grown-0062}
@@ -104,11 +105,18 @@ module _ (v : Version) (r : List ℕ) (f : ℕ) (σ : Service) (t : List ℕ) (u
   pub order-sealed : holds (okMessage was) → holds (okMessage is)
   order-sealed o = by b (o .0 .1 .0) (o .0 .1 .1 .0) (o .1)
     where
+      led : (b : Body) → holds (okHeads (subset u) (front (newHeader r f) hs) b)
+      led b = free-heads u (off (autack u) (q .other)) (front (newHeader r f) hs) b
+
       by : (b : Body) → holds (every okHeader hs) → holds (okBody (autack u) hs b) → holds (whole (autack u) b)
           → holds (okMessage (sealedMessage (newHeader r f) (newTrailer v σ r t) (message (msg u hs b ts) n)))
-      by (plain nil) e k w = ((nine, (every-front okHeader (newHeader r f) hs (tt, (tt, tt)) e, (tt, w))), w)
-      by (plain (c ▷ i)) e k w = ((nine, (every-front okHeader (newHeader r f) hs (tt, (tt, tt)) e, (k, w))), w)
+      by (plain nil) e k w = ((nine, (every-front okHeader (newHeader r f) hs (tt, (tt, tt)) e, (tt, (w, led (plain nil))))), w)
+      by (plain (c ▷ i)) e k w = ((nine, (every-front okHeader (newHeader r f) hs (tt, (tt, tt)) e, (k, (w, led (plain (c ▷ i)))))), w)
       by (ack c ls) e k w = absurd (T-not (autack u) (q .other) (k .0))
+
+  -- 8 of the subset
+  pub subsets-sealed : holds (subsetsMessage was) → holds (subsetsMessage is)
+  subsets-sealed k = (every-front (subsetH (subset u)) (newHeader r f) hs tt (k .0), k .1)
 
   -- 9
   abbrev refsAs : Snoc (List ℕ) → Snoc (List ℕ) → Bool → Rule
@@ -164,4 +172,4 @@ module _ (v : Version) (r : List ℕ) (f : ℕ) (σ : Service) (t : List ℕ) (u
 
   -- 11
   pub scopes-sealed : holds (scopesMessage was) → holds (scopesMessage is)
-  scopes-sealed k = every-front (scopeRight (subset u)) (newHeader r f) hs (subst (λ (a : Bool). holds (scopeRight (cond a F01 None) (newHeader r f))) (sym (off (autack u) (q .other))) tt) k
+  scopes-sealed k = every-front (scopeRight (subset u)) (newHeader r f) hs (subst (λ (a : Bool). holds (scopeRight (cond a (cond (same (unh0057 u) (octets "EAN001")) Gs1 F01) None) (newHeader r f))) (sym (off (autack u) (q .other))) tt) k

@@ -18,7 +18,7 @@ use Rattle.syntax.specs.declared.Syntax.{Syntax}
 use Rattle.grammar.specs.Lists.{Snoc, nil, _▷_, _+++_, joined, list, size, Rule, holds, every, distinct}
 use Rattle.grammar.specs.Segments.{Unb, seg, number}
 use Rattle.grammar.specs.Interchange.{Leaf, Header, Trailer, Body, msg, Message, message, idle, done, shown, showMessage}
-use Rattle.grammar.specs.Rules.{insideS, formedS, amountS, okMessage, refM, refsMessage, countsMessage, scopesMessage}
+use Rattle.grammar.specs.Rules.{insideS, formedS, amountS, okMessage, subsetsMessage, refM, refsMessage, countsMessage, scopesMessage}
 use Rattle.grammar.specs.Valid.{Una, Interchange, interchange, Valid, printInterchange, printUna, inForce, syntaxIn, openingIn}
 use Rattle.grammar.specs.StartLaws.{fit-in-force}
 use Rattle.grammar.specs.Places.{wide}
@@ -28,7 +28,7 @@ use Rattle.walk.specs.RunLaws.{long-print}
 use Rattle.groups.specs.Calls.{versionBy, serviceIn, versionIn, messageIn}
 use Rattle.groups.specs.CallsLaws.{placed-every}
 use Rattle.weaving.specs.Seals.{newHeader, newTrailer, sealedIn, sealed, maySeal, mayWrite, writable}
-use Rattle.demands.specs.SealedMessageLaws.{May, may, order-sealed, refs-sealed, counts-sealed, scopes-sealed}
+use Rattle.demands.specs.SealedMessageLaws.{May, may, order-sealed, subsets-sealed, refs-sealed, counts-sealed, scopes-sealed}
 use Rattle.demands.specs.SealedTreeLaws.{refs-same, size-same, any-same, every-sealed}
 use Rattle.demands.specs.SealedWrittenLaws.{wellS, list-well, well-list}
 use Rattle.demands.specs.SealedSegmentLaws.{Takes, mostText, message-takes, takes-well, takes-inside, takes-formed, takes-amount}
@@ -117,6 +117,7 @@ module _ (k : Option Una) (u : Leaf) (ms : Snoc Message) (z : Leaf) (v : Valid (
             subst T (sym (any-same H new m ms)) (v .inOrder .1),
           );
           elements = all-take (formedS (v .y)) (takes-formed (v .y) fits r f t n (y .ref) (y .filter) a s d) (v .elements);
+          inSubset = every-sealed H new m σ p u subsetsMessage ms e (λ h. subsets-sealed (v .y .version) r f σ′ t w hs b ts n y h) (v .inSubset);
           references = (
             subst (λ (x : Snoc (List ℕ)). holds (distinct x)) (sym (refs-same H new m ms)) (v .references .0),
             (every-sealed H new m σ p u refsMessage ms e (λ h. refs-sealed (v .y .version) r f σ′ t w hs b ts n y o h) (v .references .1 .0), v .references .1 .1),

@@ -11,7 +11,7 @@ use Rattle.syntax.specs.Tree.{print}
 use Rattle.syntax.specs.declared.Version.{Version}
 use Rattle.grammar.specs.Lists.{Snoc, nil, _▷_, _+++_, list, any, size}
 use Rattle.grammar.specs.Grams.{Grams, sum}
-use Rattle.grammar.specs.Segments.{unb0020, unt0074, unz0036, ust0588, usx0020, usy0534}
+use Rattle.grammar.specs.Segments.{unb0020, unt0074, unz0036, ust0588, usx0020, usx0062, usy0534}
 use Rattle.grammar.specs.Interchange.{Leaf, Header, Trailer, trailer, Link, link, Body, plain, ack, msg, Message, message, idle, shown, showHeader, showTrailer, showMessage}
 use Rattle.grammar.specs.Rules.{refH, refT, refM, claimed}
 use Rattle.grammar.specs.Loads.{controls}
@@ -120,20 +120,34 @@ pub record FirstUsx (b : Body) (r : List ℕ) : Type 0 where
   -- nor does one under a USX before it
   pub first : (l : Link) → In l (there .before) → (y : Leaf) → In y (usysOf l) → usy0534 y ≡ compared r → ⊥
 
--- the AUTACK's interchange a has the message m with the header r of scope F01; and it refers to the interchange s, which has a run
-pub record Refers (a s m r : List ℕ) : Type 0 where
-  pub autack : HasHeader a m r (written "F01")
+-- the AUTACK's interchange a has the message m with the header r of this scope code; and it refers to the interchange s
+pub record RefersTo (code a s m r : List ℕ) : Type 0 where
+  pub autack : HasHeader a m r code
   pub tied : FirstUsx (bodyOf (autack .of)) r
   -- the interchange s is accepted, and its UNB's 0020 is that USX's
   pub i : Interchange
   pub read : verdictOf s ≡ accepted i
   pub refers : unb0020 (unbOf i) ≡ usx0020 (tied .usx)
+
+-- F01: the interchange s has a run
+pub record Refers (a s m r : List ℕ) : Type 0 where
+  pub to : RefersTo (written "F01") a s m r
   -- its messages: AUTACKs, then the run, which holds a message and no AUTACK, then AUTACKs
   pub before : Snoc Message
   pub run : Snoc Message
   pub behind : Snoc Message
-  pub whole : messagesIn i ≡ before +++ run +++ behind
+  pub whole : messagesIn (to .i) ≡ before +++ run +++ behind
   pub autacks-before : (x : Message) → In x before → autackM x ≡ true
   pub some-inside : any run ≡ true
   pub none-inside : (x : Message) → In x run → autackM x ≡ false
   pub autacks-behind : (x : Message) → In x behind → autackM x ≡ true
+
+-- ---- scope 3: "the sealed octets run from the UNH through the UNT of the message named by the first USX under which a USY names the header"
+
+-- the interchange s has the message of that USX's 0062, which is no AUTACK
+pub record Refers3 (a s m r : List ℕ) : Type 0 where
+  pub to : RefersTo (written "3") a s m r
+  pub sealed : Message
+  pub there : In sealed (messagesIn (to .i))
+  pub name : refM sealed ≡ usx0062 (to .tied .usx)
+  pub other : autackM sealed ≡ false

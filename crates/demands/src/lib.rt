@@ -1,7 +1,7 @@
 // The demands, in the users' words and document 01's. Each is the promise of a function that does nothing, so that the gate holds it.
 // The definitions are those that the calls promise: of the crate `grammar` `Interchange` and `printInterchange` (Valid.antt, Interchange.antt), `Valid`
 // (Valid.antt, with the rules of Rules.antt, Elements.antt and Loads.antt), `verdictOf` and `totalsOf` (Verdict.antt), `countedIn` (Counted.antt);
-// of `ranges` `scope1Of`, `scope2Of` (Ranges.antt), of `f01` `f01Of` (F01.antt); of `values` `valueOf` (Values.antt); of `sealing` `sealOf`,
+// of `ranges` `scope1Of`, `scope2Of` (Ranges.antt), of `f01` `f01Of` (F01.antt), of `scope3` `scope3Of` (Scope3.antt); of `values` `valueOf` (Values.antt); of `sealing` `sealOf`,
 // `sealOctetsOf` and `sealed` (Sealing.antt); of `register` `registerOf`, `checkNumbers`, `toldCheck` (Register.antt); of `writing` `Writes`
 // (Written.antt); and here `Printed.antt`, `Companion.antt`, `Reported.antt`, `Sealed.antt`, `Range.antt` (the grammars of what is sealed) and `Read.antt`.
 ghost use Prim.Native.Nat.{ℕ, _+_, _-_, _≤_};
@@ -24,6 +24,7 @@ ghost use Rattle.grammar.specs.Counted.{countedIn, messagesIn};
 ghost use Rattle.groups.specs.Calls.{given, versionIn};
 ghost use Rattle.ranges.specs.Ranges.{Parts, parts, Run, run, scope1Of, scope2Of};
 ghost use Rattle.f01.specs.F01.{f01Of};
+ghost use Rattle.scope3.specs.Scope3.{scope3Of};
 ghost use Rattle.filters.specs.Octets.{Octets};
 ghost use Rattle.writing.specs.Written.{Text, text, Writes};
 ghost use Rattle.writing.specs.declared.Written.the-variants.{Length, Refused};
@@ -36,16 +37,16 @@ ghost use Rattle.listing.specs.Listing.{Lists};
 ghost use Rattle.gurandepi.specs.Answers.{Gives};
 ghost use Rattle.gurandepi.specs.declared.Written.{Written as Exported};
 ghost use Rattle.demands.specs.Ordinals.{SegmentAt};
-ghost use Rattle.demands.specs.Stated.{In, HasHeader, headersOf, trailersOf, Pairs, CountsAgree, number0036, Refers};
+ghost use Rattle.demands.specs.Stated.{In, HasHeader, headersOf, trailersOf, Pairs, CountsAgree, number0036, Refers, Refers3};
 ghost use Rattle.demands.specs.Sewn.{Sewn};
 ghost use Rattle.demands.specs.Allowed.{Allows, Seals};
 ghost use Rattle.demands.specs.Valued.{Valued};
-ghost use Rattle.demands.specs.Printed.{Scope1, Scope2, F01};
+ghost use Rattle.demands.specs.Printed.{Scope1, Scope2, F01, Scope3};
 ghost use Rattle.demands.specs.Reported.{Reported};
 ghost use Rattle.demands.specs.Companion.{Companion1, CompanionRun};
 ghost use Rattle.demands.specs.Sealed.{Accepted, Signed, Kept};
-ghost use Rattle.demands.specs.Range.{Reads, Range1, scope1, Range2, scope2, f01};
-ghost use Rattle.demands.specs.Read.{syntaxOf, Read1, Alike1, Read2, Alike2, ReadF, AlikeF};
+ghost use Rattle.demands.specs.Range.{Reads, Range1, scope1, Range2, scope2, f01, scope3};
+ghost use Rattle.demands.specs.Read.{syntaxOf, Read1, Alike1, Read2, Alike2, ReadF, AlikeF, Read3, Alike3};
 
 // D1. "A refusing call writes nothing into the buffers lent to it.": a call that writes a text and answers a refusal leaves the lent buffer as it was, every octet
 // of it.
@@ -130,6 +131,13 @@ pub fn f01_is_given()
     ensures { λ _. ⌜ ((a s m r : List ℕ) → ((p : Run) × (f01Of a s m r ≡ given p)) ↔ Refers a s m r) ⌝ }
 {}
 
+// Scope 3: a message is given if and only if the AUTACK's interchange a has the message m with a header of the 0534 r and the scope code 3, a USY of it names
+// that header, and s is accepted, has the 0020 of the first such USX in its UNB, and has a message with that USX's 0062 that is no AUTACK. Where one of these
+// fails and both are accepted, the answer is 13.
+pub fn scope3_is_given()
+    ensures { λ _. ⌜ ((a s m r : List ℕ) → ((p : Run) × (scope3Of a s m r ≡ given p)) ↔ Refers3 a s m r) ⌝ }
+{}
+
 // The value call gives v if and only if s is accepted and has the message and the header that are named, and the header's filter reads v from the text of
 // its seal: 0560 of the USR after the UST, or in an AUTACK of the first USY that names the header.
 pub fn value_is_given()
@@ -152,10 +160,15 @@ pub fn f01_is_printed()
     ensures { λ _. ⌜ ((a s m r : List ℕ) (x y : ℕ) → f01Of a s m r ≡ given (run x y) → F01 a s m r x y) ⌝ }
 {}
 
+// Scope 3: of the message, from its UNH through its UNT, that the AUTACK refers to.
+pub fn scope3_is_printed()
+    ensures { λ _. ⌜ ((a s m r : List ℕ) (x y : ℕ) → scope3Of a s m r ≡ given (run x y) → Scope3 a s m r x y) ⌝ }
+{}
+
 // "A companion call gives start and end. On refusal the part is empty and starts at 0": the calls that hand back a part tell no number of their own; for
-// every input the part is that from the companion's start to its end. Scope 1, scope 2 and F01.
+// every input the part is that from the companion's start to its end. Scope 1, scope 2, F01 and scope 3.
 pub fn part_is_companion()
-    ensures { λ _. ⌜ ((a s m r : List ℕ) → Companion1 s (scope1Of s m r) × (CompanionRun s (scope2Of s m r) × CompanionRun s (f01Of a s m r))) ⌝ }
+    ensures { λ _. ⌜ ((a s m r : List ℕ) → Companion1 s (scope1Of s m r) × (CompanionRun s (scope2Of s m r) × (CompanionRun s (f01Of a s m r) × CompanionRun s (scope3Of a s m r)))) ⌝ }
 {}
 
 // "seal A1 scope 1 octets 82": the number in a seal line of the report is how many octets the range call hands back. Scope 1: of both parts together.
@@ -261,4 +274,17 @@ pub fn f01_is_read()
 
 pub fn f01_reads_alike()
     ensures { λ _. ⌜ ((t s m r t′ s′ m′ r′ : List ℕ) (a b a′ b′ : ℕ) → f01Of t s m r ≡ given (run a b) → f01Of t′ s′ m′ r′ ≡ given (run a′ b′) → syntaxOf s ≡ syntaxOf s′ → slice a b s ≡ slice a′ b′ s′ → AlikeF t s m r a b t′ s′ m′ r′ a′ b′) ⌝ }
+{}
+
+// Scope 3: the message that is referred to. The premises are the same, and the syntax is that of the interchange in which it lies.
+pub fn scope3_one_reading()
+    ensures { λ _. ⌜ ((σ : Service) → T (fit σ) → (o : List ℕ) (t v : Message) → Reads scope3 σ o t → Reads scope3 σ o v → t ≡ v) ⌝ }
+{}
+
+pub fn scope3_is_read()
+    ensures { λ _. ⌜ ((t s m r : List ℕ) (a b : ℕ) → scope3Of t s m r ≡ given (run a b) → Read3 t s m r a b) ⌝ }
+{}
+
+pub fn scope3_reads_alike()
+    ensures { λ _. ⌜ ((t s m r t′ s′ m′ r′ : List ℕ) (a b a′ b′ : ℕ) → scope3Of t s m r ≡ given (run a b) → scope3Of t′ s′ m′ r′ ≡ given (run a′ b′) → syntaxOf s ≡ syntaxOf s′ → slice a b s ≡ slice a′ b′ s′ → Alike3 t s m r a b t′ s′ m′ r′ a′ b′) ⌝ }
 {}

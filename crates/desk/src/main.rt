@@ -6,6 +6,7 @@
 //     scope1 I MREF HREF    ok HS HE BS BE: start and end of the header part, and of the body part
 //     scope2 I MREF HREF    ok START END
 //     f01 A R MREF HREF    ok START END, in R
+//     scope3 A R MREF HREF    ok START END, in R
 //     value I MREF HREF CAP    ok HEX: the octets written into a buffer of CAP
 //     sealoct I MREF REF F CAP    ok HEX
 //     seal I MREF REF F VALUE CAP    ok HEX
@@ -39,6 +40,7 @@ use ranges::scopes::scope2_places;
 use register::register::Checked;
 use register::register::register_check;
 use register::register::register_write;
+use scope3::scope3_places;
 use sealing::seal::seal;
 use sealing::seal::seal_octets;
 use syntax::content::content_is;
@@ -191,6 +193,18 @@ fn answer_f01(out: &mut [u8; 4096], n: usize, s: &[u8], room: &mut [u8; 150000])
         let message = argument(room, &bounds, 2);
         let header = argument(room, &bounds, 3);
         return print_run(out, n, f01_places(autack, referenced, message, header));
+    }
+    print_bad(out, n)
+}
+
+fn answer_scope3(out: &mut [u8; 4096], n: usize, s: &[u8], room: &mut [u8; 150000]) -> usize {
+    let mut bounds = [0usize; 7];
+    if arguments(s, b"hhhh", room, &mut bounds) {
+        let autack = argument(room, &bounds, 0);
+        let referenced = argument(room, &bounds, 1);
+        let message = argument(room, &bounds, 2);
+        let header = argument(room, &bounds, 3);
+        return print_run(out, n, scope3_places(autack, referenced, message, header));
     }
     print_bad(out, n)
 }
@@ -376,6 +390,9 @@ fn answer_sealed(
     }
     if is_word(command, b"f01") {
         return answer_f01(out, n, rest, room);
+    }
+    if is_word(command, b"scope3") {
+        return answer_scope3(out, n, rest, room);
     }
     if is_word(command, b"value") {
         return answer_value(out, n, rest, room);

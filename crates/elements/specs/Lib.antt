@@ -4,5 +4,6 @@ pub mod Fields
 pub mod FieldsLaws
 pub mod Formed
 pub mod FormedLaws
+pub mod SubsetLaws
 pub mod Amounts
 pub mod AmountsLaws

@@ -70,7 +70,7 @@ fn sized(x: &[u8], release: u8, least: usize, most: usize) -> bool
 }
 
 // Whether the content has an octet at all. They are counted only where a glance does not settle it.
-fn not_empty(x: &[u8], release: u8) -> bool
+pub fn not_empty(x: &[u8], release: u8) -> bool
     ensures { λ r. ⌜ r ≡ inRange checked.notEmpty (content release (now (x .entry))) ⌝ }
 {
     if filled(x, release) {
@@ -112,7 +112,7 @@ fn reference_within(x: &[u8], release: u8, least: usize, most: usize) -> bool
 }
 
 // Whether a reference of which no length is printed is there: it is not made only of spaces.
-fn reference_there(x: &[u8], release: u8) -> bool
+pub fn reference_there(x: &[u8], release: u8) -> bool
     ensures { λ r. ⌜ r ≡ inRange checked.notEmptyReference (content release (now (x .entry))) ⌝ }
 {
     if visible(x, release) {

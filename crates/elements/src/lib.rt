@@ -2,6 +2,7 @@
 pub mod amounts;
 pub mod fields;
 pub mod formed;
+pub mod subset;
 
 ghost use mathlib.Core.Path.{_≡_};
 ghost use mathlib.Core.List.{[], _∷_};

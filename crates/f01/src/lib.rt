@@ -1,4 +1,4 @@
-// F01: the run of messages that an AUTACK seals in the interchange which it refers to.
+// F01: the run of messages that an AUTACK seals in the interchange which it refers to. What it finds in the AUTACK serves scope 3 too (crates/scope3).
 ghost use mathlib.Core.Path.{_≡_};
 ghost use mathlib.Core.Option.{some};
 ghost use mathlib.Core.List.{List};
@@ -10,8 +10,10 @@ ghost use denote.Ref.{ptr};
 ghost use Rattle.syntax.specs.Service.{fit};
 ghost use Rattle.syntax.specs.Classes.{Table};
 ghost use Rattle.grammar.specs.Verdict.{verdictOf};
-ghost use Rattle.groups.specs.Groups.{refNameAt};
+ghost use Rattle.syntax.specs.Content.{content};
+ghost use Rattle.groups.specs.Groups.{nameAt, refNameAt};
 ghost use Rattle.groups.specs.Calls.{Holds, answeredBy, then};
+ghost use Rattle.f01.specs.Targets.{target};
 ghost use Rattle.f01.specs.F01.{runIn, f01Of};
 ghost use Rattle.f01.specs.Referring.{referredIn, Refers, isReferred};
 ghost use Rattle.ranges.specs.Told.{runAs, runNumbers, toldRun, RunInside, runPart, startOf, endOf};
@@ -40,54 +42,61 @@ use syntax::reading::component_span;
 use syntax::repertoire::table;
 use walk::sections::Layout;
 
-// Where a reference stands in the octets, and the release there.
+// Where the 0020 and the 0062 of a USX stand in the octets, and the release there.
 pub struct Referred {
-    pub start: usize,
-    pub end: usize,
+    pub interchange: Range,
+    pub message: Range,
     pub release: u8,
 }
 
-// The 0020 of the first USX under which a USY names the header; or that there is none; or why the AUTACK's interchange is refused.
+// What the first USX refers to under which a USY names the header; or that there is none; or why the AUTACK's interchange is refused.
 pub enum Reference {
     At(Referred),
     Missing,
     Refused(Refusal),
 }
 
-// The 0020 of the USX that stands at `usx`.
-fn usx_reference(s: &[u8], t: &[u8; 256], y: Syntax, usx: usize) -> Reference
+// Where element `e` of the USX lies that stands at `usx`; empty where it is absent.
+fn usx_element(s: &[u8], t: &[u8; 256], y: Syntax, usx: usize, e: usize) -> Range
     requires { ⌜ Table y (now t) ⌝ }
-    ensures { λ r. ⌜ referredIn (now (s .entry)) r ≡ some (refNameAt (y .service) (now (s .entry)) usx 1) ⌝ }
+    ensures { λ r. ⌜ content (y .service .release) (slice (r .start) (r .end) (now (s .entry))) ≡ nameAt (y .service) (now (s .entry)) usx e ⌝ }
 {
-    let v = y.service;
-    match component_span(s, usx, t, y, 1, 0) {
-        Span::Part(a, e) => Reference::At(Referred {
-            start: a,
-            end: e,
-            release: v.release,
-        }),
-        Span::Absent => Reference::At(Referred {
-            start: 0,
-            end: 0,
-            release: v.release,
-        }),
+    match component_span(s, usx, t, y, e, 0) {
+        Span::Part(a, z) => Range { start: a, end: z },
+        Span::Absent => Range { start: 0, end: 0 },
     }
 }
 
-// In the message that is named: an AUTACK's header has the scope F01, and a USY names it.
+// The 0020 and the 0062 of the USX that stands at `usx`: its first and its seventh element.
+fn usx_reference(s: &[u8], t: &[u8; 256], y: Syntax, usx: usize) -> Reference
+    requires { ⌜ Table y (now t) ⌝ }
+    ensures { λ r. ⌜ referredIn (now (s .entry)) r ≡ some (target (refNameAt (y .service) (now (s .entry)) usx 1) (nameAt (y .service) (now (s .entry)) usx 7)) ⌝ }
+{
+    let v = y.service;
+    let interchange = usx_element(s, t, y, usx, 1);
+    let message = usx_element(s, t, y, usx, 7);
+    Reference::At(Referred {
+        interchange: interchange,
+        message: message,
+        release: v.release,
+    })
+}
+
+// In the message that is named: an AUTACK's header has this scope code, and a USY names it.
 fn reference_in(
     s: &[u8],
     t: &[u8; 256],
     y: Syntax,
     c: Layout,
     rows: &[usize; 18],
+    scope: &[u8],
     header: &[u8],
 ) -> Reference
     requires { ⌜ Table y (now t) ⌝ }
     requires { ⌜ T (fit (y .service)) × (c .headers ≤ 9) × (length (now rows) ≡ 18) ⌝ }
-    ensures { λ r. ⌜ ((m : List ℕ) → Holds (now (s .entry)) m y c (now (rows .entry)) → Refers (now (s .entry)) m (now (header .entry)) r) ⌝ }
+    ensures { λ r. ⌜ ((m : List ℕ) → Holds (now (s .entry)) m y c (now (rows .entry)) → Refers (now (scope .entry)) (now (s .entry)) m (now (header .entry)) r) ⌝ }
 {
-    match header_of(s, t, y, c, rows, b"F01", header) {
+    match header_of(s, t, y, c, rows, scope, header) {
         Sought::At(_) => match link_named(s, t, y, c.body, c.tail, header) {
             Linked::At(x) => usx_reference(s, t, y, x.usx),
             Linked::Nowhere => Reference::Missing,
@@ -96,20 +105,28 @@ fn reference_in(
     }
 }
 
-fn reference_named(s: &[u8], message: &[u8], header: &[u8]) -> Reference
-    ensures { λ r. ⌜ Refers (now (s .entry)) (now (message .entry)) (now (header .entry)) r ⌝ }
+// What the header `header` of the AUTACK `message` refers to, if its scope code is `scope`.
+pub fn reference_named(s: &[u8], message: &[u8], scope: &[u8], header: &[u8]) -> Reference
+    ensures { λ r. ⌜ Refers (now (scope .entry)) (now (s .entry)) (now (message .entry)) (now (header .entry)) r ⌝ }
 {
     let mut t = [0u8; 256];
     let mut rows = [0usize; 18];
     match message_named(s, message, &mut t, &mut rows) {
-        Named::Message(x) => reference_in(s, &t, x.syntax, x.layout, &rows, header),
+        Named::Message(x) => reference_in(s, &t, x.syntax, x.layout, &rows, scope, header),
         Named::Missing => Reference::Missing,
         Named::Refused(f) => Reference::Refused(f),
     }
 }
 
 // Whether the 0020 of the UNB at `from` is the one that the AUTACK in `autack` refers to.
-fn is_referred(s: &[u8], from: usize, t: &[u8; 256], y: Syntax, autack: &[u8], r: Reference) -> bool
+pub fn is_referred(
+    s: &[u8],
+    from: usize,
+    t: &[u8; 256],
+    y: Syntax,
+    autack: &[u8],
+    r: Reference,
+) -> bool
     requires { ⌜ Table y (now t) ⌝ }
     ensures { λ b. ⌜ b ≡ isReferred (referredIn (now (autack .entry)) r) (refNameAt (y .service) (now (s .entry)) from 5) ⌝ }
 {
@@ -117,7 +134,8 @@ fn is_referred(s: &[u8], from: usize, t: &[u8; 256], y: Syntax, autack: &[u8], r
         Reference::At(x) => {
             let v = y.service;
             let own = component_part(s, from, t, y, 5, 0);
-            same_reference(own, v.release, part(autack, x.start, x.end), x.release)
+            let w = x.interchange;
+            same_reference(own, v.release, part(autack, w.start, w.end), x.release)
         }
         Reference::Missing => false,
         Reference::Refused(_) => false,
@@ -158,7 +176,7 @@ pub fn f01_places(autack: &[u8], referenced: &[u8], message: &[u8], header: &[u8
     ensures { λ r. ⌜ toldRun r ≡ runNumbers (f01Of (now (autack .entry)) (now (referenced .entry)) (now (message .entry)) (now (header .entry))) ⌝ }
     ensures { λ r. ⌜ RunInside r (length (now (referenced .entry))) ⌝ }
 {
-    match reference_named(autack, message, header) {
+    match reference_named(autack, message, b"F01", header) {
         Reference::At(x) => run_of(referenced, autack, Reference::At(x)),
         Reference::Missing => run_of(referenced, autack, Reference::Missing),
         Reference::Refused(f) => Run::Refused(f),

@@ -74,10 +74,19 @@ pub rule-table : T (
     && same (totalNumbers (totalsOf (Q "UNH+M+X'QTY+12:1,234:KGM'UNT+3+M'UNZ+1+R'") (octets "M"))) (0 ∷ 0 ∷ 0 ∷ 1 ∷ 1234 ∷ [])
     -- a CNT that is not the message's load total
     && says (Q "UNH+M+X'QTY+12:1:KGM'CNT+1:2:KGM'UNT+4+M'UNZ+1+R'") 10 64 5
-    -- AUTACK: good; another scope; a USY that names no header; totals of no such message
+    -- AUTACK: good; another scope; a USY that names no header
     && says (Q "UNH+M+AUTACK'USH+1+A+F01'USB+1'USX+R'USY+A+1:0F'UST+A+2'UNT+7+M'UNZ+1+R'") 0 0 0
     && says (Q "UNH+M+AUTACK'USH+1+A+1'USB+1'USX+R'USY+A+1:0F'UST+A+2'UNT+7+M'UNZ+1+R'") 11 44 3
     && says (Q "UNH+M+AUTACK'USH+1+A+F01'USB+1'USX+R'USY+B+1:0F'UST+A+2'UNT+7+M'UNZ+1+R'") 9 68 6
+    -- the subset of GS1: good; a header without USC, before USB and before a further USH; no 0536; 0503 not 1 or 2; 0062 in the sixth place; another scope
+    && says (Q "UNH+M+AUTACK::::EAN001'USH+1+A+3'USC+C'USB+1'USX+R++++++N'USY+A+1:0F'UST+A+3'UNT+8+M'UNZ+1+R'") 0 0 0
+    && says (Q "UNH+M+AUTACK::::EAN001'USH+1+A+3'USB+1'USX+R++++++N'USY+A+1:0F'UST+A+2'UNT+7+M'UNZ+1+R'") 7 64 4
+    && says (Q "UNH+M+AUTACK::::EAN001'USH+1+A+3'USH+1+B+3'USC+C'USB+1'USX+R++++++N'USY+A+1:0F'UST+A+3'UNT+8+M'UNZ+1+R'") 7 64 4
+    && says (Q "UNH+M+AUTACK::::EAN001'USH+1+A+3'USC'USB+1'USX+R++++++N'USY+A+1:0F'UST+A+3'UNT+8+M'UNZ+1+R'") 8 64 4
+    && says (Q "UNH+M+AUTACK::::EAN001'USH+1+A+3'USC+C'USB+3'USX+R++++++N'USY+A+1:0F'UST+A+3'UNT+8+M'UNZ+1+R'") 8 70 5
+    && says (Q "UNH+M+AUTACK::::EAN001'USH+1+A+3'USC+C'USB+1'USX+R+++++N'USY+A+1:0F'UST+A+3'UNT+8+M'UNZ+1+R'") 8 76 6
+    && says (Q "UNH+M+AUTACK::::EAN001'USH+1+A+F01'USC+C'USB+1'USX+R++++++N'USY+A+1:0F'UST+A+3'UNT+8+M'UNZ+1+R'") 11 54 3
+    -- totals of no such message
     && same (totalNumbers (totalsOf (Q "UNH+M+X'UNT+2+M'UNZ+1+R'") (octets "N"))) (13 ∷ 0 ∷ 0 ∷ 0 ∷ 0 ∷ [])
     )
 unfolding inside

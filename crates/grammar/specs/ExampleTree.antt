@@ -88,6 +88,7 @@ tree-valid =
       repertoire = check-holds (rules.inside syntax-P (reading tree-P)) refl;
       inOrder = check-holds (rules.order (reading tree-P)) refl;
       elements = check-holds (rules.wellFormed syntax-P (reading tree-P)) refl;
+      inSubset = check-holds (rules.subsets (reading tree-P)) refl;
       references = check-holds (rules.refs (reading tree-P)) refl;
       counted = check-holds (rules.counts Four (reading tree-P)) refl;
       scoped = check-holds (rules.scopes (reading tree-P)) refl;

@@ -69,6 +69,11 @@ abbrev pub every : {A : Type 0} → (A → Rule) → Snoc A → Rule
 every f nil = always
 every f (s ▷ a) = every f s and f a
 
+-- each but the last, which may be just begun
+abbrev pub everyBefore : {A : Type 0} → (A → Rule) → Snoc A → Rule
+everyBefore f nil = always
+everyBefore f (s ▷ a) = every f s
+
 abbrev pub few : {A : Type 0} → ℕ → Snoc A → Rule
 few n s = test (leb (size s) n)
 

@@ -14,7 +14,8 @@ use Rattle.syntax.specs.declared.Version.{Version}
 use Rattle.grammar.specs.Lists.{Snoc, nil, _▷_, map, _+++_, joined, size, Rule, holds, every}
 use Rattle.grammar.specs.Segments.{Name, Unb, Unh, Unt, Unz, Ush, Usa, Usc, Usr, Ust, Usb, Usx, Usy, Kind, Named, Reserved, Free, Entry, entry, tags, kindIn, elementsOf, segmentKind, textOf, withTag, seg}
 use Rattle.grammar.specs.Interchange.{Leaf, Certificate, certificate, Header, header, Trailer, trailer, Link, link, Body, plain, ack, Open, msg, Message, message, Reading, start, idle, busy, done, showCertificate, showHeader, showTrailer, showLink, showBody, showOpen, showMessage, shown}
-use Rattle.grammar.specs.Rules.{order, refs, counts, scopes, autack, isFree, okItem, okBody, okTrailers, whole, filled, firm}
+use Rattle.grammar.specs.Rules.{order, subsets, refs, counts, scopes, autack, subset, certified, isFree, okItem, okBody, okTrailers, whole, filled}
+use Rattle.grammar.specs.RuleLaws.{every-before}
 use Rattle.grammar.specs.Placing.{usaC, usrC, usaH, uscH, usrH, lastly, usrT, usyL, inHeaders, inBody, usbB, usxB, usyB, itemB, usrO, ustO, inOpen, begun, opened, closed, ended, growNamed, grow, place}
 
 -- ---- a segment of a name has that name's tag
@@ -269,10 +270,6 @@ plain-of : (a : Bool) (hs : Snoc Header) (b : Snoc Segment) → T (not a) → ho
 plain-of a hs nil h k = tt
 plain-of a hs (b ▷ i) h k = (h, k)
 
-firm-of : (ls : Snoc Link) → holds (every filled ls) → holds (firm ls)
-firm-of nil h = tt
-firm-of (ls ▷ l) h = h .0
-
 trail-of : (a : Bool) (b : Body) (ts : Snoc Trailer) → holds (whole a b) → holds (okTrailers a b ts)
 trail-of a b nil h = tt
 trail-of a b (ts ▷ t) h = h
@@ -284,17 +281,36 @@ shut-order (idle u nil) f o = tt
 shut-order (idle u (ms ▷ message (msg h hs b ts) t)) f o = (o .0, o .1 .0)
 shut-order (done u ms z) f o = o .0
 shut-order (busy u ms (msg h nil (plain nil) nil)) f o = o .0
-shut-order (busy u ms (msg h (hs ▷ header d nil nil) (plain nil) nil)) f o = (o .0, (fewer (size hs) 9 (o .1 .0), (o .1 .1 .0 .0, o .1 .1 .1)))
+shut-order (busy u ms (msg h (hs ▷ header d nil nil) (plain nil) nil)) f o = (o .0, (fewer (size hs) 9 (o .1 .0), (o .1 .1 .0 .0, (tt, (tt, every-before (certified (subset h)) hs (o .1 .1 .1 .1 .1))))))
 shut-order (busy u ms (msg h (hs ▷ header d (us ▷ a) nil) (plain nil) nil)) f o = (o .0, (o .1 .0, ((o .1 .1 .0 .0, (fewer (size us) 3 (o .1 .1 .0 .1 .0), o .1 .1 .0 .1 .1)), o .1 .1 .1)))
 shut-order (busy u ms (msg h (hs ▷ header d us (cs ▷ certificate e nil none)) (plain nil) nil)) f o = (o .0, (o .1 .0, ((o .1 .1 .0 .0, (o .1 .1 .0 .1 .0, (fewer (size cs) 2 (o .1 .1 .0 .1 .1 .0), o .1 .1 .0 .1 .1 .1 .0))), o .1 .1 .1)))
 shut-order (busy u ms (msg h (hs ▷ header d us (cs ▷ certificate e (vs ▷ a) none)) (plain nil) nil)) f o = (o .0, (o .1 .0, ((o .1 .1 .0 .0, (o .1 .1 .0 .1 .0, (o .1 .1 .0 .1 .1 .0, (o .1 .1 .0 .1 .1 .1 .0, fewer (size vs) 3 (o .1 .1 .0 .1 .1 .1 .1))))), o .1 .1 .1)))
 shut-order (busy u ms (msg h (hs ▷ header d us (cs ▷ certificate e vs (some a))) (plain nil) nil)) f o = o
 shut-order (busy u ms (msg h hs (plain (b ▷ i)) nil)) f o = (o .0, (o .1 .0, (o .1 .1 .0, (plain-of (autack h) hs b (o .1 .1 .1 .0 .0) (o .1 .1 .1 .0 .1 .0), o .1 .1 .1 .1))))
-shut-order (busy u ms (msg h hs (ack d nil) nil)) f o = (o .0, (o .1 .0, (o .1 .1 .0, (tt, o .1 .1 .1 .1))))
-shut-order (busy u ms (msg h hs (ack d (ls ▷ link x nil)) nil)) f o = (o .0, (o .1 .0, (o .1 .1 .0, ((o .1 .1 .1 .0 .0, (o .1 .1 .1 .0 .1 .0, firm-of ls (o .1 .1 .1 .0 .1 .1))), o .1 .1 .1 .1))))
+shut-order (busy u ms (msg h hs (ack d nil) nil)) f o = (o .0, (o .1 .0, (o .1 .1 .0, (tt, (tt, every-before (certified (subset h)) hs (o .1 .1 .1 .1 .1))))))
+shut-order (busy u ms (msg h hs (ack d (ls ▷ link x nil)) nil)) f o = (o .0, (o .1 .0, (o .1 .1 .0, ((o .1 .1 .1 .0 .0, (o .1 .1 .1 .0 .1 .0, every-before filled ls (o .1 .1 .1 .0 .1 .1))), o .1 .1 .1 .1))))
 shut-order (busy u ms (msg h hs (ack d (ls ▷ link x (ys ▷ y))) nil)) f o = o
-shut-order (busy u ms (msg h hs b (ts ▷ trailer t none))) f o = (o .0, (o .1 .0, (o .1 .1 .0, (o .1 .1 .1 .0, trail-of (autack h) b ts (o .1 .1 .1 .1)))))
+shut-order (busy u ms (msg h hs b (ts ▷ trailer t none))) f o = (o .0, (o .1 .0, (o .1 .1 .0, (o .1 .1 .1 .0, (trail-of (autack h) b ts (o .1 .1 .1 .1 .0), o .1 .1 .1 .1 .1)))))
 shut-order (busy u ms (msg h hs b (ts ▷ trailer t (some a)))) f o = o
+
+-- 8, of a message's subset, is kept when the last segment is taken off
+pub shut-subsets : (z : Reading) (f : LastFree z) → holds (subsets z) → Before subsets (back z f)
+shut-subsets start f s = tt
+shut-subsets (idle u nil) f s = tt
+shut-subsets (idle u (ms ▷ message (msg h hs b ts) t)) f s = s
+shut-subsets (done u ms z) f s = s
+shut-subsets (busy u ms (msg h nil (plain nil) nil)) f s = s .0
+shut-subsets (busy u ms (msg h (hs ▷ header d nil nil) (plain nil) nil)) f s = (s .0, (s .1 .0 .0, s .1 .1))
+shut-subsets (busy u ms (msg h (hs ▷ header d (us ▷ a) nil) (plain nil) nil)) f s = s
+shut-subsets (busy u ms (msg h (hs ▷ header d us (cs ▷ certificate e nil none)) (plain nil) nil)) f s = (s .0, ((s .1 .0 .0, s .1 .0 .1 .0), s .1 .1))
+shut-subsets (busy u ms (msg h (hs ▷ header d us (cs ▷ certificate e (vs ▷ a) none)) (plain nil) nil)) f s = s
+shut-subsets (busy u ms (msg h (hs ▷ header d us (cs ▷ certificate e vs (some a))) (plain nil) nil)) f s = s
+shut-subsets (busy u ms (msg h hs (plain (b ▷ i)) nil)) f s = s
+shut-subsets (busy u ms (msg h hs (ack d nil) nil)) f s = (s .0, (s .1 .0, tt))
+shut-subsets (busy u ms (msg h hs (ack d (ls ▷ link x nil)) nil)) f s = (s .0, (s .1 .0, (s .1 .1 .0, s .1 .1 .1 .0)))
+shut-subsets (busy u ms (msg h hs (ack d (ls ▷ link x (ys ▷ y))) nil)) f s = s
+shut-subsets (busy u ms (msg h hs b (ts ▷ trailer t none))) f s = s
+shut-subsets (busy u ms (msg h hs b (ts ▷ trailer t (some a)))) f s = s
 
 -- 9 is kept when the last segment is taken off
 pub shut-refs : (z : Reading) (f : LastFree z) → holds (refs z) → Before refs (back z f)

@@ -1,6 +1,7 @@
 -- The rules on a tree, grouped by the number that tells their breach. Each is a formula over a tree or a part of one.
 -- A rule on single segments (3, 8, 12) is tested on each segment shown.
--- The last letter of a name says of what it is: S a segment, H a header group, T a trailer group, L a link, O an open message, M a message.
+-- The last letter of a name says of what it is: S a segment, C a certificate, H a header group, T a trailer group, L a link, B a body, O an open message,
+-- M a message.
 use Prim.Native.Nat.{ℕ, zero, suc, _+_}
 use mathlib.Core.Bool.{Bool, true, false, cond, not, _&&_, _||_}
 use mathlib.Core.List.{List, [], _∷_}
@@ -14,12 +15,12 @@ use Rattle.syntax.specs.Tree.{Segment, printS}
 use Rattle.syntax.specs.declared.Syntax.{Syntax}
 use Rattle.syntax.specs.declared.Version.{Version}
 use Rattle.grammar.specs.declared.Subset.{Subset}
-use Rattle.grammar.specs.declared.Subset.the-variants.{None, F01}
-use Rattle.grammar.specs.Lists.{Snoc, nil, _▷_, each, joined, size, any, among, Rule, always, test, _and_, every, few, distinct}
+use Rattle.grammar.specs.declared.Subset.the-variants.{None, F01, Gs1}
+use Rattle.grammar.specs.Lists.{Snoc, nil, _▷_, each, joined, size, any, among, Rule, always, test, _and_, every, everyBefore, few, distinct}
 use Rattle.grammar.specs.Grams.{Grams, sameGrams, sum}
-use Rattle.grammar.specs.Segments.{Kind, Named, Reserved, Free, segmentKind, asked, unb0020, unh0062, unh0065, unt0074, unt0062, unz0036, unz0020, ush0534, ush0541, ust0534, ust0588, usy0534}
+use Rattle.grammar.specs.Segments.{Name, Usc, Usb, Usx, Kind, Named, Reserved, Free, segmentKind, seg, asked, unb0020, unh0062, unh0065, unh0057, unt0074, unt0062, unz0036, unz0020, ush0534, ush0541, ust0534, ust0588, usy0534}
 use Rattle.grammar.specs.Interchange.{Leaf, Certificate, certificate, Header, header, Trailer, trailer, Link, link, Body, plain, ack, Open, msg, Message, message, Reading, start, idle, busy, done, showHeader, showTrailer, showMessage, shown}
-use Rattle.grammar.specs.Elements.{inRange, digits, formed}
+use Rattle.grammar.specs.Elements.{inRange, digits, formedRow, formed, subsetRow}
 use Rattle.grammar.specs.Loads.{loads, controls, loadRight}
 
 -- ---- 3: "octet outside the repertoire"
@@ -36,16 +37,23 @@ inside y x = every (insideS y) (shown x)
 abbrev pub autack : Leaf → Bool
 autack h = same (unh0065 h) (octets "AUTACK")
 
--- the subset of AUTACK that a message of this type is written by; None: it is no AUTACK
-abbrev pub subsetOf : List ℕ → Subset
-subsetOf t = cond (same t (octets "AUTACK")) F01 None
+-- the subset of AUTACK that a message of this type and association code is written by: that of GS1, "chosen by UNH's association code EAN001", else F01;
+-- None: it is no AUTACK
+abbrev pub subsetOf : List ℕ → List ℕ → Subset
+subsetOf t c = cond (same t (octets "AUTACK")) (cond (same c (octets "EAN001")) Gs1 F01) None
 
 abbrev pub subset : Leaf → Subset
-subset h = subsetOf (unh0065 h)
+subset h = subsetOf (unh0065 h) (unh0057 h)
 
 abbrev pub isAutack : Subset → Bool
 isAutack None = false
 isAutack F01 = true
+isAutack Gs1 = true
+
+abbrev pub isGs1 : Subset → Bool
+isGs1 None = false
+isGs1 F01 = false
+isGs1 Gs1 = true
 
 -- "0 to 3 USA", "0 to 2 times (USC, ..)"
 abbrev pub okCertificate : Certificate → Rule
@@ -54,13 +62,18 @@ okCertificate (certificate c us r) = few 3 us
 abbrev pub okHeader : Header → Rule
 okHeader (header c us cs) = few 3 us and few 2 cs and every okCertificate cs
 
--- "one or more USY" under each USX; the last may be just begun
+-- of the subset of GS1: "USC with 0536 is required in each header"
+abbrev pub certified : Subset → Header → Rule
+certified a (header c us cs) = test (any cs || not (isGs1 a))
+
+-- "7 at the segment after a header without USC": the last header may be just begun, until the body of AUTACK begins
+abbrev pub okHeads : Subset → Snoc Header → Body → Rule
+okHeads a hs (plain b) = everyBefore (certified a) hs
+okHeads a hs (ack c ls) = every (certified a) hs
+
+-- "one or more USY" under each USX
 abbrev pub filled : Link → Rule
 filled (link c ys) = test (any ys)
-
-abbrev pub firm : Snoc Link → Rule
-firm nil = always
-firm (ls ▷ l) = every filled ls
 
 -- "none tagged UNA UNB .."
 abbrev pub isFree : Kind → Bool
@@ -77,7 +90,7 @@ okItem g = test (isFree (segmentKind g))
 abbrev pub okBody : Bool → Snoc Header → Body → Rule
 okBody a hs (plain nil) = always
 okBody a hs (plain (b ▷ i)) = test (not a) and every okItem b and okItem i
-okBody a hs (ack c ls) = test a and test (any hs) and firm ls
+okBody a hs (ack c ls) = test a and test (any hs) and everyBefore filled ls
 
 -- a body that a trailer or UNT may follow: an AUTACK's has its USB by then, and so an AUTACK with an empty body is refused here, 7 at that trailer or UNT
 abbrev pub whole : Bool → Body → Rule
@@ -90,7 +103,7 @@ okTrailers a b (ts ▷ t) = whole a b
 
 -- "0 to 9 header groups"
 abbrev pub okOpen : Open → Rule
-okOpen (msg h hs b ts) = few 9 hs and every okHeader hs and okBody (autack h) hs b and okTrailers (autack h) b ts
+okOpen (msg h hs b ts) = few 9 hs and every okHeader hs and okBody (autack h) hs b and okTrailers (autack h) b ts and okHeads (subset h) hs b
 
 abbrev pub okMessage : Message → Rule
 okMessage (message (msg h hs b ts) t) = okOpen (msg h hs b ts) and whole (autack h) b
@@ -109,6 +122,35 @@ formedS y g = test (formed (y .version) (asked g))
 
 abbrev pub wellFormed : Syntax → Reading → Rule
 wellFormed y x = every (formedS y) (shown x)
+
+-- and, of the subset that a message is written by: "8 for a missing 0536, 0062 or wrong 0503"
+abbrev pub formedIn : Subset → Name → Leaf → Rule
+formedIn a n c = test (formedRow (subsetRow a n) (asked (seg n c)) 1)
+
+abbrev pub subsetC : Subset → Certificate → Rule
+subsetC a (certificate c us r) = formedIn a Usc c
+
+abbrev pub subsetH : Subset → Header → Rule
+subsetH a (header c us cs) = every (subsetC a) cs
+
+abbrev pub subsetL : Subset → Link → Rule
+subsetL a (link c ys) = formedIn a Usx c
+
+abbrev pub subsetB : Subset → Body → Rule
+subsetB a (plain b) = always
+subsetB a (ack c ls) = formedIn a Usb c and every (subsetL a) ls
+
+abbrev pub subsetsOpen : Open → Rule
+subsetsOpen (msg h hs b ts) = every (subsetH (subset h)) hs and subsetB (subset h) b
+
+abbrev pub subsetsMessage : Message → Rule
+subsetsMessage (message o t) = subsetsOpen o
+
+abbrev pub subsets : Reading → Rule
+subsets start = always
+subsets (idle u ms) = every subsetsMessage ms
+subsets (busy u ms o) = every subsetsMessage ms and subsetsOpen o
+subsets (done u ms z) = every subsetsMessage ms
 
 -- ---- 9: "reference differs, repeats or is unpaired"
 
@@ -190,12 +232,13 @@ counts v (idle u ms) = every (countsMessage v) ms
 counts v (busy u ms o) = every (countsMessage v) ms
 counts v (done u ms z) = every (countsMessage v) ms and test (eqb (unz0036 z) (size ms))
 
--- ---- 11: "0541 is 1 or 2; in AUTACK it is F01 and nothing else."
+-- ---- 11: "0541 is 1 or 2; in AUTACK it is F01 and nothing else.", and in the subset of GS1 "0541 is 3"
 
 -- whether 0541 may be this, in a message of the subset
 abbrev pub scopeCode : Subset → List ℕ → Bool
 scopeCode None s = same s (octets "1") || same s (octets "2")
 scopeCode F01 s = same s (octets "F01")
+scopeCode Gs1 s = same s (octets "3")
 
 abbrev pub scopeRight : Subset → Header → Rule
 scopeRight a (header c us cs) = test (scopeCode a (ush0541 c))

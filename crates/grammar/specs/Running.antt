@@ -6,7 +6,7 @@ use Rattle.syntax.specs.Tree.{Segment}
 use Rattle.syntax.specs.declared.Syntax.{Syntax}
 use Rattle.grammar.specs.Lists.{holds}
 use Rattle.grammar.specs.Interchange.{Reading}
-use Rattle.grammar.specs.Rules.{insideS, inside, order, formedS, wellFormed, refs, counts, scopes, amountS, amounts}
+use Rattle.grammar.specs.Rules.{insideS, inside, order, formedS, wellFormed, subsets, refs, counts, scopes, amountS, amounts}
 use Rattle.grammar.specs.Placing.{place}
 
 -- the segment g takes the reading x to z, and every test is passed
@@ -15,6 +15,7 @@ pub record Passed (y : Syntax) (x : Reading) (g : Segment) (z : Reading) : Type 
   pub three : holds (insideS y g)
   pub seven : holds (order z)
   pub eight : holds (formedS y g)
+  pub inSubset : holds (subsets z)
   pub nine : holds (refs z)
   pub ten : holds (counts (y .version) z)
   pub eleven : holds (scopes z)
@@ -29,6 +30,7 @@ pub record Good (y : Syntax) (x : Reading) : Type 0 where
   pub three : holds (inside y x)
   pub seven : holds (order x)
   pub eight : holds (wellFormed y x)
+  pub inSubset : holds (subsets x)
   pub nine : holds (refs x)
   pub ten : holds (counts (y .version) x)
   pub eleven : holds (scopes x)

@@ -7,17 +7,17 @@ use Rattle.syntax.specs.declared.Syntax.{Syntax}
 use Rattle.grammar.specs.Lists.{Snoc, nil, _▷_, list, Rule, holds, every}
 use Rattle.grammar.specs.Segments.{Name, Unb, Unh, Unt, Unz, Ush, Usa, Usc, Usr, Ust, Usb, Usx, Usy, Kind, Named, Reserved, Free, segmentKind, elementsOf}
 use Rattle.grammar.specs.Interchange.{Leaf, Message, Reading, start, done, shown}
-use Rattle.grammar.specs.Rules.{insideS, inside, order, formedS, wellFormed, refs, counts, scopes, amountS, amounts}
+use Rattle.grammar.specs.Rules.{insideS, inside, order, formedS, wellFormed, subsets, refs, counts, scopes, amountS, amounts}
 use Rattle.grammar.specs.Placing.{growNamed, grow, place}
 use Rattle.grammar.specs.Running.{Passed, Runs, stay, go, Good}
 use Rattle.grammar.specs.SnocLaws.{onto, list-onto, not-nil}
-use Rattle.grammar.specs.PlacingLaws.{shows, Back, first, from, LastFree, last-free, back, Before, shut-order, shut-refs, shut-counts, shut-scopes, shut-each}
+use Rattle.grammar.specs.PlacingLaws.{shows, Back, first, from, LastFree, last-free, back, Before, shut-order, shut-subsets, shut-refs, shut-counts, shut-scopes, shut-each}
 
 -- ---- a run keeps what is good
 
 -- nothing read is good
 pub good-start : (y : Syntax) → Good y start
-good-start y = record { three = tt; seven = tt; eight = tt; nine = tt; ten = tt; eleven = tt; twelve = tt }
+good-start y = record { three = tt; seven = tt; eight = tt; inSubset = tt; nine = tt; ten = tt; eleven = tt; twelve = tt }
 
 -- a rule on single segments, of what was read and of the segment placed
 every-placed : (p : Segment → Rule) (x : Reading) (g : Segment) {z : Reading} → place x g ≡ some z → holds (every p (shown x)) → holds (p g) → holds (every p (shown z))
@@ -29,6 +29,7 @@ passed-good {y = y} {x = x} {g = g} h p = record {
   three = every-placed (insideS y) x g (p .placed) (h .three) (p .three);
   seven = p .seven;
   eight = every-placed (formedS y) x g (p .placed) (h .eight) (p .eight);
+  inSubset = p .inSubset;
   nine = p .nine;
   ten = p .ten;
   eleven = p .eleven;
@@ -60,14 +61,14 @@ abbrev GoodBefore : {z : Reading} → Syntax → Back z → Type 0
 GoodBefore y first = Unit {0}
 GoodBefore y (from x g q) = Good y x
 
-good-all : (y : Syntax) {z : Reading} (b : Back z) → Before (inside y) b → Before order b → Before (wellFormed y) b → Before refs b → Before (counts (y .version)) b → Before scopes b
+good-all : (y : Syntax) {z : Reading} (b : Back z) → Before (inside y) b → Before order b → Before (wellFormed y) b → Before subsets b → Before refs b → Before (counts (y .version)) b → Before scopes b
     → Before amounts b → GoodBefore y b
-good-all y first a b c d e f g = tt
-good-all y (from x k q) a b c d e f g = record { three = a; seven = b; eight = c; nine = d; ten = e; eleven = f; twelve = g }
+good-all y first a b c i d e f g = tt
+good-all y (from x k q) a b c i d e f g = record { three = a; seven = b; eight = c; inSubset = i; nine = d; ten = e; eleven = f; twelve = g }
 
 good-back : (y : Syntax) (z : Reading) (f : LastFree z) → Good y z → GoodBefore y (back z f)
 good-back y z f h =
-    good-all y (back z f) (shut-each (insideS y) z f (h .three)) (shut-order z f (h .seven)) (shut-each (formedS y) z f (h .eight)) (shut-refs z f (h .nine))
+    good-all y (back z f) (shut-each (insideS y) z f (h .three)) (shut-order z f (h .seven)) (shut-each (formedS y) z f (h .eight)) (shut-subsets z f (h .inSubset)) (shut-refs z f (h .nine))
     (shut-counts (y .version) z f (h .ten)) (shut-scopes z f (h .eleven)) (shut-each amountS z f (h .twelve))
 
 every-last : (p : Segment → Rule) (x : Reading) (g : Segment) {z : Reading} → place x g ≡ some z → holds (every p (shown z)) → holds (p g)
@@ -80,6 +81,7 @@ good-passed {y = y} {x = x} {g = g} e h = record {
   three = every-last (insideS y) x g e (h .three);
   seven = h .seven;
   eight = every-last (formedS y) x g e (h .eight);
+  inSubset = h .inSubset;
   nine = h .nine;
   ten = h .ten;
   eleven = h .eleven;

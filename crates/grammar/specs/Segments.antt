@@ -108,6 +108,10 @@ unh0062 es = compared (unh0062Text es)
 abbrev pub unh0065 : List Element → List ℕ
 unh0065 es = elementContent es 2 0
 
+-- "UNH's association code"
+abbrev pub unh0057 : List Element → List ℕ
+unh0057 es = elementContent es 2 4
+
 -- UNT
 abbrev pub unt0074 : List Element → ℕ
 unt0074 es = number es 1
@@ -152,6 +156,13 @@ usr0560 v es = elementContent es 1 (valuePart v)
 
 abbrev pub usx0020 : List Element → List ℕ
 usx0020 es = compared (elementContent es 1 0)
+
+-- in the subset of GS1, "at the positions that 004's layout gives": 0020; S002; S003; 0048; S006; S007; 0062
+abbrev pub usx0062Text : List Element → List ℕ
+usx0062Text es = elementContent es 7 0
+
+abbrev pub usx0062 : List Element → List ℕ
+usx0062 es = compared (usx0062Text es)
 
 abbrev pub usy0534 : List Element → List ℕ
 usy0534 es = compared (elementContent es 1 0)

@@ -20,7 +20,7 @@ use Rattle.syntax.specs.declared.opening.Begun.the-variants.{Ready, Refused}
 use Rattle.grammar.specs.Lists.{Snoc, list, holds}
 use Rattle.grammar.specs.Segments.{unb0001, unb0002}
 use Rattle.grammar.specs.Interchange.{Leaf, Message, Reading, done, shown}
-use Rattle.grammar.specs.Rules.{inside, order, wellFormed, refs, counts, scopes, amounts}
+use Rattle.grammar.specs.Rules.{inside, order, wellFormed, subsets, refs, counts, scopes, amounts}
 
 -- UNA: the service characters, and the decimal mark that is ignored
 pub data Una : Type 0 where
@@ -86,10 +86,11 @@ pub record Valid (t : Interchange) : Type 0 where
   pub named : syntaxIn t ≡ some y
   -- the segments are well-formed under the service characters in force
   pub written : T (well (y .service) (segments t))
-  -- the rules, by number: 3, 7, 8, 9, 10, 11, 12
+  -- the rules, by number: 3, 7, 8 of each segment and by the message's subset, 9, 10, 11, 12
   pub repertoire : holds (inside y (reading t))
   pub inOrder : holds (order (reading t))
   pub elements : holds (wellFormed y (reading t))
+  pub inSubset : holds (subsets (reading t))
   pub references : holds (refs (reading t))
   pub counted : holds (counts (y .version) (reading t))
   pub scoped : holds (scopes (reading t))

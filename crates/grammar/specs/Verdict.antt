@@ -1,6 +1,6 @@
 -- The verdict, as document 01 prints it: for every list of octets the reading, or the first refusal in the paper's order.
 use Prim.Native.Nat.{ℕ, _+_}
-use mathlib.Core.Bool.{Bool, true, false, cond, not}
+use mathlib.Core.Bool.{Bool, true, false, cond, not, _&&_}
 use mathlib.Core.List.{List, [], _∷_}
 use mathlib.Core.Option.{Option, none, some}
 use lib.ListN.{length, getD, drop}
@@ -21,7 +21,7 @@ use Rattle.syntax.specs.declared.opening.Begun.the-variants.{Ready, Refused}
 use Rattle.grammar.specs.Lists.{Snoc, nil, _▷_, size, Rule, check}
 use Rattle.grammar.specs.Grams.{Grams, sum}
 use Rattle.grammar.specs.Interchange.{Body, plain, ack, Open, msg, Message, message, Reading, start, idle, busy, done}
-use Rattle.grammar.specs.Rules.{insideS, order, formedS, refs, counts, scopes, amountS, refM}
+use Rattle.grammar.specs.Rules.{insideS, order, formedS, subsets, refs, counts, scopes, amountS, refM}
 use Rattle.grammar.specs.Loads.{loads}
 use Rattle.grammar.specs.Valid.{Una, una, Interchange, interchange}
 use Rattle.grammar.specs.Placing.{place}
@@ -48,7 +48,7 @@ abbrev pub tests : Syntax → Segment → ℕ → Option Reading → List Test
 tests y g p x =
     tested 3 (foundAt p (firstOutside y (printS (y .service) g) p)) (check (insideS y g))
     ∷ tested 7 p (on order x)
-    ∷ tested 8 p (check (formedS y g))
+    ∷ tested 8 p (check (formedS y g) && on subsets x)
     ∷ tested 9 p (on refs x)
     ∷ tested 10 p (on (counts (y .version)) x)
     ∷ tested 11 p (on scopes x)

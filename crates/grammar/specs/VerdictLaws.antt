@@ -37,7 +37,7 @@ use Rattle.grammar.specs.StartLaws.{every-front, StartRead, start-read, 
 -- ---- a valid interchange is accepted
 
 good-of : (t : Interchange) (v : Valid t) → Good (v .y) (reading t)
-good-of t v = record { three = v .repertoire; seven = v .inOrder; eight = v .elements; nine = v .references; ten = v .counted; eleven = v .scoped; twelve = v .weighed }
+good-of t v = record { three = v .repertoire; seven = v .inOrder; eight = v .elements; inSubset = v .inSubset; nine = v .references; ten = v .counted; eleven = v .scoped; twelve = v .weighed }
 
 accepts : (t : Interchange) → Valid t → verdictOf (printInterchange t) ≡ accepted t
 accepts (interchange n u ms z) v =
@@ -103,6 +103,7 @@ valid-read s x h u ms z w =
         repertoire = g .0 .three;
         inOrder = g .0 .seven;
         elements = g .0 .eight;
+        inSubset = g .0 .inSubset;
         references = g .0 .nine;
         counted = g .0 .ten;
         scoped = g .0 .eleven;

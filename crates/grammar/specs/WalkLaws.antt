@@ -1,12 +1,13 @@
 -- The walk over a chain reads just where a run over its segments ends in a whole interchange; and so over octets.
 use Prim.Native.Nat.{ℕ, _+_}
 use native.Mathlib.Omega.{arith}
-use mathlib.Core.Bool.{true, false}
+use mathlib.Core.Bool.{true, false, _&&_}
 use mathlib.Core.List.{List, [], _∷_}
 use mathlib.Core.Option.{Option, none, some, Option·none-ne-some}
 use mathlib.Core.Path.{_≡_, refl, ap, sym, _∙_, subst}
 use lib.Dec.{T}
 use lib.ListN.{length}
+use Rattle.syntax.specs.RepertoireLaws.{and-l, and-r}
 use Rattle.syntax.specs.Service.{fit}
 use Rattle.syntax.specs.Tree as syntax
 use Rattle.syntax.specs.Tree.{Component, Repeat, Element, Segment, printS, well}
@@ -16,7 +17,7 @@ use Rattle.syntax.specs.declared.Syntax.{Syntax}
 use Rattle.grammar.specs.Lists.{Snoc, Rule, check}
 use Rattle.grammar.specs.Segments.{Unb, Unh, Unt, Unz, Ush, Usa, Usc, Usr, Ust, Usb, Usx, Usy, Kind, Named, Reserved, Free, segmentKind}
 use Rattle.grammar.specs.Interchange.{Leaf, Message, Reading, start, idle, busy, done}
-use Rattle.grammar.specs.Rules.{insideS, order, formedS, refs, counts, scopes, amountS}
+use Rattle.grammar.specs.Rules.{insideS, order, formedS, subsets, refs, counts, scopes, amountS}
 use Rattle.grammar.specs.RuleLaws.{check-holds, holds-check}
 use Rattle.grammar.specs.Placing.{grow, place}
 use Rattle.grammar.specs.RunningLaws.{done-stops}
@@ -59,7 +60,8 @@ step-passed y x g p {z} e =
       placed = k .1;
       three = check-holds (insideS y g) (a .0);
       seven = check-holds (order z) (on-some order (k .1) (a .1 .0));
-      eight = check-holds (formedS y g) (a .1 .1 .0);
+      eight = check-holds (formedS y g) (and-l (check (formedS y g)) (on subsets (place x g)) (a .1 .1 .0));
+      inSubset = check-holds (subsets z) (on-some subsets (k .1) (and-r (check (formedS y g)) (on subsets (place x g)) (a .1 .1 .0)));
       nine = check-holds (refs z) (on-some refs (k .1) (a .1 .1 .1 .0));
       ten = check-holds (counts (y .version) z) (on-some (counts (y .version)) (k .1) (a .1 .1 .1 .1 .0));
       eleven = check-holds (scopes z) (on-some scopes (k .1) (a .1 .1 .1 .1 .1 .0));
@@ -75,7 +77,7 @@ passed-step y x g {z} k p =
       (
         some-on order h (holds-check (order z) (k .seven)),
         (
-          holds-check (formedS y g) (k .eight),
+          rw (holds-check (formedS y g) (k .eight)) (some-on subsets h (holds-check (subsets z) (k .inSubset))),
           (
             some-on refs h (holds-check (refs z) (k .nine)),
             (

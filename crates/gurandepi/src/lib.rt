@@ -8,6 +8,7 @@ ghost use Rattle.judge.specs.Told.{toldVerdict};
 ghost use Rattle.judge.specs.Totals.{toldTotals};
 ghost use Rattle.ranges.specs.Ranges.{scope1Of, scope2Of};
 ghost use Rattle.f01.specs.F01.{f01Of};
+ghost use Rattle.scope3.specs.Scope3.{scope3Of};
 ghost use Rattle.ranges.specs.Told.{partNumbers, toldParts, runNumbers, toldRun};
 ghost use Rattle.writing.specs.Written.{toldWritten};
 ghost use Rattle.values.specs.Values.{valueOf};
@@ -26,6 +27,7 @@ use ranges::scopes::scope2_places;
 use register::register::Checked;
 use register::register::register_check;
 use register::register::register_write;
+use scope3::scope3_places;
 use sealing::seal::seal;
 use sealing::seal::seal_octets;
 use values::value;
@@ -238,6 +240,19 @@ pub extern "C" fn gurandepi_f01(
     ensures { λ r. ⌜ rangeFields r ≡ runNumbers (f01Of (now (autack .entry)) (now (referenced .entry)) (now (message .entry)) (now (header .entry))) ⌝ }
 {
     run_answer(f01_places(autack, referenced, message, header))
+}
+
+// Scope 3, of the GS1 subset: where the message starts and ends, in the referenced interchange, that the AUTACK names. `message` is the AUTACK's 0062.
+#[no_mangle]
+pub extern "C" fn gurandepi_scope3(
+    autack: &[u8],
+    referenced: &[u8],
+    message: &[u8],
+    header: &[u8],
+) -> Range
+    ensures { λ r. ⌜ rangeFields r ≡ runNumbers (scope3Of (now (autack .entry)) (now (referenced .entry)) (now (message .entry)) (now (header .entry))) ⌝ }
+{
+    run_answer(scope3_places(autack, referenced, message, header))
 }
 
 // The value that a header's seal carries, into `out`.

@@ -34,7 +34,7 @@ sealWords reference scope = together (octets "seal " ∷ reference ∷ octets " 
 abbrev pub octetsWords : ℕ → List ℕ
 octetsWords n = together (octets " octets " ∷ decimalOf n ∷ [])
 
--- what a seal covers: so many octets in scope 1, so many in scope 2; "its seal lines end after F01"
+-- what a seal covers: so many octets in scope 1, so many in scope 2; in an AUTACK "its seal lines end after F01", and in the GS1 subset "after `scope 3`"
 abbrev pub coveredWords : List ℕ → ℕ → ℕ → List ℕ
 coveredWords scope one two = cond (same scope (octets "1")) (octetsWords one) (cond (same scope (octets "2")) (octetsWords two) [])
 

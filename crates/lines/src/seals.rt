@@ -86,7 +86,7 @@ fn put_octets(out: &mut [u8], at: usize, n: usize) -> usize
     put_number(&mut *out, a, n as u64)
 }
 
-// What the header group from `start` to `end` covers: in scope 1 itself and the body. An F01 run lies in another interchange.
+// What the header group from `start` to `end` covers: in scope 1 itself and the body. An F01 run, and the message of scope 3, lie in another interchange.
 fn put_covered(
     out: &mut [u8],
     at: usize,

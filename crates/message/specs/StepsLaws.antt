@@ -22,7 +22,7 @@ use Rattle.syntax.specs.declared.content.Number.the-variants.{Is, Not}
 use Rattle.grammar.specs.Lists.{Snoc, _▷_, among}
 use Rattle.grammar.specs.TestLaws.{passes}
 use Rattle.grammar.specs.declared.Subset.{Subset}
-use Rattle.grammar.specs.declared.Subset.the-variants.{None, F01}
+use Rattle.grammar.specs.declared.Subset.the-variants.{None, F01, Gs1}
 use Rattle.grammar.specs.Rules.{claimed, scopeCode}
 use Rattle.grammar.specs.Segments.{Unt, Unz, Ust, Asked}
 use Rattle.grammar.specs.Elements.{Range, notEmptyReference, digits, simple, row, inRange, formedAs, formedRow}
@@ -74,6 +74,9 @@ module _ (σ : Service) (s : List ℕ) (a : ℕ) {x : List ℕ} (e : x ≡ partO
   module _ {autack : Subset} where
     pub scope-autack : {r : Bool} → autack ≡ F01 → r ≡ same (content (σ .release) x) (octets "F01") → r ≡ scopeCode autack (textAt σ s a 3 0)
     scope-autack t q = q ∙ scope-text (octets "F01") ∙ ap (λ (b : Subset). scopeCode b (textAt σ s a 3 0)) (sym t)
+
+    pub scope-gs1 : {r : Bool} → autack ≡ Gs1 → r ≡ same (content (σ .release) x) (octets "3") → r ≡ scopeCode autack (textAt σ s a 3 0)
+    scope-gs1 t q = q ∙ scope-text (octets "3") ∙ ap (λ (b : Subset). scopeCode b (textAt σ s a 3 0)) (sym t)
 
     module _ (t : autack ≡ None) {p : Bool} (q : p ≡ same (content (σ .release) x) (octets "1")) where
       scope-is : (b : Bool) → p ≡ b → scopeCode autack (textAt σ s a 3 0) ≡ (b || same (textAt σ s a 3 0) (octets "2"))
@@ -135,7 +138,7 @@ module _ (s : List ℕ) {b : Bool} (d : b ≡ inRange (digits 1 6) s) where
 -- ---- what a kind that may come and is well formed gives
 
 pub ush-room : (m : Message) → mayCome Ush m ≡ true → m .headers < 9
-ush-room m e = ltb-true (m .headers) 9 (and-r (atHeads (m .group)) (ltb (m .headers) 9) e)
+ush-room m e = ltb-true (m .headers) 9 (and-r (atHeads (m .autack) (m .group)) (ltb (m .headers) 9) e)
 
 pub closed-range : (r : Range) (a : Asked) (p : ℕ) → formedAs (simple (r ∷ [])) a p ≡ true → inRange r (a .text p 0) ≡ true
 closed-range r a p e = at (a .repeated p) (inRange r (a .text p 0)) (leb (a .parts p) 1) e

@@ -16,9 +16,10 @@ use Rattle.grammar.specs.Segments.{Asked, unb0020, unh0062, ust0534, ust0588}
 use Rattle.grammar.specs.Interchange.{Leaf, certificate, Header, header, Trailer, trailer, Link, link, Body, plain, ack, Open, msg, Reading, start, idle, busy, done, showHeader, showTrailer, showOpen}
 use Rattle.grammar.specs.Loads.{loads, controls, loadIn, controlIn, loadRight}
 use Rattle.grammar.specs.Elements.{formed}
-use Rattle.grammar.specs.Rules.{isAutack, subset, subsetOf, refH, refT, refM, sizeAt, claimed, counted, scopeCode}
+use Rattle.grammar.specs.Rules.{isAutack, isGs1, subset, subsetOf, refH, refT, refM, sizeAt, claimed, counted, scopeCode}
 use Rattle.grammar.specs.Verdict.{Test, tested, Answer, read, refused}
 use Rattle.elements.specs.Kinds.{tagKind}
+use Rattle.elements.specs.Formed.{subsetBy}
 use Rattle.elements.specs.declared.Kind.{Kind}
 use Rattle.elements.specs.declared.Kind.the-variants.{Unb, Unh, Unt, Unz, Ush, Usa, Usc, Usr, Ust, Usb, Usx, Usy, Reserved, Qty, Cnt, Other}
 use Rattle.message.specs.declared.Group.{Group}
@@ -119,14 +120,15 @@ stateOf (done u ms z) = doneS
 
 -- ---- 7, in a message: by group and kind. "Message: UNH, 0 to 9 header groups, body, one trailer group for each header, UNT."
 
--- "UNH, 0 to 9 header groups": nothing but these has come, so that a further header, or the USB of a body, may come
-abbrev pub atHeads : Group → Bool
-atHeads Opened = true
-atHeads (InHeader n) = true
-atHeads (InCertificate n m r) = true
-atHeads InBody = false
-atHeads (InAck l y) = false
-atHeads (InTrailer r) = false
+-- "UNH, 0 to 9 header groups": nothing but these has come, so that a further header, or the USB of a body, may come; but not, in the subset of GS1, "after a
+-- header without USC"
+abbrev pub atHeads : Subset → Group → Bool
+atHeads a Opened = true
+atHeads a (InHeader n) = not (isGs1 a)
+atHeads a (InCertificate n m r) = true
+atHeads a InBody = false
+atHeads a (InAck l y) = false
+atHeads a (InTrailer r) = false
 
 -- "A body has 0 or more segments": after the headers, and after other segments of the body
 abbrev pub atItems : Group → Bool
@@ -198,12 +200,12 @@ mayCome Unb m = false
 mayCome Unh m = false
 mayCome Unt m = closes (isAutack (m .autack)) (m .group)
 mayCome Unz m = false
-mayCome Ush m = atHeads (m .group) && ltb (m .headers) 9
+mayCome Ush m = atHeads (m .autack) (m .group) && ltb (m .headers) 9
 mayCome Usa m = usaMay (m .group)
 mayCome Usc m = uscMay (m .group)
 mayCome Usr m = usrMay (m .group)
 mayCome Ust m = closes (isAutack (m .autack)) (m .group)
-mayCome Usb m = atHeads (m .group) && (isAutack (m .autack) && ltb 0 (m .headers))
+mayCome Usb m = atHeads (m .autack) (m .group) && (isAutack (m .autack) && ltb 0 (m .headers))
 mayCome Usx m = usxMay (m .group)
 mayCome Usy m = usyMay (m .group)
 mayCome Reserved m = false
@@ -272,6 +274,14 @@ orderK startS k = atStart true false k
 orderK (idleS u rs) k = atIdle true (any rs) false k
 orderK (busyS u rs S) k = mayCome k (S .m)
 orderK doneS k = false
+
+-- ---- 8, of what the message's subset checks besides
+
+abbrev pub subsetK : StateS → Kind → Asked → Bool
+subsetK startS k a = true
+subsetK (idleS u rs) k a = true
+subsetK (busyS u rs S) k a = subsetBy k (S .m .autack) a
+subsetK doneS k a = true
 
 -- ---- 9
 
@@ -475,7 +485,7 @@ busyNext Other u rs S a = busyS u rs (itemNext S (S .m .sums))
 -- a message begun by its UNH
 abbrev pub opened : Asked → Summary
 opened a = record {
-  m = record { group = Opened; autack = subsetOf (a .text 2 0); segments = 1; headers = 0; sums = noSums; pair = noPair };
+  m = record { group = Opened; autack = subsetOf (a .text 2 0) (a .text 2 4); segments = 1; headers = 0; sums = noSums; pair = noPair };
   ref = refIn a 1;
   refs = nil;
   sizes = nil;
@@ -492,6 +502,9 @@ nextK doneS k a = doneS
 
 abbrev pub orderS : StateS → Asked → Bool
 orderS x a = orderK x (tagKind (a .tag))
+
+abbrev pub subsetS : StateS → Asked → Bool
+subsetS x a = subsetK x (tagKind (a .tag)) a
 
 abbrev pub refsS : StateS → Asked → Bool
 refsS x a = refsK x (tagKind (a .tag)) a
@@ -516,7 +529,7 @@ abbrev pub testsS : Syntax → Asked → Bool → ℕ → ℕ → StateS → Lis
 testsS y a i q p x =
     tested 3 q i
     ∷ tested 7 p (orderS x a)
-    ∷ tested 8 p (formed (y .version) a)
+    ∷ tested 8 p (formed (y .version) a && subsetS x a)
     ∷ tested 9 p (refsS x a)
     ∷ tested 10 p (countsS (y .version) x a)
     ∷ tested 11 p (scopeS x a)

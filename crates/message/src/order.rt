@@ -6,14 +6,20 @@ ghost use Rattle.message.specs.Summary.{atHeads, atItems, closes, usaMay
 use crate::Group;
 use crate::Message;
 use elements::Kind;
+use grammar::Subset;
 use grammar::is_autack;
+use grammar::is_gs1;
 
-fn at_heads(g: Group) -> bool
-    ensures { λ r. ⌜ r ≡ atHeads g ⌝ }
+// Whether a further header, or the USB of a body, may come: in the subset of GS1 each header has a USC.
+fn at_heads(a: Subset, g: Group) -> bool
+    ensures { λ r. ⌜ r ≡ atHeads a g ⌝ }
 {
     match g {
         Group::Opened => true,
-        Group::Header(_) => true,
+        Group::Header(_) => {
+            let b = is_gs1(a);
+            !b
+        }
         Group::Certificate(_, _, _) => true,
         Group::Body => false,
         Group::Ack(_, _) => false,
@@ -123,19 +129,19 @@ fn usy_may(g: Group) -> bool
     }
 }
 
-fn ush_may(g: Group, headers: u16) -> bool
-    ensures { λ r. ⌜ r ≡ (atHeads g && ltb headers 9) ⌝ }
+fn ush_may(a: Subset, g: Group, headers: u16) -> bool
+    ensures { λ r. ⌜ r ≡ (atHeads a g && ltb headers 9) ⌝ }
 {
-    if at_heads(g) {
+    if at_heads(a, g) {
         return headers < 9;
     }
     false
 }
 
-fn usb_may(g: Group, autack: bool, headers: u16) -> bool
-    ensures { λ r. ⌜ r ≡ (atHeads g && (autack && ltb 0 headers)) ⌝ }
+fn usb_may(a: Subset, g: Group, autack: bool, headers: u16) -> bool
+    ensures { λ r. ⌜ r ≡ (atHeads a g && (autack && ltb 0 headers)) ⌝ }
 {
-    if at_heads(g) {
+    if at_heads(a, g) {
         if autack {
             return 0 < headers;
         }
@@ -165,12 +171,12 @@ pub fn may_come(k: Kind, m: Message) -> bool
         Kind::Unh => false,
         Kind::Unt => may_close(autack, g),
         Kind::Unz => false,
-        Kind::Ush => ush_may(g, headers),
+        Kind::Ush => ush_may(subset, g, headers),
         Kind::Usa => usa_may(g),
         Kind::Usc => usc_may(g),
         Kind::Usr => usr_may(g),
         Kind::Ust => may_close(autack, g),
-        Kind::Usb => usb_may(g, autack, headers),
+        Kind::Usb => usb_may(subset, g, autack, headers),
         Kind::Usx => usx_may(g),
         Kind::Usy => usy_may(g),
         Kind::Reserved => false,

@@ -37,7 +37,7 @@ pub enum Moved {
     Bad(u8),
 }
 
-// 0541 is 1 or 2; in AUTACK it is F01.
+// 0541 is 1 or 2; in AUTACK it is F01, or 3 in the subset of GS1.
 fn scope_right(s: &[u8], at: usize, y: Syntax, marks: &[usize], autack: Subset) -> bool
     requires { ⌜ Marked (y .service) (now s) at (now marks) ⌝ }
     ensures { λ r. ⌜ r ≡ scopeCode autack (textAt (y .service) (now (s .entry)) at 3 0) ⌝ }
@@ -46,6 +46,7 @@ fn scope_right(s: &[u8], at: usize, y: Syntax, marks: &[usize], autack: Subset) 
     let x = field(s, at, y, marks, 3, 0);
     match autack {
         Subset::F01 => content_is(x, v.release, b"F01"),
+        Subset::Gs1 => content_is(x, v.release, b"3"),
         Subset::None => {
             if content_is(x, v.release, b"1") {
                 return true;

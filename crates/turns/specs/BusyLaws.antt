@@ -2,13 +2,13 @@
 use Prim.Native.Nat.{ℕ, suc, _+_, _*_, _≤_, _<_}
 use native.Mathlib.Omega.{arith}
 use mathlib.Core.Path.{_≡_, refl, ap, sym, subst, _∙_}
-use mathlib.Core.Bool.{Bool, true, false, cond, not, false≢true}
+use mathlib.Core.Bool.{Bool, true, false, cond, not, _&&_, false≢true}
 use mathlib.Core.List.{List}
 use mathlib.Core.Option.{Option, none, some}
 use lib.ListN.{length}
 use lib.Seq.{slice}
 use Rattle.syntax.specs.Content.{content, compared}
-use Rattle.syntax.specs.RepertoireLaws.{and-r}
+use Rattle.syntax.specs.RepertoireLaws.{and-l, and-r}
 use Rattle.syntax.specs.declared.Service.{Service}
 use Rattle.syntax.specs.declared.Syntax.{Syntax}
 use Rattle.syntax.specs.declared.Version.{Version}
@@ -19,12 +19,12 @@ use Rattle.grammar.specs.Rules.{scopeCode}
 use Rattle.grammar.specs.Loads.{loadIn, loadRight, controlRight}
 use Rattle.elements.specs.Kinds.{tagKind}
 use Rattle.elements.specs.Octets.{askedAt}
-use Rattle.elements.specs.Formed.{controlOf, formedBy}
+use Rattle.elements.specs.Formed.{controlOf, formedBy, subsetBy}
 use Rattle.elements.specs.FormedLaws.{formed-by}
 use Rattle.message.specs.Heads.{headSizes}
 use Rattle.message.specs.HeadsLaws.{small-more}
 use Rattle.references.specs.Refs.{refsIn}
-use Rattle.message.specs.Summary.{Summary, StateS, busyS, orderS, refsK, countsK, scopeK, isFound, freeAt, moreInLast, atStart, atIdle, atBusy, mayCome, usrMay, usaGroup, uscGroup, grown, grownBy, ushNext, usrNext, ustNext, itemNext, loaded, busyNext, AnswerS, readS, refusedS, refIn}
+use Rattle.message.specs.Summary.{Summary, StateS, busyS, orderS, subsetS, refsK, countsK, scopeK, isFound, freeAt, moreInLast, atStart, atIdle, atBusy, mayCome, usrMay, usaGroup, uscGroup, grown, grownBy, ushNext, usrNext, ustNext, itemNext, loaded, busyNext, AnswerS, readS, refusedS, refIn}
 use Rattle.message.specs.Steps.{AnswerM, toM, badM, ustM, stepM, summaryIn, Roomy, MovedIs}
 use Rattle.message.specs.StepsLaws.{moved-to, roomy-small, roomy-grown}
 use Rattle.message.specs.ItemsLaws.{cnt-tag, not-true, not-false}
@@ -164,11 +164,11 @@ module _ (u : List ℕ) (rs : Snoc (List ℕ)) (S : Summary) (a : Asked) (p : �
   rest-is v Cnt n m l = load-go (l refl) _
   rest-is v Other n m l = load-go (l refl) _
 
-  pub busy-by : (v : Version) {k : Kind} → k ≡ tagKind (a .tag) → atBusy false false false true false k ≡ false → mayCome k (S .m) ≡ true → formed v a ≡ true →
-      decidedFrom v (busyS u rs S) a p ≡ fromM u rs p (stepM k S a)
+  pub busy-by : (v : Version) {k : Kind} → k ≡ tagKind (a .tag) → atBusy false false false true false k ≡ false → mayCome k (S .m) ≡ true →
+      (formed v a && subsetBy k (S .m .autack) a) ≡ true → decidedFrom v (busyS u rs S) a p ≡ fromM u rs p (stepM k S a)
   busy-by v {k} e n m f =
-      ap (λ (z : Kind). cond (mayCome z (S .m)) (cond (formed v a) (busyRest v u rs S a p z) (refusedS 8 p)) (refusedS 7 p)) (sym e)
-      ∙ ap (λ (c : Bool). cond c (cond (formed v a) (busyRest v u rs S a p k) (refusedS 8 p)) (refusedS 7 p)) m
+      ap (λ (z : Kind). cond (mayCome z (S .m)) (cond (formed v a && subsetBy z (S .m .autack) a) (busyRest v u rs S a p z) (refusedS 8 p)) (refusedS 7 p)) (sym e)
+      ∙ ap (λ (c : Bool). cond c (cond (formed v a && subsetBy k (S .m .autack) a) (busyRest v u rs S a p k) (refusedS 8 p)) (refusedS 7 p)) m
       ∙ ap (λ (c : Bool). cond c (busyRest v u rs S a p k) (refusedS 8 p)) f ∙ rest-is v k n m (load-right a k e)
 
 -- it is one segment more
@@ -279,15 +279,20 @@ module _ {y : Syntax} {s : List ℕ} {st : State} {h l b : List ℕ} {p q : ℕ}
         StepIs (decidedAt y s st h l p) r (y .service .release) s h l b q
     busy-7 o d = stop (y .service .release) s h l b q (at-7 (y .version) (stateIn (y .service .release) s st h l) (askedAt (y .service) s p) p (order-is ∙ not-true c o)) d
 
-    module _ (o : not c ≡ false) {x : Bool} (form : x ≡ formed (y .version) (askedAt (y .service) s p)) where
+    module _ (o : not c ≡ false) {x : Bool} (form : x ≡ (formed (y .version) (askedAt (y .service) s p) && subsetBy k (st .message .autack) (askedAt (y .service) s p))) where
+      form-is : (formed (y .version) (askedAt (y .service) s p) && subsetS (stateIn (y .service .release) s st h l) (askedAt (y .service) s p)) ≡ x
+      form-is =
+          ap (λ (X : StateS). formed (y .version) (askedAt (y .service) s p) && subsetS X (askedAt (y .service) s p)) busy-state
+          ∙ ap (λ (j : Kind). formed (y .version) (askedAt (y .service) s p) && subsetBy j (st .message .autack) (askedAt (y .service) s p)) (sym (g .kind)) ∙ sym form
+
       pub busy-8 : not x ≡ true → {r : Step} → r ≡ Stop (record { number = 8; place = p }) →
           StepIs (decidedAt y s st h l p) r (y .service .release) s h l b q
       busy-8 t d =
-          stop (y .service .release) s h l b q (at-8 (y .version) (stateIn (y .service .release) s st h l) (askedAt (y .service) s p) p (order-is ∙ not-false c o) (sym form ∙ not-true x t)) d
+          stop (y .service .release) s h l b q (at-8 (y .version) (stateIn (y .service .release) s st h l) (askedAt (y .service) s p) p (order-is ∙ not-false c o) (form-is ∙ not-true x t)) d
 
       module _ (t : not x ≡ false) where
         pub busy-passed : (mayCome k (st .message) ≡ true) × (formed (y .version) (askedAt (y .service) s p) ≡ true)
-        busy-passed = (sym may ∙ not-false c o, sym form ∙ not-false x t)
+        busy-passed = (sym may ∙ not-false c o, and-l (formed (y .version) (askedAt (y .service) s p)) (subsetBy k (st .message .autack) (askedAt (y .service) s p)) (sym form ∙ not-false x t))
 
         module _ (n : atBusy false false false true false k ≡ false) where
           decided-is : decidedAt y s st h l p
@@ -295,7 +300,7 @@ module _ {y : Syntax} {s : List ℕ} {st : State} {h l b : List ℕ} {p q : ℕ}
               (movedAt y s st h p k)
           decided-is =
               ap (λ (X : StateS). decidedFrom (y .version) X (askedAt (y .service) s p) p) busy-state
-              ∙ busy-by _ _ (openIn (y .service .release) s st h) (askedAt (y .service) s p) p (y .version) (g .kind) n (busy-passed .0) (busy-passed .1)
+              ∙ busy-by _ _ (openIn (y .service .release) s st h) (askedAt (y .service) s p) p (y .version) (g .kind) n (busy-passed .0) (sym form ∙ not-false x t)
 
           module _ (x′ : Moved) (h′ : List ℕ)
               (moved : (u w : ℕ) → MovedIs (stepM k (summaryIn (y .service .release) s (st .message) u w h) (askedAt (y .service) s p)) x′ (y .service .release) s u w h′) where

@@ -10,23 +10,26 @@ use Rattle.syntax.specs.Cutting.{firstOutside}
 use Rattle.syntax.specs.Tree.{Segment, printS}
 use Rattle.syntax.specs.declared.Syntax.{Syntax}
 use Rattle.syntax.specs.declared.Version.{Version}
-use Rattle.grammar.specs.Lists.{Snoc, nil, _▷_, each, size, any, among, test, _and_, holds, check, every}
+use Rattle.grammar.specs.Lists.{Snoc, nil, _▷_, each, size, any, among, Rule, always, test, _and_, holds, check, every, everyBefore}
+use Rattle.grammar.specs.declared.Subset.{Subset}
+use Rattle.grammar.specs.declared.Subset.the-variants.{None, F01, Gs1}
 use Rattle.grammar.specs.ListsLaws.{each-size}
 use Rattle.grammar.specs.Segments as segments
 use Rattle.grammar.specs.Segments.{Name, Named, Free, Asked, asked, elementsOf, tagText, unb0020, unh0062, unt0062, unz0020, ush0534, ust0534, usy0534, unt0074, unz0036}
 use Rattle.grammar.specs.Interchange.{Leaf, certificate, Header, header, Trailer, trailer, link, Body, plain, ack, Open, msg, Message, message, Reading, start, idle, busy, done, showOpen}
 use Rattle.grammar.specs.Loads.{loads, controls, loadIn, controlIn}
-use Rattle.grammar.specs.Rules.{insideS, order, formedS, refs, counts, scopes, amountS, autack, isAutack, subset, refH, refT, refM, isFree, okItem, whole, filled, one, paired, total, scopeRight}
+use Rattle.grammar.specs.Rules.{insideS, order, formedS, formedIn, subsets, refs, counts, scopes, amountS, autack, certified, isAutack, subset, refH, refT, refM, isFree, okItem, whole, filled, one, paired, total, scopeRight}
 use Rattle.grammar.specs.RuleLaws.{check-holds, holds-check, is-autack}
 use Rattle.grammar.specs.Placing.{growNamed, grow, place, inOpen, inBody, itemB}
 use Rattle.grammar.specs.PlacingLaws.{same-eq}
 use Rattle.grammar.specs.Verdict.{tested, on, foundAt, tests, refused, decided}
 use Rattle.grammar.specs.Running.{Good}
 use Rattle.elements.specs.Kinds.{ofName, ofKind, tagKind}
+use Rattle.elements.specs.Formed.{subsetBy}
 use Rattle.elements.specs.declared.Kind.{Kind}
 use Rattle.elements.specs.declared.Kind.the-variants.{Unb, Unh, Unt, Unz, Ush, Usa, Usc, Usr, Ust, Usb, Usx, Usy, Reserved, Qty, Cnt, Other}
 use Rattle.message.specs.declared.Sums.{Sums}
-use Rattle.message.specs.Summary.{groupOf, sumsOf, summaryOf, flagsOf, StateS, busyS, stateOf, atHeads, atItems, closes, orderK, isFound, freeAt, refsK, countsK, scopeK, ustNext, itemNext, loaded, controlled, nextK, orderS, refsS, countsS, scopeS, nextS, AnswerS, refusedS, testsS, decidedS, answerOf}
+use Rattle.message.specs.Summary.{groupOf, sumsOf, summaryOf, flagsOf, StateS, busyS, stateOf, atHeads, atItems, closes, orderK, isFound, freeAt, subsetK, refsK, countsK, scopeK, ustNext, itemNext, loaded, controlled, nextK, orderS, subsetS, refsS, countsS, scopeS, nextS, AnswerS, refusedS, testsS, decidedS, answerOf}
 use Rattle.message.specs.FlagLaws.{alike, any-each, any-size, load-sums, control-sums, totals, pairs-right, pairs-counted, all-named, Spot, no, yes, spot}
 
 -- ---- what is to be shown of a segment of the kind k whose view is a: where it has no place, 7 is broken; where it has one, each test answers as its
@@ -34,16 +37,47 @@ use Rattle.message.specs.FlagLaws.{alike, any-each, any-size, load-sums, contro
 
 pub data Follow (v : Version) (x : Reading) (k : Kind) (a : Asked) : Option Reading → Type 0 where
   nowhere : orderK (stateOf x) k ≡ false → Follow v x k a none
-  here : (z : Reading) → check (order z) ≡ orderK (stateOf x) k → (holds (order z) → check (refs z) ≡ refsK (stateOf x) k a)
+  here : (z : Reading) → (check (order z) ≡ orderK (stateOf x) k) × (check (subsets z) ≡ subsetK (stateOf x) k a)
+      → (holds (order z) → check (refs z) ≡ refsK (stateOf x) k a)
       → (holds (order z) → holds (refs z) → check (counts v z) ≡ countsK v (stateOf x) k a) → (holds (order z) → check (scopes z) ≡ scopeK (stateOf x) k a)
       → (holds (order z) → holds (refs z) → stateOf z ≡ nextK (stateOf x) k a) → Follow v x k a (some z)
 
 -- ---- small facts
 
-heads : (h : Leaf) (hs : Snoc Header) → atHeads (groupOf (msg h hs (plain nil) nil)) ≡ true
+-- the last header has a USC, if the subset asks for one
+abbrev latest : Subset → Snoc Header → Rule
+latest a nil = always
+latest a (hs ▷ x) = certified a x
+
+heads : (h : Leaf) (hs : Snoc Header) → atHeads (subset h) (groupOf (msg h hs (plain nil) nil)) ≡ check (latest (subset h) hs)
 heads h nil = refl
 heads h (hs ▷ header c us nil) = refl
 heads h (hs ▷ header c us (cs ▷ certificate d vs r)) = refl
+
+-- the last header and those before it
+latest-too : (a : Subset) (hs : Snoc Header) → holds (everyBefore (certified a) hs) → holds (latest a hs) → holds (every (certified a) hs)
+latest-too a nil b l = tt
+latest-too a (hs ▷ x) b l = (b, l)
+
+latest-of : (a : Subset) (hs : Snoc Header) → holds (every (certified a) hs) → holds (latest a hs)
+latest-of a nil h = tt
+latest-of a (hs ▷ x) h = h .1
+
+-- what a subset checks of a segment is its elements, whatever the tag
+usc-row : (a : Subset) (g : Segment) → check (formedIn a segments.Usc (elementsOf g)) ≡ subsetBy Usc a (asked g)
+usc-row None g = refl
+usc-row F01 g = refl
+usc-row Gs1 g = refl
+
+usb-row : (a : Subset) (g : Segment) → check (formedIn a segments.Usb (elementsOf g)) ≡ subsetBy Usb a (asked g)
+usb-row None g = refl
+usb-row F01 g = refl
+usb-row Gs1 g = refl
+
+usx-row : (a : Subset) (g : Segment) → check (formedIn a segments.Usx (elementsOf g)) ≡ subsetBy Usx a (asked g)
+usx-row None g = refl
+usx-row F01 g = refl
+usx-row Gs1 g = refl
 
 items : (h : Leaf) (hs : Snoc Header) → atItems (groupOf (msg h hs (plain nil) nil)) ≡ true
 items h nil = refl
@@ -54,10 +88,13 @@ module _ (y : Syntax) (u : Leaf) (ms : Snoc Message) (g : Segment) where
   ush : (o : Open) → Good y (busy u ms o) → Follow (y .version) (busy u ms o) Ush (asked g) (growNamed segments.Ush (elementsOf g) (busy u ms o))
   ush (msg h hs (plain nil) nil) q =
       let z : Reading = busy u ms (msg h (hs ▷ header (elementsOf g) nil nil) (plain nil) nil) in
-      here z
-      (rw (heads h hs, each-size refH hs)
-      (alike (order z) (test (ltb (size hs) 9))
-      (λ p. p .1 .0) (λ p. (q .seven .0, (p, ((q .seven .1 .1 .0, (tt, (tt, tt))), q .seven .1 .1 .1))))))
+      here z (
+        rw (heads h hs, each-size refH hs)
+            (alike (order z) (latest (subset h) hs and test (ltb (size hs) 9))
+            (λ p. (latest-of (subset h) hs (p .1 .1 .1 .1 .1), p .1 .0))
+            (λ p. (q .seven .0, (p .1, ((q .seven .1 .1 .0, (tt, (tt, tt))), (tt, (tt, latest-too (subset h) hs (q .seven .1 .1 .1 .1 .1) (p .0)))))))),
+        holds-check (subsets z) (q .inSubset .0, ((q .inSubset .1 .0, tt), q .inSubset .1 .1)),
+      )
       (λ i. alike (refs z) (test (not (among (each refH hs) (ush0534 (elementsOf g)))))
       (λ p. p .1 .1 .0 .1) (λ p. (q .nine .0, (q .nine .1 .0, ((q .nine .1 .1 .0, p), q .nine .1 .1 .1)))))
       (λ i j. holds-check (counts (y .version) z) (q .ten))
@@ -71,18 +108,22 @@ module _ (y : Syntax) (u : Leaf) (ms : Snoc Message) (g : Segment) where
   usa (msg h nil (plain nil) nil) q = nowhere refl
   usa (msg h (hs ▷ header d us nil) (plain nil) nil) q =
       let z : Reading = busy u ms (msg h (hs ▷ header d (us ▷ elementsOf g) nil) (plain nil) nil) in
-      here z
-      (alike (order z) (test (ltb (size us) 3))
-      (λ p. p .1 .1 .0 .1 .0) (λ p. (q .seven .0, (q .seven .1 .0, ((q .seven .1 .1 .0 .0, (p, q .seven .1 .1 .0 .1 .1)), q .seven .1 .1 .1)))))
+      here z (
+        alike (order z) (test (ltb (size us) 3))
+            (λ p. p .1 .1 .0 .1 .0) (λ p. (q .seven .0, (q .seven .1 .0, ((q .seven .1 .1 .0 .0, (p, q .seven .1 .1 .0 .1 .1)), q .seven .1 .1 .1)))),
+        holds-check (subsets z) (q .inSubset),
+      )
       (λ i. holds-check (refs z) (q .nine))
       (λ i j. holds-check (counts (y .version) z) (q .ten))
       (λ i. holds-check (scopes z) (q .eleven))
       (λ i j. refl)
   usa (msg h (hs ▷ header d us (cs ▷ certificate e vs none)) (plain nil) nil) q =
       let z : Reading = busy u ms (msg h (hs ▷ header d us (cs ▷ certificate e (vs ▷ elementsOf g) none)) (plain nil) nil) in
-      here z
-      (alike (order z) (test (ltb (size vs) 3)) (λ p. p .1 .1 .0 .1 .1 .1 .1)
-      (λ p. (q .seven .0, (q .seven .1 .0, ((q .seven .1 .1 .0 .0, (q .seven .1 .1 .0 .1 .0, (q .seven .1 .1 .0 .1 .1 .0, (q .seven .1 .1 .0 .1 .1 .1 .0, p)))), q .seven .1 .1 .1)))))
+      here z (
+        alike (order z) (test (ltb (size vs) 3)) (λ p. p .1 .1 .0 .1 .1 .1 .1)
+            (λ p. (q .seven .0, (q .seven .1 .0, ((q .seven .1 .1 .0 .0, (q .seven .1 .1 .0 .1 .0, (q .seven .1 .1 .0 .1 .1 .0, (q .seven .1 .1 .0 .1 .1 .1 .0, p)))), q .seven .1 .1 .1)))),
+        holds-check (subsets z) (q .inSubset),
+      )
       (λ i. holds-check (refs z) (q .nine))
       (λ i j. holds-check (counts (y .version) z) (q .ten))
       (λ i. holds-check (scopes z) (q .eleven))
@@ -96,17 +137,23 @@ module _ (y : Syntax) (u : Leaf) (ms : Snoc Message) (g : Segment) where
   usc (msg h nil (plain nil) nil) q = nowhere refl
   usc (msg h (hs ▷ header d us nil) (plain nil) nil) q =
       let z : Reading = busy u ms (msg h (hs ▷ header d us (nil ▷ certificate (elementsOf g) nil none)) (plain nil) nil) in
-      here z
-      (holds-check (order z) (q .seven .0, (q .seven .1 .0, ((q .seven .1 .1 .0 .0, (q .seven .1 .1 .0 .1 .0, (tt, (tt, tt)))), q .seven .1 .1 .1))))
+      here z (
+        holds-check (order z) (q .seven .0, (q .seven .1 .0, ((q .seven .1 .1 .0 .0, (q .seven .1 .1 .0 .1 .0, (tt, (tt, tt)))), q .seven .1 .1 .1))),
+        alike (subsets z) (formedIn (subset h) segments.Usc (elementsOf g)) (λ p. p .1 .0 .1 .1) (λ p. (q .inSubset .0, ((q .inSubset .1 .0 .0, (tt, p)), q .inSubset .1 .1)))
+            ∙ usc-row (subset h) g,
+      )
       (λ i. holds-check (refs z) (q .nine))
       (λ i j. holds-check (counts (y .version) z) (q .ten))
       (λ i. holds-check (scopes z) (q .eleven))
       (λ i j. refl)
   usc (msg h (hs ▷ header d us (cs ▷ certificate e vs r)) (plain nil) nil) q =
       let z : Reading = busy u ms (msg h (hs ▷ header d us (cs ▷ certificate e vs r ▷ certificate (elementsOf g) nil none)) (plain nil) nil) in
-      here z
-      (alike (order z) (test (ltb (suc (size cs)) 2)) (λ p. p .1 .1 .0 .1 .1 .0)
-      (λ p. (q .seven .0, (q .seven .1 .0, ((q .seven .1 .1 .0 .0, (q .seven .1 .1 .0 .1 .0, (p, (q .seven .1 .1 .0 .1 .1 .1, tt)))), q .seven .1 .1 .1)))))
+      here z (
+        alike (order z) (test (ltb (suc (size cs)) 2)) (λ p. p .1 .1 .0 .1 .1 .0)
+            (λ p. (q .seven .0, (q .seven .1 .0, ((q .seven .1 .1 .0 .0, (q .seven .1 .1 .0 .1 .0, (p, (q .seven .1 .1 .0 .1 .1 .1, tt)))), q .seven .1 .1 .1)))),
+        alike (subsets z) (formedIn (subset h) segments.Usc (elementsOf g)) (λ p. p .1 .0 .1 .1) (λ p. (q .inSubset .0, ((q .inSubset .1 .0 .0, (q .inSubset .1 .0 .1, p)), q .inSubset .1 .1)))
+            ∙ usc-row (subset h) g,
+      )
       (λ i. holds-check (refs z) (q .nine))
       (λ i j. holds-check (counts (y .version) z) (q .ten))
       (λ i. holds-check (scopes z) (q .eleven))
@@ -120,8 +167,10 @@ module _ (y : Syntax) (u : Leaf) (ms : Snoc Message) (g : Segment) where
   usr (msg h (hs ▷ header d us nil) (plain nil) nil) q = nowhere refl
   usr (msg h (hs ▷ header d us (cs ▷ certificate e vs none)) (plain nil) nil) q =
       let z : Reading = busy u ms (msg h (hs ▷ header d us (cs ▷ certificate e vs (some (elementsOf g)))) (plain nil) nil) in
-      here z
-      (holds-check (order z) (q .seven))
+      here z (
+        holds-check (order z) (q .seven),
+        holds-check (subsets z) (q .inSubset),
+      )
       (λ i. holds-check (refs z) (q .nine))
       (λ i j. holds-check (counts (y .version) z) (q .ten))
       (λ i. holds-check (scopes z) (q .eleven))
@@ -131,8 +180,10 @@ module _ (y : Syntax) (u : Leaf) (ms : Snoc Message) (g : Segment) where
   usr (msg h hs (ack d ls) nil) q = nowhere refl
   usr (msg h hs b (ts ▷ trailer t none)) q =
       let z : Reading = busy u ms (msg h hs b (ts ▷ trailer t (some (elementsOf g)))) in
-      here z
-      (holds-check (order z) (q .seven))
+      here z (
+        holds-check (order z) (q .seven),
+        holds-check (subsets z) (q .inSubset),
+      )
       (λ i. holds-check (refs z) (q .nine))
       (λ i j. holds-check (counts (y .version) z) (q .ten))
       (λ i. holds-check (scopes z) (q .eleven))
@@ -148,7 +199,7 @@ module _ (y : Syntax) (u : Leaf) (ms : Snoc Message) (g : Segment) where
   as-autack h hs (plain (b ▷ i)) nil q = holds-check (test (not (autack h))) (q .seven .1 .1 .1 .0 .0)
   as-autack h hs (ack d nil) nil q = refl
   as-autack h hs (ack d (ls ▷ link e ys)) nil q = alike (every filled (ls ▷ link e ys)) (test (any ys)) (λ p. p .1) (λ p. (q .seven .1 .1 .1 .0 .1 .1, p))
-  as-autack h hs b (ts ▷ trailer t r) q = holds-check (whole (autack h) b) (q .seven .1 .1 .1 .1)
+  as-autack h hs b (ts ▷ trailer t r) q = holds-check (whole (autack h) b) (q .seven .1 .1 .1 .1 .0)
 
   ends : (h : Leaf) (hs : Snoc Header) (b : Body) (ts : Snoc Trailer) → Good y (busy u ms (msg h hs b ts))
       → check (whole (autack h) b) ≡ closes (isAutack (subset h)) (groupOf (msg h hs b ts))
@@ -177,10 +228,12 @@ module _ (y : Syntax) (u : Leaf) (ms : Snoc Message) (g : Segment) where
   ust : (o : Open) → Good y (busy u ms o) → Follow (y .version) (busy u ms o) Ust (asked g) (growNamed segments.Ust (elementsOf g) (busy u ms o))
   ust (msg h hs b ts) q =
       let z : Reading = busy u ms (msg h hs b (ts ▷ trailer (elementsOf g) none)) in
-      here z
-      (alike (order z) (whole (autack h) b)
-      (λ p. p .1 .1 .1 .1) (λ p. (q .seven .0, (q .seven .1 .0, (q .seven .1 .1 .0, (q .seven .1 .1 .1 .0, p)))))
-      ∙ ends h hs b ts q)
+      here z (
+        alike (order z) (whole (autack h) b)
+            (λ p. p .1 .1 .1 .1 .0) (λ p. (q .seven .0, (q .seven .1 .0, (q .seven .1 .1 .0, (q .seven .1 .1 .1 .0, (p, q .seven .1 .1 .1 .1 .1))))))
+            ∙ ends h hs b ts q,
+        holds-check (subsets z) (q .inSubset),
+      )
       (λ i. ust-refs h hs b ts q)
       (λ i j. holds-check (counts (y .version) z) (q .ten))
       (λ i. holds-check (scopes z) (q .eleven))
@@ -189,11 +242,14 @@ module _ (y : Syntax) (u : Leaf) (ms : Snoc Message) (g : Segment) where
   usb : (o : Open) → Good y (busy u ms o) → Follow (y .version) (busy u ms o) Usb (asked g) (growNamed segments.Usb (elementsOf g) (busy u ms o))
   usb (msg h hs (plain nil) nil) q =
       let z : Reading = busy u ms (msg h hs (ack (elementsOf g) nil) nil) in
-      here z
-      (rw (heads h hs, is-autack h)
-      (alike (order z) (test (autack h) and test (any hs))
-      (λ p. (p .1 .1 .1 .0 .0, p .1 .1 .1 .0 .1 .0)) (λ p. (q .seven .0, (q .seven .1 .0, (q .seven .1 .1 .0, ((p .0, (p .1, tt)), tt)))))
-      ∙ ap (λ (b : Bool). autack h && b) (any-size refH hs)))
+      here z (
+        rw (heads h hs, is-autack h)
+            (alike (order z) (latest (subset h) hs and test (autack h) and test (any hs))
+            (λ p. (latest-of (subset h) hs (p .1 .1 .1 .1 .1), (p .1 .1 .1 .0 .0, p .1 .1 .1 .0 .1 .0)))
+            (λ p. (q .seven .0, (q .seven .1 .0, (q .seven .1 .1 .0, ((p .1 .0, (p .1 .1, tt)), (tt, latest-too (subset h) hs (q .seven .1 .1 .1 .1 .1) (p .0)))))))
+            ∙ ap (λ (b : Bool). check (latest (subset h) hs) && (autack h && b)) (any-size refH hs)),
+        alike (subsets z) (formedIn (subset h) segments.Usb (elementsOf g)) (λ p. p .1 .1 .0) (λ p. (q .inSubset .0, (q .inSubset .1 .0, (p, tt)))) ∙ usb-row (subset h) g,
+      )
       (λ i. holds-check (refs z) (q .nine))
       (λ i j. holds-check (counts (y .version) z) (q .ten))
       (λ i. holds-check (scopes z) (q .eleven))
@@ -209,17 +265,23 @@ module _ (y : Syntax) (u : Leaf) (ms : Snoc Message) (g : Segment) where
   usx (msg h hs (plain (b ▷ i)) nil) q = nowhere refl
   usx (msg h hs (ack d nil) nil) q =
       let z : Reading = busy u ms (msg h hs (ack d (nil ▷ link (elementsOf g) nil)) nil) in
-      here z
-      (holds-check (order z) (q .seven))
+      here z (
+        holds-check (order z) (q .seven),
+        alike (subsets z) (formedIn (subset h) segments.Usx (elementsOf g)) (λ p. p .1 .1 .1 .1)
+            (λ p. (q .inSubset .0, (q .inSubset .1 .0, (q .inSubset .1 .1 .0, (q .inSubset .1 .1 .1, p))))) ∙ usx-row (subset h) g,
+      )
       (λ i. holds-check (refs z) (q .nine))
       (λ i j. holds-check (counts (y .version) z) (q .ten))
       (λ i. holds-check (scopes z) (q .eleven))
       (λ i j. refl)
   usx (msg h hs (ack d (ls ▷ link e ys)) nil) q =
       let z : Reading = busy u ms (msg h hs (ack d (ls ▷ link e ys ▷ link (elementsOf g) nil)) nil) in
-      here z
-      (alike (order z) (test (any ys)) (λ p. p .1 .1 .1 .0 .1 .1 .1)
-      (λ p. (q .seven .0, (q .seven .1 .0, (q .seven .1 .1 .0, ((q .seven .1 .1 .1 .0 .0, (q .seven .1 .1 .1 .0 .1 .0, (q .seven .1 .1 .1 .0 .1 .1, p))), tt))))))
+      here z (
+        alike (order z) (test (any ys)) (λ p. p .1 .1 .1 .0 .1 .1 .1)
+            (λ p. (q .seven .0, (q .seven .1 .0, (q .seven .1 .1 .0, ((q .seven .1 .1 .1 .0 .0, (q .seven .1 .1 .1 .0 .1 .0, (q .seven .1 .1 .1 .0 .1 .1, p))), q .seven .1 .1 .1 .1))))),
+        alike (subsets z) (formedIn (subset h) segments.Usx (elementsOf g)) (λ p. p .1 .1 .1 .1)
+            (λ p. (q .inSubset .0, (q .inSubset .1 .0, (q .inSubset .1 .1 .0, (q .inSubset .1 .1 .1, p))))) ∙ usx-row (subset h) g,
+      )
       (λ i. holds-check (refs z) (q .nine))
       (λ i j. holds-check (counts (y .version) z) (q .ten))
       (λ i. holds-check (scopes z) (q .eleven))
@@ -234,8 +296,10 @@ module _ (y : Syntax) (u : Leaf) (ms : Snoc Message) (g : Segment) where
   usy (msg h hs (ack d nil) nil) q = nowhere refl
   usy (msg h hs (ack d (ls ▷ link e ys)) nil) q =
       let z : Reading = busy u ms (msg h hs (ack d (ls ▷ link e (ys ▷ elementsOf g))) nil) in
-      here z
-      (holds-check (order z) (q .seven))
+      here z (
+        holds-check (order z) (q .seven),
+        holds-check (subsets z) (q .inSubset),
+      )
       (λ i. alike (refs z) (test (among (each refH hs) (usy0534 (elementsOf g))))
       (λ p. p .1 .1 .1 .0 .1) (λ p. (q .nine .0, (q .nine .1 .0, (q .nine .1 .1 .0, ((q .nine .1 .1 .1 .0, p), q .nine .1 .1 .1 .1))))))
       (λ i j. holds-check (counts (y .version) z) (q .ten))
@@ -246,8 +310,10 @@ module _ (y : Syntax) (u : Leaf) (ms : Snoc Message) (g : Segment) where
   unt : (o : Open) → Good y (busy u ms o) → Follow (y .version) (busy u ms o) Unt (asked g) (growNamed segments.Unt (elementsOf g) (busy u ms o))
   unt (msg h hs b ts) q =
       let z : Reading = idle u (ms ▷ message (msg h hs b ts) (elementsOf g)) in
-      here z
-      (alike (order z) (whole (autack h) b) (λ p. p .1 .1) (λ p. (q .seven .0, (q .seven .1, p))) ∙ ends h hs b ts q)
+      here z (
+        alike (order z) (whole (autack h) b) (λ p. p .1 .1) (λ p. (q .seven .0, (q .seven .1, p))) ∙ ends h hs b ts q,
+        holds-check (subsets z) (q .inSubset),
+      )
       (λ i. alike (refs z) (test (same (unt0062 (elementsOf g)) (unh0062 h)) and every (one (each refT ts)) (each refH hs))
       (λ p. p .1 .1 .1) (λ p. (q .nine .0, (q .nine .1 .0, (q .nine .1 .1, p))))
       ∙ ap (λ (n : Bool). same (unt0062 (elementsOf g)) (unh0062 h) && n) (all-named (each refT ts) (each refH hs)))
@@ -262,8 +328,10 @@ module _ (y : Syntax) (u : Leaf) (ms : Snoc Message) (g : Segment) where
   unh : Good y (idle u ms) → Follow (y .version) (idle u ms) Unh (asked g) (growNamed segments.Unh (elementsOf g) (idle u ms))
   unh q =
       let z : Reading = busy u ms (msg (elementsOf g) nil (plain nil) nil) in
-      here z
-      (holds-check (order z) (q .seven, (tt, (tt, (tt, tt)))))
+      here z (
+        holds-check (order z) (q .seven, (tt, (tt, (tt, (tt, tt))))),
+        holds-check (subsets z) (q .inSubset, (tt, tt)),
+      )
       (λ i. alike (refs z) (test (not (among (each refM ms) (unh0062 (elementsOf g)))))
       (λ p. p .0 .1) (λ p. ((q .nine .0, p), (q .nine .1, (tt, (tt, (tt, tt)))))))
       (λ i j. holds-check (counts (y .version) z) (q .ten))
@@ -273,8 +341,10 @@ module _ (y : Syntax) (u : Leaf) (ms : Snoc Message) (g : Segment) where
   unz : Good y (idle u ms) → Follow (y .version) (idle u ms) Unz (asked g) (growNamed segments.Unz (elementsOf g) (idle u ms))
   unz q =
       let z : Reading = done u ms (elementsOf g) in
-      here z
-      (rw (any-each refM ms) (alike (order z) (test (any ms)) (λ p. p .1) (λ p. (q .seven, p))))
+      here z (
+        rw (any-each refM ms) (alike (order z) (test (any ms)) (λ p. p .1) (λ p. (q .seven, p))),
+        holds-check (subsets z) (q .inSubset),
+      )
       (λ i. alike (refs z) (test (same (unz0020 (elementsOf g)) (unb0020 u))) (λ p. p .1 .1) (λ p. (q .nine .0, (q .nine .1, p))))
       (λ i j. rw (each-size refM ms) (alike (counts (y .version) z) (test (eqb (unz0036 (elementsOf g)) (size ms))) (λ p. p .1) (λ p. (q .ten, p))))
       (λ i. holds-check (scopes z) (q .eleven))
@@ -287,7 +357,7 @@ module _ (y : Syntax) (u : Leaf) (ms : Snoc Message) (g : Segment) where
       → check (order (busy u ms (msg h hs (plain (b ▷ g)) nil))) ≡ not (isAutack (subset h))
   item-placed h hs b q e f =
       alike (order (busy u ms (msg h hs (plain (b ▷ g)) nil))) (test (not (autack h)))
-      (λ p. p .1 .1 .1 .0 .0) (λ p. (q .seven .0, (q .seven .1 .0, (q .seven .1 .1 .0, ((p, (e, f)), tt)))))
+      (λ p. p .1 .1 .1 .0 .0) (λ p. (q .seven .0, (q .seven .1 .0, (q .seven .1 .1 .0, ((p, (e, f)), q .seven .1 .1 .1 .1)))))
       ∙ ap not (sym (is-autack h))
 
   item-next : (h : Leaf) (hs : Snoc Header) (b : Snoc Segment) (s : Sums) → sumsOf (plain (b ▷ g)) ≡ s
@@ -300,16 +370,20 @@ module _ (y : Syntax) (u : Leaf) (ms : Snoc Message) (g : Segment) where
   qty : controlIn (asked g) ≡ none → T (isFree (segments.segmentKind g)) → (o : Open) → Good y (busy u ms o) → Follow (y .version) (busy u ms o) Qty (asked g) (inOpen (inBody (itemB g)) (busy u ms o))
   qty l f (msg h hs (plain nil) nil) q =
       let z : Reading = busy u ms (msg h hs (plain (nil ▷ g)) nil) in
-      here z
-      (rw (items h hs) (item-placed h hs nil q tt f))
+      here z (
+        rw (items h hs) (item-placed h hs nil q tt f),
+        holds-check (subsets z) (q .inSubset),
+      )
       (λ i. holds-check (refs z) (q .nine))
       (λ i j. holds-check (counts (y .version) z) (q .ten))
       (λ i. holds-check (scopes z) (q .eleven))
       (λ i j. item-next h hs nil _ (qty-sums l nil))
   qty l f (msg h hs (plain (b ▷ w)) nil) q =
       let z : Reading = busy u ms (msg h hs (plain (b ▷ w ▷ g)) nil) in
-      here z
-      ((item-placed h hs (b ▷ w) q (q .seven .1 .1 .1 .0 .1) f))
+      here z (
+        (item-placed h hs (b ▷ w) q (q .seven .1 .1 .1 .0 .1) f),
+        holds-check (subsets z) (q .inSubset),
+      )
       (λ i. holds-check (refs z) (q .nine))
       (λ i j. holds-check (counts (y .version) z) (q .ten))
       (λ i. holds-check (scopes z) (q .eleven))
@@ -323,16 +397,20 @@ module _ (y : Syntax) (u : Leaf) (ms : Snoc Message) (g : Segment) where
   cnt : loadIn (asked g) ≡ none → T (isFree (segments.segmentKind g)) → (o : Open) → Good y (busy u ms o) → Follow (y .version) (busy u ms o) Cnt (asked g) (inOpen (inBody (itemB g)) (busy u ms o))
   cnt l f (msg h hs (plain nil) nil) q =
       let z : Reading = busy u ms (msg h hs (plain (nil ▷ g)) nil) in
-      here z
-      (rw (items h hs) (item-placed h hs nil q tt f))
+      here z (
+        rw (items h hs) (item-placed h hs nil q tt f),
+        holds-check (subsets z) (q .inSubset),
+      )
       (λ i. holds-check (refs z) (q .nine))
       (λ i j. holds-check (counts (y .version) z) (q .ten))
       (λ i. holds-check (scopes z) (q .eleven))
       (λ i j. item-next h hs nil _ (cnt-sums l nil))
   cnt l f (msg h hs (plain (b ▷ w)) nil) q =
       let z : Reading = busy u ms (msg h hs (plain (b ▷ w ▷ g)) nil) in
-      here z
-      ((item-placed h hs (b ▷ w) q (q .seven .1 .1 .1 .0 .1) f))
+      here z (
+        (item-placed h hs (b ▷ w) q (q .seven .1 .1 .1 .0 .1) f),
+        holds-check (subsets z) (q .inSubset),
+      )
       (λ i. holds-check (refs z) (q .nine))
       (λ i j. holds-check (counts (y .version) z) (q .ten))
       (λ i. holds-check (scopes z) (q .eleven))
@@ -346,16 +424,20 @@ module _ (y : Syntax) (u : Leaf) (ms : Snoc Message) (g : Segment) where
   other : loadIn (asked g) ≡ none → controlIn (asked g) ≡ none → T (isFree (segments.segmentKind g)) → (o : Open) → Good y (busy u ms o) → Follow (y .version) (busy u ms o) Other (asked g) (inOpen (inBody (itemB g)) (busy u ms o))
   other l m f (msg h hs (plain nil) nil) q =
       let z : Reading = busy u ms (msg h hs (plain (nil ▷ g)) nil) in
-      here z
-      (rw (items h hs) (item-placed h hs nil q tt f))
+      here z (
+        rw (items h hs) (item-placed h hs nil q tt f),
+        holds-check (subsets z) (q .inSubset),
+      )
       (λ i. holds-check (refs z) (q .nine))
       (λ i j. holds-check (counts (y .version) z) (q .ten))
       (λ i. holds-check (scopes z) (q .eleven))
       (λ i j. item-next h hs nil _ (other-sums l m nil))
   other l m f (msg h hs (plain (b ▷ w)) nil) q =
       let z : Reading = busy u ms (msg h hs (plain (b ▷ w ▷ g)) nil) in
-      here z
-      ((item-placed h hs (b ▷ w) q (q .seven .1 .1 .1 .0 .1) f))
+      here z (
+        (item-placed h hs (b ▷ w) q (q .seven .1 .1 .1 .0 .1) f),
+        holds-check (subsets z) (q .inSubset),
+      )
       (λ i. holds-check (refs z) (q .nine))
       (λ i j. holds-check (counts (y .version) z) (q .ten))
       (λ i. holds-check (scopes z) (q .eleven))
@@ -366,7 +448,7 @@ module _ (y : Syntax) (u : Leaf) (ms : Snoc Message) (g : Segment) where
 -- ---- all kinds
 
 pub named-follows : (y : Syntax) (x : Reading) (g : Segment) (n : Name) → Good y x → Follow (y .version) x (ofName n) (asked g) (growNamed n (elementsOf g) x)
-named-follows y start g segments.Unb q = here (idle (elementsOf g) nil) refl (λ i. refl) (λ i j. refl) (λ i. refl) (λ i j. refl)
+named-follows y start g segments.Unb q = here (idle (elementsOf g) nil) (refl, refl) (λ i. refl) (λ i j. refl) (λ i. refl) (λ i j. refl)
 named-follows y start g segments.Unh q = nowhere refl
 named-follows y start g segments.Unt q = nowhere refl
 named-follows y start g segments.Unz q = nowhere refl
@@ -464,7 +546,7 @@ follows y x g q = kind-follows y x g (segments.segmentKind g) refl q
 module _ {v : Version} {x : Reading} {k : Kind} {a : Asked} where
   order-of : (o : Option Reading) → Follow v x k a o → on order o ≡ orderK (stateOf x) k
   order-of o (nowhere e) = sym e
-  order-of o (here z e r c s n) = e
+  order-of o (here z e r c s n) = e .0
 
   refs-of : (o : Option Reading) → Follow v x k a o → (z : Reading) → o ≡ some z → holds (order z) → check (refs z) ≡ refsK (stateOf x) k a
   refs-of o (nowhere e) z p = absurd (Option·none-ne-some _ p)
@@ -506,19 +588,19 @@ module _ (y : Syntax) (x : Reading) (g : Segment) (q : Good y x) where
 -- ---- the answer on a segment
 
 module _ (v p : ℕ) where
-  -- the tests in their order, where 7, 9, 10 and 11 answer alike given those before
-  passes : (z : Reading) (i o f r c s l o′ r′ c′ s′ : Bool) (n : StateS)
-      → o ≡ o′ → (o ≡ true → r ≡ r′) → (o ≡ true → r ≡ true → c ≡ c′) → (o ≡ true → s ≡ s′) → (o ≡ true → r ≡ true → stateOf z ≡ n)
+  -- the tests in their order, where 7 to 11 answer alike, given those before
+  passes : (z : Reading) (i o f r c s l o′ f′ r′ c′ s′ : Bool) (n : StateS)
+      → o ≡ o′ → f ≡ f′ → (o ≡ true → r ≡ r′) → (o ≡ true → r ≡ true → c ≡ c′) → (o ≡ true → s ≡ s′) → (o ≡ true → r ≡ true → stateOf z ≡ n)
       → answerOf (decided (tested 3 v i ∷ tested 7 p o ∷ tested 8 p f ∷ tested 9 p r ∷ tested 10 p c ∷ tested 11 p s ∷ tested 12 p l ∷ []) (some z))
-      ≡ decidedS (tested 3 v i ∷ tested 7 p o′ ∷ tested 8 p f ∷ tested 9 p r′ ∷ tested 10 p c′ ∷ tested 11 p s′ ∷ tested 12 p l ∷ []) n
-  passes z false o f r c s l o′ r′ c′ s′ n a b d e h = refl
-  passes z true false f r c s l o′ r′ c′ s′ n a b d e h = rw (← a)
-  passes z true true false r c s l o′ r′ c′ s′ n a b d e h = rw (← a)
-  passes z true true true false c s l o′ r′ c′ s′ n a b d e h = rw (← a, ← b refl)
-  passes z true true true true false s l o′ r′ c′ s′ n a b d e h = rw (← a, ← b refl, ← d refl refl)
-  passes z true true true true true false l o′ r′ c′ s′ n a b d e h = rw (← a, ← b refl, ← d refl refl, ← e refl)
-  passes z true true true true true true false o′ r′ c′ s′ n a b d e h = rw (← a, ← b refl, ← d refl refl, ← e refl)
-  passes z true true true true true true true o′ r′ c′ s′ n a b d e h = rw (← a, ← b refl, ← d refl refl, ← e refl, h refl refl)
+      ≡ decidedS (tested 3 v i ∷ tested 7 p o′ ∷ tested 8 p f′ ∷ tested 9 p r′ ∷ tested 10 p c′ ∷ tested 11 p s′ ∷ tested 12 p l ∷ []) n
+  passes z false o f r c s l o′ f′ r′ c′ s′ n a t b d e h = refl
+  passes z true false f r c s l o′ f′ r′ c′ s′ n a t b d e h = rw (← a)
+  passes z true true false r c s l o′ f′ r′ c′ s′ n a t b d e h = rw (← a, ← t)
+  passes z true true true false c s l o′ f′ r′ c′ s′ n a t b d e h = rw (← a, ← t, ← b refl)
+  passes z true true true true false s l o′ f′ r′ c′ s′ n a t b d e h = rw (← a, ← t, ← b refl, ← d refl refl)
+  passes z true true true true true false l o′ f′ r′ c′ s′ n a t b d e h = rw (← a, ← t, ← b refl, ← d refl refl, ← e refl)
+  passes z true true true true true true false o′ f′ r′ c′ s′ n a t b d e h = rw (← a, ← t, ← b refl, ← d refl refl, ← e refl)
+  passes z true true true true true true true o′ f′ r′ c′ s′ n a t b d e h = rw (← a, ← t, ← b refl, ← d refl refl, ← e refl, h refl refl)
 
   -- a segment that has no place
   lost : (i o : Bool) (w : AnswerS) → o ≡ false → answerOf (cond i (refused 7 p) (refused 3 v)) ≡ cond i (cond o w (refusedS 7 p)) (refusedS 3 v)
@@ -536,9 +618,10 @@ follow y x g p q = by (place x g) (follows y x g q)
         ≡ decidedS (testsS y (asked g) (check (insideS y g)) (foundAt p (firstOutside y (printS (y .service) g) p)) p (stateOf x)) (nextS (stateOf x) (asked g))
     by o (nowhere e) = lost (foundAt p (firstOutside y (printS (y .service) g) p)) p (check (insideS y g)) (orderS (stateOf x) (asked g)) _ e
     by o (here z e r c s n) =
-        passes (foundAt p (firstOutside y (printS (y .service) g) p)) p z (check (insideS y g)) (check (order z)) (check (formedS y g)) (check (refs z)) (check (counts (y .version) z)) (check (scopes z)) (check (amountS g))
-        (orderS (stateOf x) (asked g)) (refsS (stateOf x) (asked g)) (countsS (y .version) (stateOf x) (asked g)) (scopeS (stateOf x) (asked g)) (nextS (stateOf x) (asked g))
-        e
+        passes (foundAt p (firstOutside y (printS (y .service) g) p)) p z (check (insideS y g)) (check (order z)) (check (formedS y g) && check (subsets z)) (check (refs z)) (check (counts (y .version) z)) (check (scopes z)) (check (amountS g))
+        (orderS (stateOf x) (asked g)) (check (formedS y g) && subsetS (stateOf x) (asked g)) (refsS (stateOf x) (asked g)) (countsS (y .version) (stateOf x) (asked g)) (scopeS (stateOf x) (asked g)) (nextS (stateOf x) (asked g))
+        (e .0)
+        (ap (λ (u : Bool). check (formedS y g) && u) (e .1))
         (λ a. r (check-holds (order z) a))
         (λ a b. c (check-holds (order z) a) (check-holds (refs z) b))
         (λ a. s (check-holds (order z) a))

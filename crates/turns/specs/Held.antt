@@ -1,7 +1,7 @@
 -- The walk as the code has it: what a look at a segment tells, the state that is kept, and a step.
 use Prim.Native.Nat.{ℕ, _+_, _*_, _≤_}
 use mathlib.Core.Path.{_≡_}
-use mathlib.Core.Bool.{Bool, true}
+use mathlib.Core.Bool.{Bool, true, _&&_}
 use mathlib.Core.List.{List, [], _∷_}
 use lib.ListN.{length, drop}
 use lib.Seq.{slice}
@@ -22,7 +22,7 @@ use Rattle.grammar.specs.Elements.{formed}
 use Rattle.grammar.specs.Loads.{loadRight}
 use Rattle.grammar.specs.Verdict.{tested}
 use Rattle.elements.specs.Kinds.{tagKind}
-use Rattle.message.specs.Summary.{Summary, StateS, startS, idleS, busyS, doneS, orderS, refsS, countsS, scopeS, nextS, AnswerS, readS, refusedS, decidedS}
+use Rattle.message.specs.Summary.{Summary, StateS, startS, idleS, busyS, doneS, orderS, subsetS, refsS, countsS, scopeS, nextS, AnswerS, readS, refusedS, decidedS}
 use Rattle.message.specs.Steps.{summaryIn, Roomy}
 use Rattle.references.specs.Refs.{refAt, refsIn, Indexed, Offered}
 use Rattle.elements.specs.Octets.{textAt}
@@ -130,7 +130,7 @@ pub record Held (ρ : ℕ) (s : List ℕ) (x : State) (h l b : List ℕ) (i : �
 abbrev pub decidedFrom : Version → StateS → Asked → ℕ → AnswerS
 decidedFrom v S a p =
     decidedS
-    (tested 7 p (orderS S a) ∷ tested 8 p (formed v a) ∷ tested 9 p (refsS S a) ∷ tested 10 p (countsS v S a) ∷ tested 11 p (scopeS S a)
+    (tested 7 p (orderS S a) ∷ tested 8 p (formed v a && subsetS S a) ∷ tested 9 p (refsS S a) ∷ tested 10 p (countsS v S a) ∷ tested 11 p (scopeS S a)
     ∷ tested 12 p (loadRight a) ∷ [])
     (nextS S a)
 

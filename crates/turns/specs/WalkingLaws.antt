@@ -3,7 +3,7 @@ use Prim.Native.Nat.{ℕ, zero, suc, _+_, _*_, _≤_, _<_}
 use native.Mathlib.Numerals.{add-one}
 use native.Mathlib.Omega.{arith}
 use mathlib.Core.Path.{_≡_, refl, ap, sym, _∙_, subst}
-use mathlib.Core.Bool.{Bool, true, false, cond, not, _&&_, false≢true}
+use mathlib.Core.Bool.{Bool, true, false, cond, not, _&&_, false≢true, and-true}
 use mathlib.Core.List.{List, [], _∷_}
 use borrow.Author.Tests.{eq-eqb, ne-eqb, leb-true}
 use lib.Dec.{T, eqb, leb}
@@ -20,7 +20,7 @@ use Rattle.syntax.specs.declared.Service.{Service}
 use Rattle.syntax.specs.declared.Syntax.{Syntax}
 use Rattle.syntax.specs.declared.Version.{Version}
 use Rattle.grammar.specs.declared.Subset.{Subset}
-use Rattle.grammar.specs.declared.Subset.the-variants.{None, F01}
+use Rattle.grammar.specs.declared.Subset.the-variants.{None, F01, Gs1}
 use Rattle.grammar.specs.Lists.{Snoc, nil, _▷_, size, any, among}
 use Rattle.grammar.specs.Rules.{subsetOf}
 use Rattle.grammar.specs.Segments.{Asked}
@@ -36,7 +36,7 @@ use Rattle.elements.specs.Formed.{formedBy}
 use Rattle.elements.specs.FormedLaws.{and-stop, and-go, formed-by}
 use Rattle.references.specs.Refs.{refsIn, Indexed, Offered, Fitting, OfferIs}
 use Rattle.message.specs.Heads.{headFlags}
-use Rattle.message.specs.Summary.{Summary, StateS, startS, idleS, busyS, atStart, atIdle, atBusy, mayCome, allNamed, pairsCounted, totalRight, numberAt, orderK, refsK, countsK, scopeK, nextK, orderS, refsS, countsS, scopeS, nextS, opened, fresh, AnswerS, readS, refusedS, decidedS}
+use Rattle.message.specs.Summary.{Summary, StateS, startS, idleS, busyS, atStart, atIdle, atBusy, mayCome, allNamed, pairsCounted, totalRight, numberAt, orderK, subsetK, refsK, countsK, scopeK, nextK, orderS, subsetS, refsS, countsS, scopeS, nextS, opened, fresh, AnswerS, readS, refusedS, decidedS}
 use Rattle.message.specs.Steps.{summaryIn, Roomy}
 use Rattle.message.specs.StepsLaws.{marked-between, closed-range, unt-digits, unz-digits}
 use Rattle.turns.specs.Held.{phased, stateIn, stretchIn, repeatedRef, afterUnb, afterUnh, afterOther, openSize, Held, decidedFrom, StepIs, Ready}
@@ -78,10 +78,19 @@ module _ (a : Asked) where
   unt-load : Unt ≡ tagKind (a .tag) → loadRight a ≡ true
   unt-load e = free-load a (λ q. false≢true (sym (ap (λ (k : Kind). atBusy false false false true false k) (e ∙ q))))
 
--- the subset, as its type is compared
+-- the subset, as its type and its code are compared
 module _ (σ : Service) (s : List ℕ) (a : ℕ) {x : List ℕ} (e : x ≡ partOf s (componentAt σ s a 2 0)) {b : Bool} (d : b ≡ same (content (σ .release) x) (octets "AUTACK")) where
-  pub subset-by : (c : Bool) → b ≡ c → cond c F01 None ≡ subsetOf (textAt σ s a 2 0)
-  subset-by c h = ap (λ (z : Bool). cond z F01 None) (sym h ∙ d ∙ ap (λ (z : List ℕ). same (content (σ .release) z) (octets "AUTACK")) e)
+  typed : (c : Bool) → b ≡ c → same (textAt σ s a 2 0) (octets "AUTACK") ≡ c
+  typed c h = sym (ap (λ (z : List ℕ). same (content (σ .release) z) (octets "AUTACK")) e) ∙ sym d ∙ h
+
+  pub no-subset : b ≡ false → None ≡ subsetOf (textAt σ s a 2 0) (textAt σ s a 2 4)
+  no-subset h = sym (ap (λ (z : Bool). cond z (cond (same (textAt σ s a 2 4) (octets "EAN001")) Gs1 F01) None) (typed false h))
+
+  pub subset-by : b ≡ true → {z : List ℕ} → z ≡ partOf s (componentAt σ s a 2 4) → {q : Bool} → q ≡ same (content (σ .release) z) (octets "EAN001") → (c : Bool) → q ≡ c →
+      cond c Gs1 F01 ≡ subsetOf (textAt σ s a 2 0) (textAt σ s a 2 4)
+  subset-by h {z} f k c t =
+      ap (λ (w : Bool). cond w Gs1 F01) (sym t ∙ k ∙ ap (λ (w : List ℕ). same (content (σ .release) w) (octets "EAN001")) f)
+      ∙ sym (ap (λ (w : Bool). cond w (cond (same (textAt σ s a 2 4) (octets "EAN001")) Gs1 F01) None) (typed true h))
 
 -- ---- the first test that fails tells the number
 
@@ -106,20 +115,20 @@ module _ (p : ℕ) (o f r c g l : Bool) (x : StateS) where
 
 module _ (v : Version) (S : StateS) (a : Asked) (p : ℕ) where
   pub at-7 : orderS S a ≡ false → decidedFrom v S a p ≡ refusedS 7 p
-  at-7 = six-7 p (orderS S a) (formed v a) (refsS S a) (countsS v S a) (scopeS S a) (loadRight a) (nextS S a)
+  at-7 = six-7 p (orderS S a) (formed v a && subsetS S a) (refsS S a) (countsS v S a) (scopeS S a) (loadRight a) (nextS S a)
 
-  pub at-8 : orderS S a ≡ true → formed v a ≡ false → decidedFrom v S a p ≡ refusedS 8 p
-  at-8 = six-8 p (orderS S a) (formed v a) (refsS S a) (countsS v S a) (scopeS S a) (loadRight a) (nextS S a)
+  pub at-8 : orderS S a ≡ true → (formed v a && subsetS S a) ≡ false → decidedFrom v S a p ≡ refusedS 8 p
+  at-8 = six-8 p (orderS S a) (formed v a && subsetS S a) (refsS S a) (countsS v S a) (scopeS S a) (loadRight a) (nextS S a)
 
-  at-9 : orderS S a ≡ true → formed v a ≡ true → refsS S a ≡ false → decidedFrom v S a p ≡ refusedS 9 p
-  at-9 = six-9 p (orderS S a) (formed v a) (refsS S a) (countsS v S a) (scopeS S a) (loadRight a) (nextS S a)
+  at-9 : orderS S a ≡ true → (formed v a && subsetS S a) ≡ true → refsS S a ≡ false → decidedFrom v S a p ≡ refusedS 9 p
+  at-9 = six-9 p (orderS S a) (formed v a && subsetS S a) (refsS S a) (countsS v S a) (scopeS S a) (loadRight a) (nextS S a)
 
-  at-10 : orderS S a ≡ true → formed v a ≡ true → refsS S a ≡ true → countsS v S a ≡ false → decidedFrom v S a p ≡ refusedS 10 p
-  at-10 = six-10 p (orderS S a) (formed v a) (refsS S a) (countsS v S a) (scopeS S a) (loadRight a) (nextS S a)
+  at-10 : orderS S a ≡ true → (formed v a && subsetS S a) ≡ true → refsS S a ≡ true → countsS v S a ≡ false → decidedFrom v S a p ≡ refusedS 10 p
+  at-10 = six-10 p (orderS S a) (formed v a && subsetS S a) (refsS S a) (countsS v S a) (scopeS S a) (loadRight a) (nextS S a)
 
-  at-end : orderS S a ≡ true → formed v a ≡ true → refsS S a ≡ true → countsS v S a ≡ true → scopeS S a ≡ true → loadRight a ≡ true →
+  at-end : orderS S a ≡ true → (formed v a && subsetS S a) ≡ true → refsS S a ≡ true → countsS v S a ≡ true → scopeS S a ≡ true → loadRight a ≡ true →
       decidedFrom v S a p ≡ readS (nextS S a)
-  at-end = six-on p (orderS S a) (formed v a) (refsS S a) (countsS v S a) (scopeS S a) (loadRight a) (nextS S a)
+  at-end = six-on p (orderS S a) (formed v a && subsetS S a) (refsS S a) (countsS v S a) (scopeS S a) (loadRight a) (nextS S a)
 
 module _ {A : AnswerS} (ρ : ℕ) (s h l b : List ℕ) (i : ℕ) where
   pub stop : {r : Step} {n p : ℕ} → A ≡ refusedS n p → r ≡ Stop (record { number = n; place = p }) → StepIs A r ρ s h l b i
@@ -181,13 +190,13 @@ roomy-fresh b h = record {
 }
 
 module _ (ρ : ℕ) (s h : List ℕ) where
-  fresh-summary : {m : Message} {b : Subset} (i j : ℕ) (a : Asked) → m ≡ fresh b → b ≡ subsetOf (a .text 2 0) → compared (content ρ (slice i j s)) ≡ compared (a .text 1 0) →
+  fresh-summary : {m : Message} {b : Subset} (i j : ℕ) (a : Asked) → m ≡ fresh b → b ≡ subsetOf (a .text 2 0) (a .text 2 4) → compared (content ρ (slice i j s)) ≡ compared (a .text 1 0) →
       summaryIn ρ s m i j h ≡ opened a
   fresh-summary {m} {b} i j a e d q =
       ap (λ (x : Message). summaryIn ρ s x i j h) (e ∙ ap fresh d) ∙ named-by q
     where
       named-by : {t : List ℕ} → t ≡ compared (a .text 1 0) →
-          _≡_ {A = Summary} (record { m = fresh (subsetOf (a .text 2 0)); ref = t; refs = nil; sizes = nil; flags = nil }) (opened a)
+          _≡_ {A = Summary} (record { m = fresh (subsetOf (a .text 2 0) (a .text 2 4)); ref = t; refs = nil; sizes = nil; flags = nil }) (opened a)
       named-by q = rw q
 
 -- ---- the steps
@@ -220,6 +229,12 @@ module _ (y : Syntax) (s : List ℕ) (st : State) (h l b : List ℕ) (at next : 
       slice (w .start) (w .end) s ≡ partOf s (componentAt (y .service) s at p 0)
   between g p u v e = marked-between g {p = p} {c = 0} u v (least 2) (ap (λ (w : Stretch). w .start) e) (ap (λ (w : Stretch). w .end) e)
 
+  -- of a kind of which a subset checks nothing, 8 is its row alone
+  alone : {S : StateS} {k : Kind} → here ≡ S → k ≡ tagKind (ask .tag) → subsetK S k ask ≡ true → {q : Bool} → q ≡ formed (y .version) ask →
+      (formed (y .version) ask && subsetS here ask) ≡ q
+  alone h k t e =
+      ap (λ (u : Bool). formed (y .version) ask && u) (by (λ (x : StateS) (j : Kind). subsetK x j ask) h k ∙ t) ∙ and-true (formed (y .version) ask) ∙ sym e
+
   module _ (g : Ready y s st h l b at next Unb f marks) (ph : (st .phase ≡ Start) × (st .count ≡ 0)) {q : Bool} (e : q ≡ formed (y .version) ask) where
     unb-here : here ≡ startS
     unb-here = ap (λ (z : Phase). phased z unbs refs kept) (ph .0)
@@ -228,7 +243,7 @@ module _ (y : Syntax) (s : List ℕ) (st : State) (h l b : List ℕ) (at next : 
     unb-order = by orderK unb-here (g .kind)
 
     pub unb-bad : not q ≡ true → {r : Step} → r ≡ Stop (record { number = 8; place = at }) → Told r
-    unb-bad n d = stop (y .service .release) s h l b next (at-8 (y .version) here ask at unb-order (sym e ∙ not-true q n)) d
+    unb-bad n d = stop (y .service .release) s h l b next (at-8 (y .version) here ask at unb-order (alone unb-here (g .kind) refl e ∙ not-true q n)) d
 
     module _ {z : Stretch} (u : z ≡ stretchIn marks 5) where
       unb-held : Held (y .service .release) s (afterUnb st z) h l b next
@@ -249,7 +264,7 @@ module _ (y : Syntax) (s : List ℕ) (st : State) (h l b : List ℕ) (at next : 
       pub unb-read : not q ≡ false → {x : State} → x ≡ afterUnb st z → Told (On x)
       unb-read n d =
           go (y .service .release) s h l b next
-          (at-end (y .version) here ask at unb-order (sym e ∙ not-false q n) (by (λ (x : StateS) (k : Kind). refsK x k ask) unb-here (g .kind))
+          (at-end (y .version) here ask at unb-order (alone unb-here (g .kind) refl e ∙ not-false q n) (by (λ (x : StateS) (k : Kind). refsK x k ask) unb-here (g .kind))
           (by (λ (x : StateS) (k : Kind). countsK (y .version) x k ask) unb-here (g .kind)) (by (λ (x : StateS) (k : Kind). scopeK x k ask) unb-here (g .kind)) (unb-load ask (g .kind)))
           d unb-is unb-held
 
@@ -267,7 +282,7 @@ module _ (y : Syntax) (s : List ℕ) (st : State) (h l b : List ℕ) (at next : 
     unh-order = by orderK (idle-here ph) (g .kind)
 
     pub unh-bad : not q ≡ true → {r : Step} → r ≡ Stop (record { number = 8; place = at }) → Told r
-    unh-bad n d = stop (y .service .release) s h l b next (at-8 (y .version) here ask at unh-order (sym e ∙ not-true q n)) d
+    unh-bad n d = stop (y .service .release) s h l b next (at-8 (y .version) here ask at unh-order (alone (idle-here ph) (g .kind) refl e ∙ not-true q n)) d
 
     -- z is the part of the field that is compared
     module _ (n : not q ≡ false) {x : List ℕ} (z : List ℕ) (field : x ≡ partOf s (componentAt (y .service) s at 1 0)) (bared : content (y .service .release) z ≡ compared (content (y .service .release) x)) where
@@ -287,9 +302,9 @@ module _ (y : Syntax) (s : List ℕ) (st : State) (h l b : List ℕ) (at next : 
           {r : Step} → r ≡ Stop (record { number = 9; place = at }) → Left l′ r
       unh-again l′ a o v d =
           let used = subst (λ (w : Found). OfferIs l b (st .count) (content (y .service .release) z) w l′) v o .0 in
-          stop (y .service .release) s h l′ b next (at-9 (y .version) here ask at unh-order (sym e ∙ not-false q n) (unh-refs used)) d
+          stop (y .service .release) s h l′ b next (at-9 (y .version) here ask at unh-order (alone (idle-here ph) (g .kind) refl e ∙ not-false q n) (unh-refs used)) d
 
-      module _ {l′ : List ℕ} {k : ℕ} (o : Fitting l b (st .count) (content (y .service .release) z) k l′) {c : Subset} (autack : c ≡ subsetOf (textAt (y .service) s at 2 0)) {m : Message} (new : m ≡ fresh c)
+      module _ {l′ : List ℕ} {k : ℕ} (o : Fitting l b (st .count) (content (y .service .release) z) k l′) {c : Subset} (autack : c ≡ subsetOf (textAt (y .service) s at 2 0) (textAt (y .service) s at 2 4)) {m : Message} (new : m ≡ fresh c)
           {w : Stretch} (u : w ≡ stretchIn marks 1) where
         unh-part : slice (w .start) (w .end) s ≡ x
         unh-part = between (g .noted refl .marks) 1 (omega arith) (omega arith) u ∙ sym field
@@ -320,7 +335,7 @@ module _ (y : Syntax) (s : List ℕ) (st : State) (h l b : List ℕ) (at next : 
         pub unh-read : {x : State} → x ≡ afterUnh st k w m → Left l′ (On x)
         unh-read d =
             go (y .service .release) s h l′ b next
-            (at-end (y .version) here ask at unh-order (sym e ∙ not-false q n) (unh-refs (o .new))
+            (at-end (y .version) here ask at unh-order (alone (idle-here ph) (g .kind) refl e ∙ not-false q n) (unh-refs (o .new))
             (by (λ (x : StateS) (k : Kind). countsK (y .version) x k ask) (idle-here ph) (g .kind)) (by (λ (x : StateS) (k : Kind). scopeK x k ask) (idle-here ph) (g .kind)) (unh-load ask (g .kind)))
             d unh-is unh-held
 
@@ -336,7 +351,7 @@ module _ (y : Syntax) (s : List ℕ) (st : State) (h l b : List ℕ) (at next : 
       unz-may = unz-order ∙ any-refs l (st .count) some
 
       pub unz-bad : not q ≡ true → {r : Step} → r ≡ Stop (record { number = 8; place = at }) → Told r
-      unz-bad n d = stop (y .service .release) s h l b next (at-8 (y .version) here ask at unz-may (sym e ∙ not-true q n)) d
+      unz-bad n d = stop (y .service .release) s h l b next (at-8 (y .version) here ask at unz-may (alone (idle-here ph) (g .kind) refl e ∙ not-true q n)) d
 
       module _ (n : not q ≡ false) where
         pub unz-six : inRange (digits 1 6) (textAt (y .service) s at 1 0) ≡ true
@@ -347,7 +362,7 @@ module _ (y : Syntax) (s : List ℕ) (st : State) (h l b : List ℕ) (at next : 
           unz-refs = by (λ (z : StateS) (k : Kind). refsK z k ask) (idle-here ph) (g .kind) ∙ sym is
 
           pub unz-other : not a ≡ true → {r : Step} → r ≡ Stop (record { number = 9; place = at }) → Told r
-          unz-other v d = stop (y .service .release) s h l b next (at-9 (y .version) here ask at unz-may (sym e ∙ not-false q n) (unz-refs ∙ not-true a v)) d
+          unz-other v d = stop (y .service .release) s h l b next (at-9 (y .version) here ask at unz-may (alone (idle-here ph) (g .kind) refl e ∙ not-false q n) (unz-refs ∙ not-true a v)) d
 
           module _ (v : not a ≡ false) {k w : ℕ} (number : k ≡ valueFrom 0 (textAt (y .service) s at 1 0)) (count : w ≡ st .count) where
             unz-counts : countsS (y .version) here ask ≡ eqb (numberAt ask 1) (size refs)
@@ -356,7 +371,7 @@ module _ (y : Syntax) (s : List ℕ) (st : State) (h l b : List ℕ) (at next : 
             pub unz-wrong : (k ≡ w → ⊥) → {r : Step} → r ≡ Stop (record { number = 10; place = at }) → Told r
             unz-wrong c d =
                 stop (y .service .release) s h l b next
-                (at-10 (y .version) here ask at unz-may (sym e ∙ not-false q n) (unz-refs ∙ not-false a v)
+                (at-10 (y .version) here ask at unz-may (alone (idle-here ph) (g .kind) refl e ∙ not-false q n) (unz-refs ∙ not-false a v)
                 (unz-counts ∙ ne-eqb (numberAt ask 1) (size refs) (λ i. c (number ∙ i ∙ size-refs l (st .count) ∙ sym count)))) d
 
             unz-held : Held (y .service .release) s (afterOther st Done (st .count) (st .message)) h l b next
@@ -375,7 +390,7 @@ module _ (y : Syntax) (s : List ℕ) (st : State) (h l b : List ℕ) (at next : 
             pub unz-read : k ≡ w → {x : State} → x ≡ afterOther st Done (st .count) (st .message) → Told (On x)
             unz-read c d =
                 go (y .service .release) s h l b next
-                (at-end (y .version) here ask at unz-may (sym e ∙ not-false q n) (unz-refs ∙ not-false a v)
+                (at-end (y .version) here ask at unz-may (alone (idle-here ph) (g .kind) refl e ∙ not-false q n) (unz-refs ∙ not-false a v)
                 (unz-counts ∙ eq-eqb (numberAt ask 1) (size refs) (sym number ∙ c ∙ count ∙ sym (size-refs l (st .count))))
                 (by (λ (x : StateS) (k : Kind). scopeK x k ask) (idle-here ph) (g .kind)) (unz-load ask (g .kind)))
                 d (sym (by (λ (x : StateS) (k : Kind). nextK x k ask) (idle-here ph) (g .kind))) unz-held
@@ -418,7 +433,7 @@ module _ (y : Syntax) (s : List ℕ) (st : State) (h l b : List ℕ) (at next : 
         unt-may = unt-order ∙ not-false m some
 
         pub unt-bad : not q ≡ true → {r : Step} → r ≡ Stop (record { number = 8; place = at }) → Told r
-        unt-bad n d = stop (y .service .release) s h l b next (at-8 (y .version) here ask at unt-may (sym e ∙ not-true q n)) d
+        unt-bad n d = stop (y .service .release) s h l b next (at-8 (y .version) here ask at unt-may (alone (busy-here ph) (g .kind) refl e ∙ not-true q n)) d
 
         module _ (n : not q ≡ false) where
           pub unt-six : inRange (digits 1 6) (textAt (y .service) s at 1 0) ≡ true
@@ -429,7 +444,7 @@ module _ (y : Syntax) (s : List ℕ) (st : State) (h l b : List ℕ) (at next : 
             unt-refs = by (λ (z : StateS) (k : Kind). refsK z k ask) (busy-here ph) (g .kind) ∙ sym is
 
             pub unt-other : not a ≡ true → {r : Step} → r ≡ Stop (record { number = 9; place = at }) → Told r
-            unt-other v d = stop (y .service .release) s h l b next (at-9 (y .version) here ask at unt-may (sym e ∙ not-false q n) (unt-refs ∙ not-true a v)) d
+            unt-other v d = stop (y .service .release) s h l b next (at-9 (y .version) here ask at unt-may (alone (busy-here ph) (g .kind) refl e ∙ not-false q n) (unt-refs ∙ not-true a v)) d
 
             module _ (v : not a ≡ false) {c : Bool}
                 (counts : c ≡ (eqb (numberAt ask 1) (st .message .segments + 1) && (pairsCounted (y .version) (st .message .pair) && totalRight (st .message .sums)))) where
@@ -442,7 +457,7 @@ module _ (y : Syntax) (s : List ℕ) (st : State) (h l b : List ℕ) (at next : 
               pub unt-wrong : not c ≡ true → {r : Step} → r ≡ Stop (record { number = 10; place = at }) → Told r
               unt-wrong w d =
                   stop (y .service .release) s h l b next
-                  (at-10 (y .version) here ask at unt-may (sym e ∙ not-false q n) (unt-refs ∙ not-false a v) (unt-counts ∙ not-true c w)) d
+                  (at-10 (y .version) here ask at unt-may (alone (busy-here ph) (g .kind) refl e ∙ not-false q n) (unt-refs ∙ not-false a v) (unt-counts ∙ not-true c w)) d
 
               module _ (w : not c ≡ false) (b′ : List ℕ) (chain : Indexed l b′ (st .count + 1)) where
                 unt-held : Held (y .service .release) s (afterOther st Idle (st .count + 1) (st .message)) h l b′ next
@@ -471,7 +486,7 @@ module _ (y : Syntax) (s : List ℕ) (st : State) (h l b : List ℕ) (at next : 
                     StepIs (decidedFrom (y .version) (stateIn (y .service .release) s st h l) (askedAt (y .service) s at) at) (On x) (y .service .release) s h l b′ next
                 unt-read d =
                     go (y .service .release) s h l b′ next
-                    (at-end (y .version) here ask at unt-may (sym e ∙ not-false q n) (unt-refs ∙ not-false a v) (unt-counts ∙ not-false c w)
+                    (at-end (y .version) here ask at unt-may (alone (busy-here ph) (g .kind) refl e ∙ not-false q n) (unt-refs ∙ not-false a v) (unt-counts ∙ not-false c w)
                     (by (λ (x : StateS) (k : Kind). scopeK x k ask) (busy-here ph) (g .kind)) (unt-load ask (g .kind)))
                     d unt-is unt-held
 

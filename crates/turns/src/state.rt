@@ -28,10 +28,10 @@ use elements::fields::field_end;
 use elements::fields::field_start;
 use elements::fields::fields;
 use elements::formed::end_formed;
-use elements::formed::is_formed;
 use elements::formed::unb_formed;
 use elements::formed::unh_formed;
 use elements::kind_of;
+use elements::subset::formed_in;
 use grammar::Subset;
 use message::Group;
 use message::Message;
@@ -70,6 +70,7 @@ use syntax::cutting::Tag;
 use syntax::cutting::scan;
 use syntax::cutting::tag_in;
 use syntax::opening::is_earlier;
+use syntax::reading::component_part;
 
 // Where the interchange stands: before UNB, between messages, in one, behind UNZ.
 pub enum Phase {
@@ -313,12 +314,16 @@ fn on_unb(
 }
 
 // The subset of AUTACK that the message is written by, whose UNH stands at `at`.
-fn subset_in(s: &[u8], at: usize, y: Syntax, marks: &[usize]) -> Subset
+fn subset_in(s: &[u8], at: usize, t: &[u8; 256], y: Syntax, marks: &[usize]) -> Subset
+    requires { ⌜ Table y (now t) ⌝ }
     requires { ⌜ Marked (y .service) (now s) at (now marks) ⌝ }
-    ensures { λ r. ⌜ r ≡ subsetOf (textAt (y .service) (now (s .entry)) at 2 0) ⌝ }
+    ensures { λ r. ⌜ r ≡ subsetOf (textAt (y .service) (now (s .entry)) at 2 0) (textAt (y .service) (now (s .entry)) at 2 4) ⌝ }
 {
     let v = y.service;
     if content_is(field(s, at, y, marks, 2, 0), v.release, b"AUTACK") {
+        if content_is(component_part(s, at, t, y, 2, 4), v.release, b"EAN001") {
+            return Subset::Gs1;
+        }
         return Subset::F01;
     }
     Subset::None
@@ -352,7 +357,7 @@ fn on_unh(
     match offer(v.release, names, slots, st.count as usize, z) {
         Found::Nothing => stopped(9, at),
         Found::At(i) => {
-            let m = fresh_message(subset_in(s, at, y, marks));
+            let m = fresh_message(subset_in(s, at, t, y, marks));
             Step::On(after_unh(st, i, stretch_in(marks, 1), m))
         }
     }
@@ -550,10 +555,11 @@ fn on_busy(
     ensures { λ r. ⌜ StepIs (decidedFrom (y .version) (stateIn (y .service .release) (now (s .entry)) st (now (heads .entry)) (now (names .entry))) (askedAt (y .service) (now (s .entry)) at) at) r (y .service .release) (now (s .entry)) (now (heads .exit)) (now (names .entry)) (now (slots .entry)) next ⌝ }
 {
     let m = st.message;
+    let a = m.autack;
     if !may_come(k, m) {
         return stopped(7, at);
     }
-    if !is_formed(s, at, y, marks, f, k) {
+    if !formed_in(s, at, t, y, marks, f, k, a) {
         return stopped(8, at);
     }
     match step_in(s, at, y, m, k, f, marks, heads, i) {

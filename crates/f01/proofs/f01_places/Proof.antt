@@ -2,15 +2,20 @@ use native.Mathlib.Omega.{arith}
 use mathlib.Core.Path.{refl, sym, ap, _∙_}
 use borrow.Author.Needs.{needs}
 use lib.ListN.{length}
-use Rattle.f01.specs.F01.{f01Of}
+use Rattle.syntax.specs.Octets.{octets}
+use Rattle.f01.specs.F01.{runIn, f01Of}
 use Rattle.ranges.specs.RangesLaws.{run-promised}
-use Rattle.f01.specs.F01Laws.{f01-refused, f01-at, f01-missing}
+use Rattle.f01.specs.ReferringLaws.{across-refused, across-at, across-missing}
 use Rattle.f01.proofs.f01_places.Statement.{statement}
 use Rattle.f01.proofs.f01_places.Tie as tie
 use Rattle.f01.proofs.f01_places.Reads as reads
 use Rattle.f01.proofs.f01_places.Lts as lts
 use Rattle.f01.proofs.reference_named.Reads as reference-named-reads
 use Rattle.f01.proofs.run_of.Reads as run-of-reads
+
+-- src/lib.rt:178:11
+slice-aggregate-reference-named : tie.Need-slice-aggregate-reference-named
+slice-aggregate-reference-named c = search needs
 
 -- src/lib.rt:159:11
 reference-named-requires : tie.Need-reference-named-requires
@@ -38,20 +43,21 @@ enum-known-f c = search needs
 
 -- src/lib.rt:155:1
 returns : tie.Need-returns
-returns c = run-promised (f01Of (c .before .before .before .before .before .before .before .before .before .args .autack .now) (c .before .before .before .before .before .before .before .before .before .args .referenced .now) (c .before .before .before .before .before .before .before .before .before .args .message .now) (c .before .before .before .before .before .before .before .before .before .args .header .now)) (f01-at (c .before .before .before .before .before .before .before .before .before .args .autack .now) (c .before .before .before .before .before .before .before .before .before .args .referenced .now) (c .before .before .before .before .before .before .before .before .before .args .message .now) (c .before .before .before .before .before .before .before .before .before .args .header .now) (c .before .before .before .before .reference-named .ensures) (c .before .before .x .given .1) (c .run-of .ensures .0)) (c .run-of .ensures .1)
+returns c = run-promised (f01Of (c .before .before .before .before .before .before .before .before .before .before .args .autack .now) (c .before .before .before .before .before .before .before .before .before .before .args .referenced .now) (c .before .before .before .before .before .before .before .before .before .before .args .message .now) (c .before .before .before .before .before .before .before .before .before .before .args .header .now)) (across-at (octets "F01") runIn (c .before .before .before .before .before .before .before .before .before .before .args .autack .now) (c .before .before .before .before .before .before .before .before .before .before .args .referenced .now) (c .before .before .before .before .before .before .before .before .before .before .args .message .now) (c .before .before .before .before .before .before .before .before .before .before .args .header .now) (c .before .before .before .before .reference-named .ensures) (c .before .before .x .given .1) (c .run-of .ensures .0)) (c .run-of .ensures .1)
 
 -- src/lib.rt:155:1
 returns-2 : tie.Need-returns-2
-returns-2 c = run-promised (f01Of (c .before .before .before .before .before .before .before .before .args .autack .now) (c .before .before .before .before .before .before .before .before .args .referenced .now) (c .before .before .before .before .before .before .before .before .args .message .now) (c .before .before .before .before .before .before .before .before .args .header .now)) (f01-missing (c .before .before .before .before .before .before .before .before .args .autack .now) (c .before .before .before .before .before .before .before .before .args .referenced .now) (c .before .before .before .before .before .before .before .before .args .message .now) (c .before .before .before .before .before .before .before .before .args .header .now) (c .before .before .before .reference-named .ensures) (c .before .enum-told .given .1) (c .run-of2 .ensures .0)) (c .run-of2 .ensures .1)
+returns-2 c = run-promised (f01Of (c .before .before .before .before .before .before .before .before .before .args .autack .now) (c .before .before .before .before .before .before .before .before .before .args .referenced .now) (c .before .before .before .before .before .before .before .before .before .args .message .now) (c .before .before .before .before .before .before .before .before .before .args .header .now)) (across-missing (octets "F01") runIn (c .before .before .before .before .before .before .before .before .before .args .autack .now) (c .before .before .before .before .before .before .before .before .before .args .referenced .now) (c .before .before .before .before .before .before .before .before .before .args .message .now) (c .before .before .before .before .before .before .before .before .before .args .header .now) (c .before .before .before .reference-named .ensures) (c .before .enum-told .given .1) (c .run-of2 .ensures .0)) (c .run-of2 .ensures .1)
 
 -- src/lib.rt:155:1
 returns-3 : tie.Need-returns-3
-returns-3 c = run-promised (f01Of (c .before .before .before .before .before .before .before .before .args .autack .now) (c .before .before .before .before .before .before .before .before .args .referenced .now) (c .before .before .before .before .before .before .before .before .args .message .now) (c .before .before .before .before .before .before .before .before .args .header .now)) (f01-refused (c .before .before .before .before .before .before .before .before .args .autack .now) (c .before .before .before .before .before .before .before .before .args .referenced .now) (c .before .before .before .before .before .before .before .before .args .message .now) (c .before .before .before .before .before .before .before .before .args .header .now) (c .before .before .before .reference-named .ensures) (c .before .f .given .1)) tt
+returns-3 c = run-promised (f01Of (c .before .before .before .before .before .before .before .before .before .args .autack .now) (c .before .before .before .before .before .before .before .before .before .args .referenced .now) (c .before .before .before .before .before .before .before .before .before .args .message .now) (c .before .before .before .before .before .before .before .before .before .args .header .now)) (across-refused (octets "F01") runIn (c .before .before .before .before .before .before .before .before .before .args .autack .now) (c .before .before .before .before .before .before .before .before .before .args .referenced .now) (c .before .before .before .before .before .before .before .before .before .args .message .now) (c .before .before .before .before .before .before .before .before .before .args .header .now) (c .before .before .before .reference-named .ensures) (c .before .f .given .1)) tt
 
 pub f01-places-spec : {M : Type 1} → statement M
 f01-places-spec =
     tie.close
     (tie.spec
+    slice-aggregate-reference-named
     reference-named-requires
     enum-known-x
     run-of-requires

@@ -6,7 +6,7 @@ use mathlib.Core.Path.{refl, sym, ap, _∙_}
 use borrow.Author.Needs.{needs}
 use lib.ListN.{length}
 use Rattle.syntax.specs.Content.{content, compared}
-use Rattle.f01.specs.F01Laws.{referred-at, referred-missing, referred-refused}
+use Rattle.f01.specs.ReferringLaws.{referred-at, referred-missing, referred-refused}
 use Rattle.f01.proofs.is_referred.Statement.{statement}
 use Rattle.f01.proofs.is_referred.Tie as tie
 use Rattle.f01.proofs.is_referred.Reads as reads
@@ -41,7 +41,7 @@ enum-told-2 c = search needs
 
 -- src/lib.rt:111:1
 returns : tie.Need-returns
-returns c = referred-at (c .before .before .before .before .before .before .before .before .before .args .autack .now) _ (now (c .before .before .component-part .result)) (now (c .before .part .result)) (c .before .before .before .before .before .before .before .before .before .args .y .service .release) (c .before .before .before .before .before .r .given .1) (ap (λ (l : List ℕ). compared (content (c .before .before .before .before .before .before .before .before .before .args .y .service .release) l)) (c .before .before .component-part .ensures)) (c .before .part .ensures) (c .same-reference .ensures)
+returns c = referred-at (c .before .before .before .before .before .before .before .before .before .before .args .autack .now) _ (now (c .before .before .before .component-part .result)) (now (c .before .part .result)) (c .before .before .before .before .before .before .before .before .before .before .args .y .service .release) (c .before .before .before .before .before .before .r .given .1) (ap (λ (l : List ℕ). compared (content (c .before .before .before .before .before .before .before .before .before .before .args .y .service .release) l)) (c .before .before .before .component-part .ensures)) (c .before .part .ensures) (c .same-reference .ensures)
 
 -- src/lib.rt:111:1
 returns-2 : tie.Need-returns-2

@@ -19,11 +19,11 @@ returns c = rw (← c .before .before .at-heads .ensures, c .before .if1 .taken,
 
 -- src/order.rt:132:1
 returns-2 : tie.Need-returns-2
-returns-2 c = search needs
+returns-2 c = rw (← c .before .before .at-heads .ensures, c .before .if1 .taken, c .if2 .left)
 
 -- src/order.rt:132:1
 returns-3 : tie.Need-returns-3
-returns-3 c = search needs
+returns-3 c = rw (← c .before .at-heads .ensures, c .if1 .left)
 
 pub usb-may-spec : {M : Type 1} → statement M
 usb-may-spec = tie.close (tie.spec at-heads-requires returns returns-2 returns-3)

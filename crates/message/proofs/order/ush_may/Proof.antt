@@ -19,7 +19,7 @@ returns c = rw (← c .before .at-heads .ensures, c .if1 .taken)
 
 -- src/order.rt:123:1
 returns-2 : tie.Need-returns-2
-returns-2 c = search needs
+returns-2 c = rw (← c .before .at-heads .ensures, c .if1 .left)
 
 pub ush-may-spec : {M : Type 1} → statement M
 ush-may-spec = tie.close (tie.spec at-heads-requires returns returns-2)

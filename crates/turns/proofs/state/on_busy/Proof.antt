@@ -14,8 +14,8 @@ returns c =
     let g = c .before .before .before .before .before .before .before .before in
     busy-7 (g .pre .1 .0) (g .pre .1 .1 .0 .0) (c .before .before .may-come .ensures) (c .before .if1 .taken) (c .stopped .ensures)
 
-is-formed-requires : tie.Need-is-formed-requires
-is-formed-requires c κs = search needs
+formed-in-requires : tie.Need-formed-in-requires
+formed-in-requires c κs = search needs
 
 stopped-requires-2 : tie.Need-stopped-requires-2
 stopped-requires-2 c κs = search needs
@@ -23,12 +23,12 @@ stopped-requires-2 c κs = search needs
 returns-2 : tie.Need-returns-2
 returns-2 c =
     let g = c .before .before .before .before .before .before .before .before .before .before in
-    busy-8 (g .pre .1 .0) (g .pre .1 .1 .0 .0) (c .before .before .before .before .may-come .ensures) (c .before .before .before .if1 .left) (c .before .before .is-formed .ensures) (c .before .if2 .taken) (c .stopped2 .ensures)
+    busy-8 (g .pre .1 .0) (g .pre .1 .1 .0 .0) (c .before .before .before .before .may-come .ensures) (c .before .before .before .if1 .left) (c .before .before .formed-in .ensures) (c .before .if2 .taken) (c .stopped2 .ensures)
 
 step-in-requires : tie.Need-step-in-requires
 step-in-requires c κs =
     let g = c .before .before .before .before .before .before .before .before .before .before in
-    (g .pre .1 .0 .kind, (g .pre .1 .0 .noted, (g .pre .1 .0 .held .roomy, ((busy-room (g .pre .1 .0) (g .pre .1 .1 .0 .0), g .pre .1 .0 .held .long), (busy-passed (g .pre .1 .0) (g .pre .1 .1 .0 .0) (c .before .before .before .before .may-come .ensures) (c .before .before .before .if1 .left) (c .before .before .is-formed .ensures) (c .before .if2 .left), g .pre .1 .1 .1)))))
+    (g .pre .1 .0 .kind, (g .pre .1 .0 .noted, (g .pre .1 .0 .held .roomy, ((busy-room (g .pre .1 .0) (g .pre .1 .1 .0 .0), g .pre .1 .0 .held .long), (busy-passed (g .pre .1 .0) (g .pre .1 .1 .0 .0) (c .before .before .before .before .may-come .ensures) (c .before .before .before .if1 .left) (c .before .before .formed-in .ensures) (c .before .if2 .left), g .pre .1 .1 .1)))))
 
 enum-known-n : tie.Need-enum-known-n
 enum-known-n c = search needs
@@ -45,12 +45,12 @@ after-other-requires c κs = search needs
 returns-3 : tie.Need-returns-3
 returns-3 c =
     let g = c .before .before .before .before .before .before .before .before .before .before .before .before .before .before .before in
-    busy-bad (g .pre .1 .0) (g .pre .1 .1 .0 .0) (c .before .before .before .before .before .before .before .before .before .may-come .ensures) (c .before .before .before .before .before .before .before .before .if1 .left) (c .before .before .before .before .before .before .before .is-formed .ensures) (c .before .before .before .before .before .before .if2 .left) (g .pre .1 .1 .0 .1) (c .before .before .before .before .step-in .result) (c .before .before .before .before .step-in .last .1 .1 .1 .1 .1 .1 .1 .0) (c .before .before .before .before .step-in .ensures .0) (c .before .before .n .given .1) (c .stopped3 .ensures)
+    busy-bad (g .pre .1 .0) (g .pre .1 .1 .0 .0) (c .before .before .before .before .before .before .before .before .before .may-come .ensures) (c .before .before .before .before .before .before .before .before .if1 .left) (c .before .before .before .before .before .before .before .formed-in .ensures) (c .before .before .before .before .before .before .if2 .left) (g .pre .1 .1 .0 .1) (c .before .before .before .before .step-in .result) (c .before .before .before .before .step-in .last .1 .1 .1 .1 .1 .1 .1 .0) (c .before .before .before .before .step-in .ensures .0) (c .before .before .n .given .1) (c .stopped3 .ensures)
 
 returns-4 : tie.Need-returns-4
 returns-4 c =
     let g = c .before .before .before .before .before .before .before .before .before .before .before .before .before .before .before in
-    busy-on (g .pre .1 .0) (g .pre .1 .1 .0 .0) (c .before .before .before .before .before .before .before .before .before .may-come .ensures) (c .before .before .before .before .before .before .before .before .if1 .left) (c .before .before .before .before .before .before .before .is-formed .ensures) (c .before .before .before .before .before .before .if2 .left) (g .pre .1 .1 .0 .1) (c .before .before .before .before .step-in .result) (c .before .before .before .before .step-in .last .1 .1 .1 .1 .1 .1 .1 .0) (c .before .before .before .before .step-in .ensures .0) (c .before .before .x .given .1) (c .before .before .before .before .step-in .ensures .1) (c .after-other .ensures)
+    busy-on (g .pre .1 .0) (g .pre .1 .1 .0 .0) (c .before .before .before .before .before .before .before .before .before .may-come .ensures) (c .before .before .before .before .before .before .before .before .if1 .left) (c .before .before .before .before .before .before .before .formed-in .ensures) (c .before .before .before .before .before .before .if2 .left) (g .pre .1 .1 .0 .1) (c .before .before .before .before .step-in .result) (c .before .before .before .before .step-in .last .1 .1 .1 .1 .1 .1 .1 .0) (c .before .before .before .before .step-in .ensures .0) (c .before .before .x .given .1) (c .before .before .before .before .step-in .ensures .1) (c .after-other .ensures)
 
 pub on-busy-spec : {M : Type 1} → statement M
 on-busy-spec =
@@ -59,7 +59,7 @@ on-busy-spec =
     may-come-requires
     stopped-requires
     returns
-    is-formed-requires
+    formed-in-requires
     stopped-requires-2
     returns-2
     step-in-requires

@@ -43,7 +43,7 @@ enum-known-i : tie.Need-enum-known-i
 enum-known-i c = search needs
 
 subset-in-requires : tie.Need-subset-in-requires
-subset-in-requires c κs = c .before .before .before .before .before .before .before .before .before .before .before .before .before .before .before .before .before .pre .1 .0 .noted refl .marks
+subset-in-requires c κs = let g = c .before .before .before .before .before .before .before .before .before .before .before .before .before .before .before .before .before in (g .pre .0, g .pre .1 .0 .noted refl .marks)
 
 fresh-message-requires : tie.Need-fresh-message-requires
 fresh-message-requires c κs = search needs

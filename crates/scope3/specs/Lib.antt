@@ -1,0 +1,3 @@
+pub mod Scope3
+pub mod Whole
+pub mod Scope3Laws
