@@ -6,8 +6,9 @@
  * lent buffer held before: so one write outside the result shows in at least one turn, and so does an answer that depends on
  * an octet that was not lent. After each call every lent octet, and every guard, has to be as it was, but for the octets
  * of the result. A result is also written into a buffer of exactly its length, and refused in one that is shorter; a register
- * that was written is checked; what was sealed is judged, and its octets and value are recovered. Interchanges of 65,535
- * octets and of one more are made and tried.
+ * that was written is checked, and moved to what is written in the other form; one that was moved is moved back; what was
+ * sealed is judged, and its octets and value are recovered. Interchanges of 65,535 octets and of one more are made and tried,
+ * and stored registers of 65,535 messages and of one more.
  * `report`, and lines that the desk answers `bad`, have no exported call; they are passed over and counted.
  */
 #include "gurandepi.h"
@@ -151,24 +152,60 @@ static void seal_back(void) {
         fault("what was sealed has another value", "");
 }
 
-static void make_register(void) {
-    tell_written(gurandepi_register_write(OCTETS(0), OCTETS(1)), 1);
+/* ---- the register: each form has calls of its own; the desk's numbers for them are 1, the old form, and 2 */
+
+static struct gurandepi_written write_form(uint64_t form, const uint8_t *of, size_t length, uint8_t *to, size_t room) {
+    if (form == 1) return gurandepi_register_write(of, length, to, room);
+    return gurandepi_register_write_small(of, length, to, room);
 }
 
-/* The register that was just written is the interchange's; cut by an octet, or with another octet, it is not. */
+static struct gurandepi_answer check_form(uint64_t form, const uint8_t *of, size_t length, const uint8_t *kept, size_t size) {
+    if (form == 1) return gurandepi_register_check(of, length, kept, size);
+    return gurandepi_register_check_small(of, length, kept, size);
+}
+
+static struct gurandepi_written move_from(uint64_t form, const uint8_t *stored, size_t size, uint8_t *to, size_t room) {
+    if (form == 1) return gurandepi_register_old_to_small(stored, size, to, room);
+    return gurandepi_register_small_to_old(stored, size, to, room);
+}
+
+static void make_register(void) {
+    tell_written(write_form(number[1], OCTETS(0), OCTETS(2)), 2);
+}
+
+/* The register that was just written is the interchange's; moved, it is what is written in the other form; cut by an octet, or
+   with another octet, it is not the interchange's. */
 static void check_back(void) {
-    uint8_t *kept = lent[1].now + GUARD;
-    uint64_t whole = gurandepi_register_check(OCTETS(0), kept, written).number, cut, other;
-    cut = gurandepi_register_check(OCTETS(0), kept, written - 1).number;
+    static uint8_t moved[BUFFER], other_form[BUFFER];
+    uint8_t *kept = lent[2].now + GUARD;
+    uint64_t form = number[1], whole = check_form(form, OCTETS(0), kept, written).number, cut, other;
+    struct gurandepi_written m = move_from(form, kept, written, moved, BUFFER);
+    struct gurandepi_written o = write_form(3 - form, OCTETS(0), other_form, BUFFER);
+    if (m.number != o.number || m.length != o.length || memcmp(moved, other_form, (size_t)m.length) != 0)
+        fault("a register that was written is not moved to the other one", "");
+    cut = check_form(form, OCTETS(0), kept, written - 1).number;
     kept[written - 1] ^= 1;
-    other = gurandepi_register_check(OCTETS(0), kept, written).number;
+    other = check_form(form, OCTETS(0), kept, written).number;
     if (whole != GURANDEPI_OK || cut != GURANDEPI_NOT_FOUND || other != GURANDEPI_NOT_FOUND)
         fault("a register that was written is not told from others", "");
     checked++;
 }
 
+static void make_move(void) {
+    tell_written(move_from(number[0], OCTETS(2), OCTETS(3)), 3);
+}
+
+/* The register that was just moved moves back to the one that it was, where that is not too long. */
+static void move_back(void) {
+    static uint8_t back[BUFFER];
+    struct gurandepi_written r = move_from(number[1], lent[3].now + GUARD, written, back, BUFFER);
+    if (lent[2].length > GURANDEPI_LONGEST ? r.number != GURANDEPI_NO_ROOM
+                                           : r.number != 0 || r.length != lent[2].length || memcmp(back, lent[2].now + GUARD, lent[2].length) != 0)
+        fault("a register that was moved is not moved back", "");
+}
+
 static void make_check(void) {
-    struct gurandepi_answer r = gurandepi_register_check(OCTETS(0), OCTETS(1));
+    struct gurandepi_answer r = check_form(number[1], OCTETS(0), OCTETS(2));
     tell(r.number, r.place, r.segment, NULL, 0);
 }
 
@@ -187,8 +224,9 @@ static struct call {
     {"value", "hhhc", make_value, 0, 0},
     {"sealoct", "hhhnc", make_seal_octets, 0, 0},
     {"seal", "hhhnhc", make_seal, 0, 0},
-    {"regwrite", "hc", make_register, 0, 0},
-    {"regcheck", "hh", make_check, 0, 0},
+    {"regwrite", "hnc", make_register, 0, 0},
+    {"regmove", "nnhc", make_move, 0, 0},
+    {"regcheck", "hnh", make_check, 0, 0},
 };
 enum { CALLS = sizeof calls / sizeof *calls, CHECK = CALLS - 1 };
 
@@ -271,6 +309,7 @@ static void compare(struct call *call, char *words[], const char *answer) {
     if (said[0] == 'o') call->carried_out++;
     else call->refused++;
     if (call->make == make_register && written != 0) check_back();
+    if (call->make == make_move && written != 0) move_back();
     if (call->make == make_seal && written != 0) seal_back();
     if (said[0] == 'o' && call->form[strlen(call->form) - 1] == 'c') fit(call, words, answer);
 }
@@ -349,28 +388,71 @@ static void held(const char *form, void (*make)(void), const char *answer) {
     compared++;
 }
 
-static void long_register(const char *answer, const char *back) {
+/* Written in a form, checked, and moved to the other. */
+static void long_register(uint64_t form, const char *answer, const char *back, const char *moved) {
     static uint8_t kept[BUFFER];
-    lend_octets(1, kept, BUFFER);
-    held("hc", make_register, answer);
-    memcpy(kept, lent[1].now + GUARD, written);
-    lend_octets(1, kept, written);
-    held("hh", make_check, back);
+    number[1] = form;
+    lend_octets(2, kept, BUFFER);
+    held("hnc", make_register, answer);
+    memcpy(kept, lent[2].now + GUARD, written);
+    lend_octets(2, kept, written);
+    held("hnh", make_check, back);
+    number[0] = form;
+    lend_octets(3, kept, BUFFER);
+    held("nnhc", make_move, moved);
 }
 
-/* A register of 3,276 messages has 65,524 octets, one of 3,277 has 65,544. */
+/* In the old form a register of 3,276 messages has 65,524 octets, one of 3,277 has 65,544; in the smaller form both are short. */
 static void long_ones(void) {
     lend_long(3276, GURANDEPI_LONGEST);
     held("h", make_judge, "ok");
     lend_octets(1, name_of(3275), strlen(name_of(3275)));
     held("hh", make_totals, "ok 1 1000");
-    long_register("ok 00000ccc", "ok");
+    lend_octets(1, "", 0);
+    long_register(1, "ok 00000ccc", "ok", "ok 02cc19");
+    long_register(2, "ok 02cc19", "ok", "ok 00000ccc");
     lend_long(3277, GURANDEPI_LONGEST);
     held("h", make_judge, "ok");
-    long_register("refused 15 0 0", "refused 13 0 0");
+    long_register(1, "refused 15 0 0", "refused 13 0 0", "refused 17 0 0");
+    long_register(2, "ok 02cd19", "ok", "refused 15 0 0");
     lend_long(3276, GURANDEPI_LONGEST + 1);
     held("h", make_judge, "refused 1 0 0");
-    long_register("refused 1 0 0", "refused 1 0 0");
+    long_register(1, "refused 1 0 0", "refused 1 0 0", "refused 17 0 0");
+    long_register(2, "refused 1 0 0", "refused 1 0 0", "refused 17 0 0");
+}
+
+/* ---- stored registers of many messages, all numbers 0: 65,535 are moved as far as there is room, one more is no register */
+
+static void long_move(const char *what, uint64_t form, size_t length, uint64_t refusal, size_t result) {
+    static uint8_t out[BUFFER];
+    struct gurandepi_written r = move_from(form, (const uint8_t *)commands, length, out, BUFFER);
+    if (r.number != refusal || r.length != result) fault("of a long register: ", what);
+    compared++;
+}
+
+static void long_moves(void) {
+    uint8_t *stored = (uint8_t *)commands;      /* read and answered by now */
+    size_t all = 65535;
+    memset(stored, 0, sizeof commands);
+    stored[2] = stored[3] = 255;
+    long_move("65,535 messages, old", 1, 4 + 20 * all, GURANDEPI_NO_ROOM, 0);
+    long_move("65,535 messages, old, cut", 1, 4 + 20 * all - 1, GURANDEPI_BAD_REGISTER, 0);
+    stored[1] = 1;
+    stored[2] = stored[3] = 0;
+    long_move("65,536 messages, old", 1, 4 + 20 * (all + 1), GURANDEPI_BAD_REGISTER, 0);
+    stored[1] = 0;
+    stored[2] = 0x3f;
+    stored[3] = 0xfe;
+    long_move("16,382 messages, old", 1, 4 + 20 * 16382, GURANDEPI_OK, 3 + 4 * 16382);
+    memset(stored, 0, 8);
+    stored[0] = 2;
+    stored[1] = stored[2] = 255;
+    stored[3] = 3;
+    long_move("65,535 messages, small", 2, 4 + 4 * all, GURANDEPI_NO_ROOM, 0);
+    long_move("65,535 messages, small, and an octet", 2, 4 + 4 * all + 1, GURANDEPI_BAD_REGISTER, 0);
+    stored[1] = stored[2] = 128;
+    stored[3] = 4;
+    long_move("65,536 messages, small", 2, 4 + 4 * (all + 1), GURANDEPI_BAD_REGISTER, 0);
 }
 
 static char *read_all(const char *path, char *to, size_t room) {
@@ -414,6 +496,7 @@ int main(int argc, char **argv) {
     }
     if (told != told_end) fault("more answers than commands", "");
     long_ones();
+    long_moves();
     calls[CHECK].carried_out += checked;
     for (i = 0; i < CALLS; i++)
         if (calls[i].carried_out == 0 || calls[i].refused == 0) fault("no case carried out, or none refused, of ", calls[i].name);

@@ -21,7 +21,11 @@ void inner_value(struct gurandepi_written *, const struct octets *, const struct
 void inner_seal_octets(struct gurandepi_written *, const struct octets *, const struct octets *, const struct octets *, uint64_t, const struct room *);
 void inner_seal(struct gurandepi_written *, const struct octets *, const struct octets *, const struct octets *, uint64_t, const struct octets *, const struct room *);
 void inner_register_write(struct gurandepi_written *, const struct octets *, const struct room *);
+void inner_register_write_small(struct gurandepi_written *, const struct octets *, const struct room *);
 void inner_register_check(struct gurandepi_answer *, const struct octets *, const struct octets *);
+void inner_register_check_small(struct gurandepi_answer *, const struct octets *, const struct octets *);
+void inner_register_old_to_small(struct gurandepi_written *, const struct octets *, const struct room *);
+void inner_register_small_to_old(struct gurandepi_written *, const struct octets *, const struct room *);
 
 #define OCTETS(name) &(struct octets){name, name##_length}
 #define ROOM &(struct room){out, out_length}
@@ -99,5 +103,31 @@ struct gurandepi_answer gurandepi_register_check(const uint8_t *interchange, siz
                                                  size_t kept_length) {
     struct gurandepi_answer r;
     inner_register_check(&r, OCTETS(interchange), OCTETS(kept));
+    return r;
+}
+
+struct gurandepi_written gurandepi_register_write_small(const uint8_t *interchange, size_t interchange_length, uint8_t *out,
+                                                        size_t out_length) {
+    struct gurandepi_written r;
+    inner_register_write_small(&r, OCTETS(interchange), ROOM);
+    return r;
+}
+
+struct gurandepi_answer gurandepi_register_check_small(const uint8_t *interchange, size_t interchange_length, const uint8_t *kept,
+                                                       size_t kept_length) {
+    struct gurandepi_answer r;
+    inner_register_check_small(&r, OCTETS(interchange), OCTETS(kept));
+    return r;
+}
+
+struct gurandepi_written gurandepi_register_old_to_small(const uint8_t *stored, size_t stored_length, uint8_t *out, size_t out_length) {
+    struct gurandepi_written r;
+    inner_register_old_to_small(&r, OCTETS(stored), ROOM);
+    return r;
+}
+
+struct gurandepi_written gurandepi_register_small_to_old(const uint8_t *stored, size_t stored_length, uint8_t *out, size_t out_length) {
+    struct gurandepi_written r;
+    inner_register_small_to_old(&r, OCTETS(stored), ROOM);
     return r;
 }

@@ -1,6 +1,6 @@
 /*
  * Gurandepi: judges EDIFACT interchanges, hands back what is sealed in them, recovers signature values, totals loads, seals
- * a message and writes a register. C11 and later, C++11 and later; link libgurandepi.a (x86-64 Linux).
+ * a message, and writes, checks and moves a register. C11 and later, C++11 and later; link libgurandepi.a (x86-64 Linux).
  *
  * How the calls are made
  *
@@ -46,7 +46,7 @@ extern "C" {
  * both from one tree.
  */
 #define GURANDEPI_MAJOR 4
-#define GURANDEPI_MINOR 0
+#define GURANDEPI_MINOR 1
 
 /*
  * The octets of the longest interchange, and of the longest result. An `out` of so many octets has room for every result:
@@ -56,8 +56,9 @@ extern "C" {
 
 /*
  * The refusals. A file has one: numbers 1 and 2 are looked for first, then the segments are gone through in order, and the
- * first bad one decides. Every call judges its interchange in this way before all else, so that each may refuse with 1 to
- * 12; 13, 16, 14 and 15 are looked for after that, in this order.
+ * first bad one decides. Every call on an interchange judges it in this way before all else, so that each may refuse with 1
+ * to 12; 13, 16, 14 and 15 are looked for after that, in this order. The moves of a register are lent no interchange: they
+ * refuse with 17, then 15.
  */
 enum gurandepi_number {
     GURANDEPI_OK = 0,               /* no refusal */
@@ -80,8 +81,10 @@ enum gurandepi_number {
     GURANDEPI_BAD_VALUE = 14,       /* the filter of a value is unknown, its text is bad or empty; or a value cannot be
                                        written in this interchange. Place: 0 */
     GURANDEPI_NO_ROOM = 15,         /* the result is longer than `out`, or than 65,535 octets. Place: 0 */
-    GURANDEPI_NOT_SEALABLE = 16     /* sealing: the reference is not allowed or already used in the message; the filter or
+    GURANDEPI_NOT_SEALABLE = 16,    /* sealing: the reference is not allowed or already used in the message; the filter or
                                        the length of the value is not allowed; nine headers already; an AUTACK. Place: 0 */
+    GURANDEPI_BAD_REGISTER = 17     /* moving: the stored register starts otherwise than its form, is cut, has a number that
+                                       is overlong or too large, or octets left over. Place: 0 */
 };
 
 /* How the value of a seal is written (0505): the `filter` of the sealing calls, which refuse every other with 16. */
@@ -217,16 +220,40 @@ struct gurandepi_written gurandepi_seal(const uint8_t *interchange, size_t inter
                                         uint8_t *out, size_t out_length);
 
 /*
- * The register of an interchange: the count of messages in 4 octets, then for each message 20: the place of its UNH (4), its
- * length to the end of UNT (4), its loads (4), their grams (8); the highest octet first in each number. Refuses with 1 to
- * 12; 15.
+ * The register of an interchange, in the old form: the count of messages in 4 octets, then for each message 20: the place of
+ * its UNH (4), its length to the end of UNT (4), its loads (4), their grams (8); the highest octet first in each number.
+ * In the smaller form: the octet 2, then the same numbers in the same order, each in groups of seven bits, the lowest group
+ * first, the high bit set on all but the last, in as few groups as hold it. Each form has calls of its own.
+ * Both refuse with 1 to 12; 15.
  */
 struct gurandepi_written gurandepi_register_write(const uint8_t *interchange, size_t interchange_length,
                                                   uint8_t *out, size_t out_length);
 
-/* Is `kept` the register of this interchange, octet for octet? Refuses with 1 to 12; 13: it is not. */
+struct gurandepi_written gurandepi_register_write_small(const uint8_t *interchange, size_t interchange_length,
+                                                        uint8_t *out, size_t out_length);
+
+/*
+ * Is `kept` the register of this interchange, in the old form or in the smaller one, octet for octet? Both refuse with 1 to
+ * 12; 13: it is not.
+ */
 struct gurandepi_answer gurandepi_register_check(const uint8_t *interchange, size_t interchange_length,
                                                  const uint8_t *kept, size_t kept_length);
+
+struct gurandepi_answer gurandepi_register_check_small(const uint8_t *interchange, size_t interchange_length,
+                                                       const uint8_t *kept, size_t kept_length);
+
+/*
+ * A stored register in the other form: from the old form to the smaller one, and from the smaller one to the old. Its places
+ * and lengths are compared with nothing. Where neither is refused, there and back gives the same octets.
+ * `stored` may be longer than 65,535 octets, the result not. Both refuse with 17: `stored` is no register of that form, that
+ * is it starts otherwise, is cut, has octets left over, a number in more groups than it needs, a count above 65,535, grams
+ * of 2^64 or more or another number of 2^32 or more; 15.
+ */
+struct gurandepi_written gurandepi_register_old_to_small(const uint8_t *stored, size_t stored_length,
+                                                         uint8_t *out, size_t out_length);
+
+struct gurandepi_written gurandepi_register_small_to_old(const uint8_t *stored, size_t stored_length,
+                                                         uint8_t *out, size_t out_length);
 
 #ifdef __cplusplus
 }

@@ -1,6 +1,6 @@
 //! The calls. All `unsafe` is here, and one thing makes it sound: each slice is lent with its own pointer and length, `out` as
 //! the only unique one.
-use crate::{Filter, Parts, Places, Reason, Refusal, Totals};
+use crate::{Filter, Form, Parts, Places, Reason, Refusal, Totals};
 use core::ops::Range;
 
 /// As include/gurandepi.h declares it: c/interface compares them.
@@ -87,9 +87,21 @@ mod c {
         pub fn gurandepi_register_write(
             interchange: *const u8, interchange_length: usize, out: *mut u8, out_length: usize
         ) -> Written;
+        pub fn gurandepi_register_write_small(
+            interchange: *const u8, interchange_length: usize, out: *mut u8, out_length: usize
+        ) -> Written;
         pub fn gurandepi_register_check(
             interchange: *const u8, interchange_length: usize, kept: *const u8, kept_length: usize
         ) -> Answer;
+        pub fn gurandepi_register_check_small(
+            interchange: *const u8, interchange_length: usize, kept: *const u8, kept_length: usize
+        ) -> Answer;
+        pub fn gurandepi_register_old_to_small(
+            stored: *const u8, stored_length: usize, out: *mut u8, out_length: usize
+        ) -> Written;
+        pub fn gurandepi_register_small_to_old(
+            stored: *const u8, stored_length: usize, out: *mut u8, out_length: usize
+        ) -> Written;
     }
 }
 
@@ -112,6 +124,7 @@ fn reason(number: u64) -> Reason {
         Value,
         Room,
         NotSealable,
+        Register,
     ];
     all[number as usize - 1]
 }
@@ -367,18 +380,51 @@ pub fn seal<'o>(
     written(r, out)
 }
 
-/// The register of an interchange: the count of messages in 4 octets, then for each message the place of its UNH (4), its
-/// length to the end of UNT (4), its loads (4) and their grams (8), the highest octet first. It is written to the front of
-/// `out` and handed back; on a refusal `out` is left as it was.
-pub fn register_write<'o>(interchange: &[u8], out: &'o mut [u8]) -> Result<&'o mut [u8], Refusal> {
-    let i = interchange;
-    let r = unsafe { c::gurandepi_register_write(i.as_ptr(), i.len(), out.as_mut_ptr(), out.len()) };
+/// The register of an interchange in a [`Form`]. It is written to the front of `out` and handed back; on a refusal `out` is
+/// left as it was.
+pub fn register_write<'o>(interchange: &[u8], form: Form, out: &'o mut [u8]) -> Result<&'o mut [u8], Refusal> {
+    let (i, o, n) = (interchange, out.as_mut_ptr(), out.len());
+    let r = match form {
+        Form::Old => unsafe { c::gurandepi_register_write(i.as_ptr(), i.len(), o, n) },
+        Form::Small => unsafe { c::gurandepi_register_write_small(i.as_ptr(), i.len(), o, n) },
+    };
     written(r, out)
 }
 
-/// Is `kept` the register of this interchange, octet for octet? If not: [`Reason::NotFound`].
-pub fn register_check(interchange: &[u8], kept: &[u8]) -> Result<(), Refusal> {
+/// Is `kept` the register of this interchange in this form, octet for octet? If not: [`Reason::NotFound`].
+pub fn register_check(interchange: &[u8], form: Form, kept: &[u8]) -> Result<(), Refusal> {
     let (i, k) = (interchange, kept);
-    let r = unsafe { c::gurandepi_register_check(i.as_ptr(), i.len(), k.as_ptr(), k.len()) };
+    let r = match form {
+        Form::Old => unsafe { c::gurandepi_register_check(i.as_ptr(), i.len(), k.as_ptr(), k.len()) },
+        Form::Small => unsafe { c::gurandepi_register_check_small(i.as_ptr(), i.len(), k.as_ptr(), k.len()) },
+    };
     given(r.number, r.place, r.segment, || ())
+}
+
+/// A stored register of [`Form::Old`] in [`Form::Small`]. Its places and lengths are compared with nothing. One that is no
+/// register of its form: [`Reason::Register`]. It is written to the front of `out` and handed back; on a refusal `out` is left
+/// as it was.
+///
+#[cfg_attr(linked, doc = "```")]
+#[cfg_attr(not(linked), doc = "```no_run")]
+/// # let p7 = std::fs::read("../examples/p7.edi").unwrap();
+/// use gurandepi::{register_old_to_small, register_small_to_old, register_write, Form};
+///
+/// let (mut old, mut small, mut back) = ([0; 24], [0; 24], [0; 24]);
+/// let old = register_write(&p7, Form::Old, &mut old).unwrap();
+/// let small = register_old_to_small(old, &mut small).unwrap();
+/// assert_eq!(small, [2, 1, 40, 0x86, 1, 2, 0xE0, 0xE0, 0xAB, 0x1B]);
+/// assert_eq!(register_small_to_old(small, &mut back).unwrap(), old);
+/// ```
+pub fn register_old_to_small<'o>(stored: &[u8], out: &'o mut [u8]) -> Result<&'o mut [u8], Refusal> {
+    let s = stored;
+    let r = unsafe { c::gurandepi_register_old_to_small(s.as_ptr(), s.len(), out.as_mut_ptr(), out.len()) };
+    written(r, out)
+}
+
+/// A stored register of [`Form::Small`] in [`Form::Old`]; else as [`register_old_to_small`].
+pub fn register_small_to_old<'o>(stored: &[u8], out: &'o mut [u8]) -> Result<&'o mut [u8], Refusal> {
+    let s = stored;
+    let r = unsafe { c::gurandepi_register_small_to_old(s.as_ptr(), s.len(), out.as_mut_ptr(), out.len()) };
+    written(r, out)
 }

@@ -1,10 +1,10 @@
 //! Gurandepi judges EDIFACT interchanges, hands back what is sealed in them, recovers signature values, totals loads,
-//! seals a message and writes a register. The calls are written and proved in Rattle; this crate is a safe and thin layer
+//! seals a message, and writes, checks and moves a register. The calls are written and proved in Rattle; this crate is a safe and thin layer
 //! over their static library, which is for x86-64 Linux. On another target this crate and its users are compiled, but a
 //! program that makes a call does not link.
 //!
 //! An interchange is the whole file as octets. A message is named by the content of its 0062, a security header by the
-//! content of its 0534; spaces at the end don't count. Every call judges the interchange first; the first fault decides and is given back as a [`Refusal`].
+//! content of its 0534; spaces at the end don't count. Every call on an interchange judges it first; the first fault decides and is given back as a [`Refusal`].
 //! For equal octets the answer is always the same, and it is proved what it is.
 //!
 //! The example of the rules paper, with its first variants:
@@ -73,10 +73,13 @@ pub enum Reason {
     /// Sealing: the reference, the filter or the value's length is not allowed, the reference is already used in the message,
     /// nine headers already, or an AUTACK.
     NotSealable,
+    /// A stored register that is moved starts otherwise than its form, is cut, has a number that is overlong or too large, or
+    /// octets left over.
+    Register,
 }
 
 /// A refusal: why, and the place of the fault, counted in octets from 0: its segment's first octet if [`Reason`] says nothing
-/// else, or the end of the input; 0 for the reasons 1, 2 and 13 to 16.
+/// else, or the end of the input; 0 for the reasons 1, 2 and 13 to 17.
 #[derive(Clone, Copy, Debug, PartialEq, Eq, Hash)]
 pub struct Refusal {
     /// Why.
@@ -84,12 +87,12 @@ pub struct Refusal {
     /// Where.
     pub place: usize,
     /// Which segment stands there: UNB is 1, UNA counts as none, the end of the input, or what stands after UNZ, counts as the
-    /// next one. 0 for the reasons 1, 2 and 13 to 16.
+    /// next one. 0 for the reasons 1, 2 and 13 to 17.
     pub segment: usize,
 }
 
 impl Refusal {
-    /// The paper's number of the reason, 1 to 16.
+    /// The paper's number of the reason, 1 to 17.
     pub const fn number(self) -> u8 {
         self.reason as u8
     }
@@ -137,4 +140,15 @@ pub enum Filter {
     Hex = 2,
     /// Base 64, for values of 1 to 384 octets. Not in version 2.
     Base64 = 7,
+}
+
+/// How a register is written: the count of messages, then for each message the place of its UNH, its length to the end of UNT,
+/// its loads and their grams.
+#[derive(Clone, Copy, Debug, PartialEq, Eq, Hash)]
+pub enum Form {
+    /// Each number in 4 octets, the grams in 8, the highest octet first.
+    Old,
+    /// The octet 2, then each number in groups of seven bits, the lowest first, the high bit set on all but the last, in as
+    /// few as hold it.
+    Small,
 }

@@ -104,8 +104,23 @@ fn p_is_sealed_to_p7_and_a_used_reference_is_refused() {
 #[cfg_attr(linked, test)]
 fn a_register_is_written_and_checked() {
     let mut out = [0; 24];
-    let kept = register_write(P.as_bytes(), &mut out).unwrap();
+    let kept = register_write(P.as_bytes(), Form::Old, &mut out).unwrap();
     assert_eq!(kept[..12], [0, 0, 0, 1, 0, 0, 0, 40, 0, 0, 0, 82]);
-    assert_eq!(register_check(P.as_bytes(), kept), Ok(()));
-    assert_eq!(said(register_check(P7.as_bytes(), kept)), "refused 13 at 0 segment 0");
+    assert_eq!(register_check(P.as_bytes(), Form::Old, kept), Ok(()));
+    assert_eq!(said(register_check(P7.as_bytes(), Form::Old, kept)), "refused 13 at 0 segment 0");
+    assert_eq!(said(register_check(P.as_bytes(), Form::Small, kept)), "refused 13 at 0 segment 0");
+}
+
+#[cfg_attr(linked, test)]
+fn a_smaller_register_is_written_checked_and_moved() {
+    let (mut out, mut old, mut back) = ([0; 9], [0; 24], *b"untouched");
+    let kept = register_write(P.as_bytes(), Form::Small, &mut out).unwrap();
+    assert_eq!(kept, [2, 1, 40, 82, 2, 0xE0, 0xE0, 0xAB, 0x1B]);
+    assert_eq!(register_check(P.as_bytes(), Form::Small, kept), Ok(()));
+    let moved = register_small_to_old(kept, &mut old).unwrap();
+    assert_eq!(register_check(P.as_bytes(), Form::Old, moved), Ok(()));
+    assert_eq!(register_old_to_small(&moved[..23], &mut back).unwrap_err().reason, Reason::Register);
+    assert_eq!(register_old_to_small(moved, &mut back[..8]).unwrap_err().reason, Reason::Room);
+    assert_eq!(&back, b"untouched");
+    assert_eq!(register_old_to_small(moved, &mut back).unwrap(), kept);
 }

@@ -17,8 +17,9 @@ use Rattle.grammar.specs.Verdict.{Verdict, accepted, refusedWith, verdictOf}
 use Rattle.writing.specs.Written.{Text, text, noText, refusedAs, Writes}
 use Rattle.writing.specs.WrittenLaws.{writes, length-told}
 use Rattle.writing.specs.declared.Written.the-variants.{Length}
-use Rattle.register.specs.Register.{registerText, entriesIn, registerBy, registerOf, toldCheck, checkNumbers}
-use Rattle.register.specs.declared.forms.Form.{Form}
+use Rattle.forms.specs.Forms.{registerText}
+use Rattle.forms.specs.declared.Form.{Form}
+use Rattle.register.specs.Register.{entriesIn, registerBy, registerOf, toldCheck, checkNumbers}
 use Rattle.register.specs.declared.register.Checked.the-variants.{Same, Refused as Differs}
 use Rattle.demands.specs.NumbersLaws.{refused-number}
 

@@ -49,3 +49,5 @@ pub mod Reported
 pub mod ReportedLaws
 pub mod Companion
 pub mod CompanionLaws
+-- the moves of a register
+pub mod MovedLaws

@@ -36,7 +36,7 @@ use Rattle.grammar.specs.ListsLaws.{size-join, every-left, every-right, every-j
 
 -- ---- a segment has four octets at least, so an interchange has few segments
 
-wide-size : (σ : Service) (gs : Snoc Segment) → 4 * size gs ≤ wide σ gs
+pub wide-size : (σ : Service) (gs : Snoc Segment) → 4 * size gs ≤ wide σ gs
 wide-size σ nil = omega arith
 wide-size σ (gs ▷ g) = omega (arith, wide-size σ gs, long-print σ g)
 

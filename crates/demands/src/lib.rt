@@ -2,8 +2,8 @@
 // The definitions are those that the calls promise: of the crate `grammar` `Interchange` and `printInterchange` (Valid.antt, Interchange.antt), `Valid`
 // (Valid.antt, with the rules of Rules.antt, Elements.antt and Loads.antt), `verdictOf` and `totalsOf` (Verdict.antt), `countedIn` (Counted.antt);
 // of `ranges` `scope1Of`, `scope2Of` (Ranges.antt), of `f01` `f01Of` (F01.antt), of `scope3` `scope3Of` (Scope3.antt); of `values` `valueOf` (Values.antt); of `sealing` `sealOf`,
-// `sealOctetsOf` and `sealed` (Sealing.antt); of `register` `registerOf`, `checkNumbers`, `toldCheck` (Register.antt); of `writing` `Writes`
-// (Written.antt); and here `Printed.antt`, `Companion.antt`, `Reported.antt`, `Sealed.antt`, `Range.antt` (the grammars of what is sealed) and `Read.antt`.
+// `sealOctetsOf` and `sealed` (Sealing.antt); of `register` `registerOf`, `checkNumbers`, `toldCheck` (Register.antt), of `forms` `registerText`
+// (Forms.antt), of `moves` `moveOf` (Stored.antt); of `writing` `Writes` (Written.antt); and here `Printed.antt`, `Companion.antt`, `Reported.antt`, `Sealed.antt`, `Range.antt` (the grammars of what is sealed) and `Read.antt`.
 ghost use Prim.Native.Nat.{ℕ, _+_, _-_, _≤_};
 ghost use mathlib.Core.Path.{_≡_};
 ghost use mathlib.Core.List.{List, _++_};
@@ -31,7 +31,10 @@ ghost use Rattle.writing.specs.declared.Written.the-variants.{Length, Refused};
 ghost use Rattle.values.specs.Values.{valueOf};
 ghost use Rattle.sealing.specs.Sealing.{sealOctetsOf, sealOf};
 ghost use Rattle.register.specs.Register.{registerOf, checkNumbers, toldCheck};
-ghost use Rattle.register.specs.declared.forms.Form.the-variants.{Old};
+ghost use Rattle.forms.specs.Forms.{registerText};
+ghost use Rattle.forms.specs.declared.Form.{Form};
+ghost use Rattle.forms.specs.declared.Entry.{Entry};
+ghost use Rattle.moves.specs.Stored.{moveOf, AllFit};
 ghost use Rattle.register.specs.declared.register.Checked.the-variants.{Same};
 ghost use Rattle.listing.specs.Listing.{Lists};
 ghost use Rattle.gurandepi.specs.Answers.{Gives};
@@ -226,12 +229,28 @@ pub fn sealed_keeps_ranges()
     ensures { λ _. ⌜ ((s m r : List ℕ) (f : ℕ) (v x : List ℕ) → sealOf s m r f v ≡ text x → length x ≤ 65535 → Kept s x) ⌝ }
 {}
 
-// D2e. The check call accepts exactly what the write call writes. Left is what `register_check` promises, with the answer `Same`; right what
+// D2e. The check call accepts exactly what the write call writes, in each form. Left is what `register_check` promises, with the answer `Same`; right what
 // `register_write` promises, with the answer the length of g, and a lent buffer that now starts with g. The buffer is any that has room for g.
-// A register longer than 65,535 octets (more than 3,276 messages) is not written (15), and the check accepts none there: it answers 13.
-// `Old` is document 01's form of a register, the one that there is.
+// A register longer than 65,535 octets (in the old form of more than 3,276 messages) is not written (15), and the check accepts none there: it answers 13.
 pub fn check_accepts_written()
-    ensures { λ _. ⌜ ((s g out : List ℕ) → length g ≤ length out → (toldCheck Same ≡ checkNumbers (registerOf Old s) g) ↔ Writes (registerOf Old s) out (Length (length g)) (g ++ drop (length g) out)) ⌝ }
+    ensures { λ _. ⌜ ((f : Form) (s g out : List ℕ) → length g ≤ length out → (toldCheck Same ≡ checkNumbers (registerOf f s) g) ↔ Writes (registerOf f s) out (Length (length g)) (g ++ drop (length g) out)) ⌝ }
+{}
+
+// The moves. "Where no move is refused, old to new to old gives the same octets, and so does new to old to new.": of any two forms; what a move of r wrote,
+// first in the lent buffer, is moved back to r. So the way back is never refused with 17, only where r has no room (15).
+pub fn moved_there_and_back()
+    ensures { λ _. ⌜ ((f g : Form) (r out left : List ℕ) (n : ℕ) → Octets r → Writes (moveOf f g r) out (Length n) left → moveOf g f (take n left) ≡ text r) ⌝ }
+{}
+
+// A stored register is moved, and not refused with 17, if and only if it is the text of entries: of at most 65,535, whose numbers are below 2^32, and their
+// grams below 2^64. So one that starts otherwise, is cut or overlong or has octets left over is the text of none.
+pub fn moved_exactly()
+    ensures { λ _. ⌜ ((f g : Form) (r : List ℕ) → Octets r → ((t : List ℕ) × (moveOf f g r ≡ text t)) ↔ ((es : List Entry) × (length es ≤ 65535) × AllFit es × (registerText f es ≡ r))) ⌝ }
+{}
+
+// What is written for an interchange in one form is moved to what is written for it in another.
+pub fn written_is_moved()
+    ensures { λ _. ⌜ ((f g : Form) (s out left : List ℕ) (n : ℕ) → Writes (registerOf f s) out (Length n) left → moveOf f g (take n left) ≡ registerOf g s) ⌝ }
 {}
 
 // D3. "If their sealed octets are equal, they hold the same segments, element by element". Scope 1: the header group, then the body, joined. Octets have at most one reading under the

@@ -10,8 +10,9 @@
 //     value I MREF HREF CAP    ok HEX: the octets written into a buffer of CAP
 //     sealoct I MREF REF F CAP    ok HEX
 //     seal I MREF REF F VALUE CAP    ok HEX
-//     regwrite I CAP    ok HEX
-//     regcheck I REG    ok
+//     regwrite I FORM CAP    ok HEX. FORM is 1, the old form, or 2, the smaller one
+//     regcheck I FORM REG    ok
+//     regmove FROM TO REG CAP    ok HEX: from 1 to 2, or from 2 to 1
 //     report I    ok HEX: the text that the program `report` prints, always
 //
 // Each but the last may answer `refused NUMBER PLACE SEGMENT`. The answer to every other line is `bad`.
@@ -21,6 +22,7 @@ use commands::capacity;
 use commands::number_of;
 use commands::word_end;
 use f01::f01_places;
+use forms::Form;
 use groups::named::Range;
 use judge::run::Verdict;
 use judge::run::judge;
@@ -28,6 +30,7 @@ use judge::totals::Totals;
 use judge::totals::message_totals;
 use libc::STDIN_FILENO;
 use listing::text::listing;
+use moves::moving::register_move;
 use printing::flush;
 use printing::number;
 use printing::print_refusal;
@@ -297,24 +300,93 @@ fn answer_seal(out: &mut [u8; 4096], n: usize, s: &[u8], room: &mut [u8; 150000]
     print_bad(out, n)
 }
 
+// A form by its number, or that none has this number.
+enum Named {
+    As(Form),
+    Unknown,
+}
+
+fn form_named(n: u64) -> Named {
+    match n {
+        1 => Named::As(Form::Old),
+        2 => Named::As(Form::Small),
+        _ => Named::Unknown,
+    }
+}
+
 fn write_register(
     out: &mut [u8; 4096],
     n: usize,
     room: &[u8; 150000],
     bounds: &[usize; 7],
+    form: Form,
     written: &mut [u8],
 ) -> usize {
     let interchange = argument(room, bounds, 0);
-    let most = capacity(argument(room, bounds, 1), written.len());
-    let w = register_write(interchange, &mut written[..most]);
+    let most = capacity(argument(room, bounds, 2), written.len());
+    let w = register_write(interchange, form, &mut written[..most]);
     print_written(out, n, w, written)
 }
 
 fn answer_regwrite(out: &mut [u8; 4096], n: usize, s: &[u8], room: &mut [u8; 150000]) -> usize {
     let mut bounds = [0usize; 7];
-    if arguments(s, b"hn", room, &mut bounds) {
+    if arguments(s, b"hnn", room, &mut bounds) {
         let mut written = [0u8; 65536];
-        return write_register(out, n, room, &bounds, &mut written);
+        match form_named(number_of(argument(room, &bounds, 1))) {
+            Named::As(form) => {
+                return write_register(out, n, room, &bounds, form, &mut written);
+            }
+            Named::Unknown => return print_bad(out, n),
+        }
+    }
+    print_bad(out, n)
+}
+
+// A move by the numbers of its forms, or that it is not offered.
+enum Move {
+    Between(Form, Form),
+    Unknown,
+}
+
+fn move_named(from: u64, to: u64) -> Move {
+    if from == 1 {
+        if to == 2 {
+            return Move::Between(Form::Old, Form::Small);
+        }
+    }
+    if from == 2 {
+        if to == 1 {
+            return Move::Between(Form::Small, Form::Old);
+        }
+    }
+    Move::Unknown
+}
+
+fn write_moved(
+    out: &mut [u8; 4096],
+    n: usize,
+    room: &[u8; 150000],
+    bounds: &[usize; 7],
+    from: Form,
+    to: Form,
+    written: &mut [u8],
+) -> usize {
+    let stored = argument(room, bounds, 2);
+    let most = capacity(argument(room, bounds, 3), written.len());
+    let w = register_move(stored, from, to, &mut written[..most]);
+    print_written(out, n, w, written)
+}
+
+fn answer_regmove(out: &mut [u8; 4096], n: usize, s: &[u8], room: &mut [u8; 150000]) -> usize {
+    let mut bounds = [0usize; 7];
+    if arguments(s, b"nnhn", room, &mut bounds) {
+        let mut written = [0u8; 65536];
+        let from = number_of(argument(room, &bounds, 0));
+        let to = number_of(argument(room, &bounds, 1));
+        match move_named(from, to) {
+            Move::Between(a, b) => return write_moved(out, n, room, &bounds, a, b, &mut written),
+            Move::Unknown => return print_bad(out, n),
+        }
     }
     print_bad(out, n)
 }
@@ -328,10 +400,15 @@ fn print_checked(out: &mut [u8; 4096], n: usize, c: Checked) -> usize {
 
 fn answer_regcheck(out: &mut [u8; 4096], n: usize, s: &[u8], room: &mut [u8; 150000]) -> usize {
     let mut bounds = [0usize; 7];
-    if arguments(s, b"hh", room, &mut bounds) {
+    if arguments(s, b"hnh", room, &mut bounds) {
         let interchange = argument(room, &bounds, 0);
-        let register = argument(room, &bounds, 1);
-        return print_checked(out, n, register_check(interchange, register));
+        let register = argument(room, &bounds, 2);
+        match form_named(number_of(argument(room, &bounds, 1))) {
+            Named::As(form) => {
+                return print_checked(out, n, register_check(interchange, form, register));
+            }
+            Named::Unknown => return print_bad(out, n),
+        }
     }
     print_bad(out, n)
 }
@@ -367,6 +444,9 @@ fn answer(out: &mut [u8; 4096], n: usize, s: &[u8], room: &mut [u8; 150000]) -> 
     }
     if is_word(command, b"regcheck") {
         return answer_regcheck(out, n, rest, room);
+    }
+    if is_word(command, b"regmove") {
+        return answer_regmove(out, n, rest, room);
     }
     if is_word(command, b"report") {
         return answer_report(out, n, rest, room);

@@ -14,12 +14,15 @@ ghost use Rattle.writing.specs.Written.{toldWritten};
 ghost use Rattle.values.specs.Values.{valueOf};
 ghost use Rattle.sealing.specs.Sealing.{sealOctetsOf, sealOf};
 ghost use Rattle.register.specs.Register.{registerOf, checkNumbers, toldCheck};
-ghost use Rattle.register.specs.declared.forms.Form.the-variants.{Old};
+ghost use Rattle.forms.specs.declared.Form.the-variants.{Old, Small};
+ghost use Rattle.moves.specs.Stored.{moveOf};
 ghost use Rattle.gurandepi.specs.Answers.{answerFields, totalsFields, partsFields, rangeFields, Gives, writtenFields};
 use f01::f01_places;
+use forms::Form;
 use judge::run::Verdict;
 use judge::run::judge;
 use judge::totals::message_totals;
+use moves::moving::register_move;
 use ranges::scopes::Run;
 use ranges::scopes::Scope1;
 use ranges::scopes::scope1_places;
@@ -297,18 +300,50 @@ pub extern "C" fn gurandepi_seal(
     written_answer(seal(interchange, message, reference, filter, value, out))
 }
 
-// The register of an interchange, into `out`.
+// The register of an interchange in the old form, into `out`. Each form has calls of its own: a form by a number could be none.
 #[no_mangle]
 pub extern "C" fn gurandepi_register_write(interchange: &[u8], out: &mut [u8]) -> Written
     ensures { λ r. ⌜ Gives (registerOf Old (now (interchange .entry))) (now (out .entry)) r (now (out .exit)) ⌝ }
 {
-    written_answer(register_write(interchange, out))
+    written_answer(register_write(interchange, Form::Old, out))
 }
 
-// Whether `kept` is the register of the interchange.
+// The same in the smaller form.
+#[no_mangle]
+pub extern "C" fn gurandepi_register_write_small(interchange: &[u8], out: &mut [u8]) -> Written
+    ensures { λ r. ⌜ Gives (registerOf Small (now (interchange .entry))) (now (out .entry)) r (now (out .exit)) ⌝ }
+{
+    written_answer(register_write(interchange, Form::Small, out))
+}
+
+// Whether `kept` is the register of the interchange in the old form.
 #[no_mangle]
 pub extern "C" fn gurandepi_register_check(interchange: &[u8], kept: &[u8]) -> Answer
     ensures { λ r. ⌜ answerFields r ≡ checkNumbers (registerOf Old (now (interchange .entry))) (now (kept .entry)) ⌝ }
 {
-    checked_answer(register_check(interchange, kept))
+    checked_answer(register_check(interchange, Form::Old, kept))
+}
+
+// The same in the smaller form.
+#[no_mangle]
+pub extern "C" fn gurandepi_register_check_small(interchange: &[u8], kept: &[u8]) -> Answer
+    ensures { λ r. ⌜ answerFields r ≡ checkNumbers (registerOf Small (now (interchange .entry))) (now (kept .entry)) ⌝ }
+{
+    checked_answer(register_check(interchange, Form::Small, kept))
+}
+
+// A stored register of the old form in the smaller one, into `out`.
+#[no_mangle]
+pub extern "C" fn gurandepi_register_old_to_small(stored: &[u8], out: &mut [u8]) -> Written
+    ensures { λ r. ⌜ Gives (moveOf Old Small (now (stored .entry))) (now (out .entry)) r (now (out .exit)) ⌝ }
+{
+    written_answer(register_move(stored, Form::Old, Form::Small, out))
+}
+
+// And back.
+#[no_mangle]
+pub extern "C" fn gurandepi_register_small_to_old(stored: &[u8], out: &mut [u8]) -> Written
+    ensures { λ r. ⌜ Gives (moveOf Small Old (now (stored .entry))) (now (out .entry)) r (now (out .exit)) ⌝ }
+{
+    written_answer(register_move(stored, Form::Small, Form::Old, out))
 }

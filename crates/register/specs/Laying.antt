@@ -16,9 +16,10 @@ use Rattle.writing.specs.Laid.{Laid}
 use Rattle.writing.specs.Written.{Text, text}
 use Rattle.writing.specs.declared.Written.{Written}
 use Rattle.writing.specs.declared.Written.the-variants.{Length}
-use Rattle.register.specs.Register.{entriesText, registerText, entriesOf, entriesIn}
-use Rattle.register.specs.declared.forms.Form.{Form}
-use Rattle.register.specs.declared.forms.Entry.{Entry}
+use Rattle.forms.specs.Forms.{entriesText, registerText}
+use Rattle.forms.specs.declared.Form.{Form}
+use Rattle.forms.specs.declared.Entry.{Entry}
+use Rattle.register.specs.Register.{entriesOf, entriesIn}
 use Rattle.register.specs.declared.entries.Extent.{Extent}
 use Rattle.register.specs.declared.register.Entries.{Entries}
 use Rattle.register.specs.declared.register.Entries.the-variants.{Of, Refused}

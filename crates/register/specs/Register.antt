@@ -1,6 +1,6 @@
--- "Register: message count as 4 octets, then per message 20: place of UNH (4), length to the end of UNT (4), loads (4), grams (8), highest octet first."
--- So it is a list of entries, one for each message in order, and the form in which they are written. Another form is another case of `countText` and `entryText`.
-use Prim.Native.Nat.{ℕ, zero, suc, _+_, _*_, _/_, _%_}
+-- "One call writes it, another checks one against the interchange.": the register of an interchange, in the form that the call is told (`forms` `Forms.antt`). It has an entry for
+-- each message, in their order.
+use Prim.Native.Nat.{ℕ, _+_}
 use mathlib.Core.Bool.{cond}
 use mathlib.Core.List.{List, [], _∷_, _++_}
 use lib.Dec.{ltb}
@@ -15,39 +15,12 @@ use Rattle.grammar.specs.Valid.{Interchange, interchange, openingIn}
 use Rattle.grammar.specs.Verdict.{Verdict, accepted, refusedWith, verdictOf, loadsM}
 use Rattle.grammar.specs.Places.{wide}
 use Rattle.writing.specs.Written.{Text, text, noText}
-use Rattle.register.specs.declared.forms.Form.{Form}
-use Rattle.register.specs.declared.forms.Form.the-variants.{Old}
-use Rattle.register.specs.declared.forms.Entry.{Entry}
+use Rattle.forms.specs.Forms.{registerText}
+use Rattle.forms.specs.declared.Form.{Form}
+use Rattle.forms.specs.declared.Entry.{Entry}
 use Rattle.register.specs.declared.register.Checked.{Checked}
 use Rattle.register.specs.declared.register.Checked.the-variants.{Same, Refused as Differs}
 use Rattle.groups.specs.Calls.{serviceIn}
-
--- ---- how it is written
-
-abbrev pub power : ℕ → ℕ
-power zero = 1
-power (suc k) = 256 * power k
-
--- a number in so many octets, "highest octet first"
-abbrev pub highest : ℕ → ℕ → List ℕ
-highest zero n = []
-highest (suc k) n = (n / power k % 256) ∷ highest k n
-
--- "message count as 4 octets"
-abbrev pub countText : Form → ℕ → List ℕ
-countText Old n = highest 4 n
-
--- "per message 20: place of UNH (4), length to the end of UNT (4), loads (4), grams (8)"
-abbrev pub entryText : Form → Entry → List ℕ
-entryText Old e = highest 4 (e .place) ++ highest 4 (e .length) ++ highest 4 (e .loads) ++ highest 8 (e .grams)
-
-abbrev pub entriesText : Form → List Entry → List ℕ
-entriesText f [] = []
-entriesText f (e ∷ es) = entryText f e ++ entriesText f es
-
--- "message count .., then per message .."
-abbrev pub registerText : Form → List Entry → List ℕ
-registerText f es = countText f (length es) ++ entriesText f es
 
 -- ---- what stands in it
 

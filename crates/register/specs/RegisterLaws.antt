@@ -1,8 +1,8 @@
 -- What the walk lays is the register of the reading.
-use Prim.Native.Nat.{ℕ, zero, suc, _+_, _-_, _*_, _/_, _%_, _≤_, _<_}
+use Prim.Native.Nat.{ℕ, _+_, _-_, _*_, _≤_, _<_}
 use native.Mathlib.Omega.{arith}
 use mathlib.Core.Bool.{Bool, true, false, cond}
-use mathlib.Core.List.{List, [], _∷_, _++_, append-assoc, append-nil}
+use mathlib.Core.List.{List, [], _∷_, _++_, append-nil}
 use mathlib.Core.Path.{_≡_, refl, ap, sym, _∙_, subst}
 use lib.ListN.{length, length-append, replicate}
 use lib.Seq.{slice}
@@ -37,66 +37,18 @@ use Rattle.writing.specs.Written.{Text, text, noText, refusedAs, Writes, tooLon
 use Rattle.writing.specs.WrittenLaws.{writes-as, writes-none, writes-over, writes-fit}
 use Rattle.writing.specs.declared.Written.{Written}
 use Rattle.writing.specs.declared.Written.the-variants.{Length, Refused}
-use Rattle.register.specs.Register.{highest, countText, entryText, entriesText, registerText, entryOf, entriesOf, entriesIn, registerBy, registerOf, checkedAs}
+use Rattle.forms.specs.Forms.{countText, entryText, entriesText, registerText}
+use Rattle.forms.specs.FormsLaws.{count-short, entries-short, entries-joined}
+use Rattle.forms.specs.declared.Form.{Form}
+use Rattle.forms.specs.declared.Entry.{Entry}
+use Rattle.register.specs.Register.{entryOf, entriesOf, entriesIn, registerBy, registerOf, checkedAs}
 use Rattle.register.specs.Laying.{BeginsAt, entryAt, sectionAt, entriesRead, noneFrom, Adds, LaysEntries, LaysAll, Measured, MeasuredAs, Lays}
-use Rattle.register.specs.declared.forms.Form.{Form}
-use Rattle.register.specs.declared.forms.Form.the-variants.{Old}
-use Rattle.register.specs.declared.forms.Entry.{Entry}
 use Rattle.register.specs.declared.entries.Extent.{Extent}
 use Rattle.register.specs.declared.register.Entries.{Entries}
 use Rattle.register.specs.declared.register.Entries.the-variants.{Of, Refused as Unread}
 use Rattle.register.specs.declared.register.Checked.the-variants.{Same, Refused as Differs}
 
--- ---- lengths: what a form takes at most
-
-highest-length : (k n : ℕ) → length (highest k n) ≡ k
-highest-length zero n = refl
-highest-length (suc k) n = ap suc (highest-length k n)
-
-four-parts : (a b c d : List ℕ) → length (a ++ b ++ c ++ d) ≡ length a + length b + length c + length d
-four-parts a b c d = omega (arith, length-append (a ++ b ++ c) d, length-append (a ++ b) c, length-append a b)
-
-pub count-short : (f : Form) (n : ℕ) → length (countText f n) ≤ 4
-count-short Old n = omega (arith, highest-length 4 n)
-
-entry-short : (f : Form) (e : Entry) → length (entryText f e) ≤ 20
-entry-short Old e =
-    omega (
-      arith,
-      four-parts (highest 4 (e .place)) (highest 4 (e .length)) (highest 4 (e .loads)) (highest 8 (e .grams)),
-      highest-length 4 (e .place),
-      highest-length 4 (e .length),
-      highest-length 4 (e .loads),
-      highest-length 8 (e .grams),
-    )
-
-entries-short : (f : Form) (es : List Entry) → length (entriesText f es) ≤ 20 * length es
-entries-short f [] = omega arith
-entries-short f (e ∷ es) = omega (arith, length-append (entryText f e) (entriesText f es), entry-short f e, entries-short f es)
-
--- ---- numbers in octets
-
-pub four-laid : (n : ℕ) {a b c d : ℕ} {out out′ : List ℕ} {at r : ℕ} → a ≡ n / 16777216 % 256 → b ≡ n / 65536 % 256 → c ≡ n / 256 % 256 → d ≡ n / 1 % 256
-    → Laid out at (a ∷ b ∷ c ∷ d ∷ []) r out′ → Laid out at (highest 4 n) r out′
-four-laid n e f g h l = laid-same (rw (e, f, g, h)) l
-
-pub eight-laid : (n : ℕ) {a b c d i j k m : ℕ} {out out′ : List ℕ} {at r : ℕ} → a ≡ n / 72057594037927936 % 256 → b ≡ n / 281474976710656 % 256 → c ≡ n / 1099511627776 % 256 → d ≡ n / 4294967296 % 256
-    → i ≡ n / 16777216 % 256 → j ≡ n / 65536 % 256 → k ≡ n / 256 % 256 → m ≡ n / 1 % 256
-    → Laid out at (a ∷ b ∷ c ∷ d ∷ i ∷ j ∷ k ∷ m ∷ []) r out′ → Laid out at (highest 8 n) r out′
-eight-laid n e f g h e′ f′ g′ h′ l = laid-same (rw (e, f, g, h, e′, f′, g′, h′)) l
-
--- what is laid in the old form is laid in the form asked for: there is no other
-pub count-laid : (f : Form) (n : ℕ) {out out′ : List ℕ} {at r : ℕ} → Laid out at (countText Old n) r out′ → Laid out at (countText f n) r out′
-count-laid Old n l = l
-
-pub entry-laid : (f : Form) (e : Entry) {out out′ : List ℕ} {at r : ℕ} → Laid out at (entryText Old e) r out′ → Laid out at (entryText f e) r out′
-entry-laid Old e l = l
-
 -- ---- entries laid one after the other
-
-entries-joined : (f : Form) (es gs : List Entry) → entriesText f (es ++ gs) ≡ entriesText f es ++ entriesText f gs
-entries-joined f [] gs = refl
-entries-joined f (e ∷ es) gs = ap (λ (t : List ℕ). entryText f e ++ t) (entries-joined f es gs) ∙ sym (append-assoc (entryText f e) (entriesText f es) (entriesText f gs))
 
 adds-same : {f : Form} {out out′ : List ℕ} {x r : Extent} {es gs : List Entry} → es ≡ gs → Adds f out x es r out′ → Adds f out x gs r out′
 adds-same e a = rw e at a
@@ -108,8 +60,8 @@ adds-more : {f : Form} {out out₁ out′ : List ℕ} {x z r : Extent} {es gs : 
 adds-more {f} {es = es} {gs = gs} a b =
     record { count = omega (arith, a .count, b .count, length-append es gs); laid = laid-same (sym (entries-joined f es gs)) (laid-more (a .laid) (b .laid)) }
 
--- so many messages, and at most 20 octets for each
-adds-short : {f : Form} {out out′ : List ℕ} {x r : Extent} {es : List Entry} → Adds f out x es r out′ → r .end + 20 * x .count ≤ x .end + 20 * r .count
+-- so many messages, and at most 40 octets for each
+adds-short : {f : Form} {out out′ : List ℕ} {x r : Extent} {es : List Entry} → Adds f out x es r out′ → r .end + 40 * x .count ≤ x .end + 40 * r .count
 adds-short {f} {es = es} a = omega (arith, a .count, a .laid .place, entries-short f es)
 
 pub section-entry : {f : Form} {b : Bool} (c : Layout) {out out′ : List ℕ} {x r : Extent} {e : Entry} → b ≡ true → e ≡ entryAt c → r .count ≡ x .count + 1 → Laid out (x .end) (entryText f e) (r .end) out′
@@ -189,7 +141,7 @@ module _ {y : Syntax} {s : List ℕ} {from : ℕ} {x : State} {h l b : List ℕ}
 module _ {f : Form} {p : ℕ} {y : Syntax} {s : List ℕ} {from : ℕ} {x : State} {h l b : List ℕ} {i : ℕ} {m rows l₀ b₀ out₀ : List ℕ} {out : List ℕ} {r : Extent}
     (g : Registering f p y s from x h l b i m rows l₀ b₀ out₀ out r) where
   -- there is room for the numbers of one entry more
-  pub registering-fits : p ≤ 65535 → i < length s → (r .count < 65536) × (r .end + 20 < 18446744073709551616)
+  pub registering-fits : p ≤ 65535 → i < length s → (r .count < 65536) × (r .end + 40 < 18446744073709551616)
   registering-fits h k = (omega (arith, g .few, g .looping .walks .short), omega (arith, g .few, adds-short (g .adds), g .looping .walks .short))
 
   pub registering-on : {c : Section} {h′ l′ b′ m′ rows′ out′ : List ℕ} {r′ : Extent} → i < length s → Passing (g .looping .walks) c h′ l′ b′ rows′ → length m′ ≡ 40 → length l′ ≡ length l → length b′ ≡ length b

@@ -1,4 +1,3 @@
 // The register of an interchange: how many messages it has, and of each where it stands, its length, its loads and their grams.
 pub mod entries;
-pub mod forms;
 pub mod register;

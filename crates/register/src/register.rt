@@ -8,13 +8,12 @@ ghost use Rattle.walk.specs.Runs.{Fresh};
 ghost use Rattle.writing.specs.Written.{Writes};
 ghost use Rattle.register.specs.Register.{registerOf, checkedAs, toldCheck, checkNumbers};
 ghost use Rattle.register.specs.Laying.{BeginsAt, LaysAll, Measured, MeasuredAs, Lays};
-ghost use Rattle.register.specs.declared.forms.Form.the-variants.{Old};
 use crate::entries::Extent;
 use crate::entries::none_from;
-use crate::entries::put_count;
 use crate::entries::put_section;
-use crate::forms::Form;
 use beginning::begin;
+use forms::Form;
+use forms::put_count;
 use refusals::refusal;
 use syntax::Refusal;
 use syntax::Syntax;
@@ -232,9 +231,9 @@ fn write_from(
     }
 }
 
-// The register of an interchange, into `out`.
-pub fn register_write(s: &[u8], out: &mut [u8]) -> Written
-    ensures { λ r. ⌜ Writes (registerOf Old (now (s .entry))) (now (out .entry)) r (now (out .exit)) ⌝ }
+// The register of an interchange in a form, into `out`.
+pub fn register_write(s: &[u8], form: Form, out: &mut [u8]) -> Written
+    ensures { λ r. ⌜ Writes (registerOf form (now (s .entry))) (now (out .entry)) r (now (out .exit)) ⌝ }
 {
     match begin(s) {
         Begun::Refused(f) => Written::Refused(refusal(s, f)),
@@ -242,7 +241,7 @@ pub fn register_write(s: &[u8], out: &mut [u8]) -> Written
             let y = b.syntax;
             let at = b.at;
             let t = table(y);
-            write_from(s, at, &t, y, Form::Old, out)
+            write_from(s, at, &t, y, form, out)
         }
     }
 }
@@ -287,10 +286,10 @@ fn check_from(
     }
 }
 
-// Whether `register` is the register of the interchange: equal octets, or 13.
-pub fn register_check(s: &[u8], register: &[u8]) -> Checked
-    ensures { λ r. ⌜ r ≡ checkedAs (registerOf Old (now (s .entry))) (now (register .entry)) ⌝ }
-    ensures { λ r. ⌜ toldCheck r ≡ checkNumbers (registerOf Old (now (s .entry))) (now (register .entry)) ⌝ }
+// Whether `register` is the register of the interchange in this form: equal octets, or 13.
+pub fn register_check(s: &[u8], form: Form, register: &[u8]) -> Checked
+    ensures { λ r. ⌜ r ≡ checkedAs (registerOf form (now (s .entry))) (now (register .entry)) ⌝ }
+    ensures { λ r. ⌜ toldCheck r ≡ checkNumbers (registerOf form (now (s .entry))) (now (register .entry)) ⌝ }
 {
     match begin(s) {
         Begun::Refused(f) => Checked::Refused(refusal(s, f)),
@@ -298,7 +297,7 @@ pub fn register_check(s: &[u8], register: &[u8]) -> Checked
             let y = b.syntax;
             let at = b.at;
             let t = table(y);
-            check_from(s, at, &t, y, Form::Old, register)
+            check_from(s, at, &t, y, form, register)
         }
     }
 }

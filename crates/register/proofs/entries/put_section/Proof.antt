@@ -6,7 +6,7 @@ use Rattle.register.proofs.entries.put_section.Tie as tie
 use Rattle.register.proofs.entries.put_section.Reads as reads
 use Rattle.register.proofs.entries.put_section.Lts as lts
 use Rattle.register.proofs.entries.entry_of.Reads as entry-of-reads
-use Rattle.register.proofs.entries.put_entry.Reads as put-entry-reads
+use Rattle.forms.proofs.put_entry.Reads as put-entry-reads
 
 -- src/entries.rt:116:47
 entry-of-requires : tie.Need-entry-of-requires
@@ -26,7 +26,7 @@ same-length c = search needs
 
 -- src/entries.rt:117:9
 returns : tie.Need-returns
-returns c = section-entry (c .before .before .before .before .before .before .before .before .args .c) (c .before .before .before .before .before .before .if1 .taken) (c .before .before .before .before .entry-of .ensures) refl (c .before .before .before .put-entry .ensures)
+returns c = section-entry (c .before .before .before .before .before .before .before .before .args .c) (c .before .before .before .before .before .before .if1 .taken) (c .before .before .before .before .entry-of .ensures) refl (c .before .before .before .put-entry .ensures .0)
 
 -- src/entries.rt:111:1
 returns-2 : tie.Need-returns-2

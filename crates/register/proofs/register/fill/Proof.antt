@@ -1,11 +1,11 @@
 use native.Mathlib.Omega.{arith}
-use Rattle.register.specs.RegisterLaws.{count-short, laid-all, laid-refused, filled, unrefused}
+use Rattle.register.specs.RegisterLaws.{laid-all, laid-refused, filled, unrefused}
 use borrow.Author.Needs.{needs}
 use Rattle.register.proofs.register.fill.Statement.{statement}
 use Rattle.register.proofs.register.fill.Tie as tie
 use Rattle.register.proofs.register.fill.Reads as reads
 use Rattle.register.proofs.register.fill.Lts as lts
-use Rattle.register.proofs.entries.put_count.Reads as put-count-reads
+use Rattle.forms.proofs.put_count.Reads as put-count-reads
 use Rattle.register.proofs.register.lay.Reads as lay-reads
 
 -- src/register.rt:202:9
@@ -14,7 +14,7 @@ put-count-requires c κs = search needs
 
 -- src/register.rt:203:11
 lay-requires : tie.Need-lay-requires
-lay-requires c κs = (c .before .before .before .before .before .before .before .pre .0, (c .before .before .before .before .before .before .before .pre .1 .0, omega (arith, c .before .before .before .put-count .ensures .place, count-short (c .before .before .before .before .before .before .before .args .form) (c .before .before .before .before .before .before .before .args .x .count))))
+lay-requires c κs = (c .before .before .before .before .before .before .before .pre .0, (c .before .before .before .before .before .before .before .pre .1 .0, omega (arith, c .before .before .before .put-count .ensures .1)))
 
 -- src/register.rt:204:26
 enum-known-f : tie.Need-enum-known-f
@@ -38,7 +38,7 @@ same-length-2 c = search needs
 
 -- src/register.rt:188:1
 returns-2 : tie.Need-returns-2
-returns-2 c = filled (c .before .before .before .before .before .before .before .before .before .before .before .before .before .pre .1 .1) (c .before .before .before .before .before .before .before .before .before .put-count .ensures) (laid-all _ _ _ _ _ (c .before .z .given .1) (c .before .before .before .before .before .lay .ensures))
+returns-2 c = filled (c .before .before .before .before .before .before .before .before .before .before .before .before .before .pre .1 .1) (c .before .before .before .before .before .before .before .before .before .put-count .ensures .0) (laid-all _ _ _ _ _ (c .before .z .given .1) (c .before .before .before .before .before .lay .ensures))
 
 pub fill-spec : {M : Type 1} → statement M
 fill-spec =

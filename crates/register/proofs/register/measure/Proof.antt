@@ -5,7 +5,7 @@ use Rattle.register.proofs.register.measure.Statement.{statement}
 use Rattle.register.proofs.register.measure.Tie as tie
 use Rattle.register.proofs.register.measure.Reads as reads
 use Rattle.register.proofs.register.measure.Lts as lts
-use Rattle.register.proofs.entries.put_count.Reads as put-count-reads
+use Rattle.forms.proofs.put_count.Reads as put-count-reads
 use Rattle.register.proofs.register.lay.Reads as lay-reads
 
 -- src/register.rt:175:39
@@ -34,7 +34,7 @@ put-count-requires c κs = search needs
 
 -- src/register.rt:181:22
 add-t17 : tie.Need-add-t17
-add-t17 c = omega (arith, measured-fits (laid-all _ 0 _ _ _ (c .before .before .before .before .before .x .given .1) (c .before .before .before .before .before .before .before .before .lay .ensures)) (c .before .before .put-count .ensures))
+add-t17 c = omega (arith, measured-fits (laid-all _ 0 _ _ _ (c .before .before .before .before .before .x .given .1) (c .before .before .before .before .before .before .before .before .lay .ensures)) (c .before .before .put-count .ensures .0))
 
 -- src/register.rt:169:1
 returns : tie.Need-returns
@@ -42,7 +42,7 @@ returns c = laid-refused _ _ _ _ _ (c .before .f .given .1) (c .before .before .
 
 -- src/register.rt:169:1
 returns-2 : tie.Need-returns-2
-returns-2 c = measured-so (laid-all _ 0 _ _ _ (c .before .before .before .before .before .x .given .1) (c .before .before .before .before .before .before .before .before .lay .ensures)) (c .before .before .put-count .ensures)
+returns-2 c = measured-so (laid-all _ 0 _ _ _ (c .before .before .before .before .before .x .given .1) (c .before .before .before .before .before .before .before .before .lay .ensures)) (c .before .before .put-count .ensures .0)
 
 pub measure-spec : {M : Type 1} → statement M
 measure-spec =

@@ -1,7 +1,6 @@
 use mathlib.Core.Path.{sym, ap, _∙_}
 use Rattle.register.specs.Register.{toldCheck}
 use Rattle.register.specs.RegisterLaws.{unbegun, check-refused}
-use Rattle.register.specs.declared.forms.Form.the-variants.{Old}
 use borrow.Author.Needs.{needs}
 use Rattle.register.proofs.register.register_check.Statement.{statement}
 use Rattle.register.proofs.register.register_check.Tie as tie
@@ -38,7 +37,7 @@ check-from-requires c κs = (c .before .table .ensures, sym (c .before .before .
 
 -- src/register.rt:290:1
 returns : tie.Need-returns
-returns c = let e = check-refused Old (c .before .before .before .before .before .before .before .args .s .now) _ (unbegun Old (c .before .before .before .before .before .before .before .args .s .now) (c .before .before .before .before .begin .ensures) (c .before .before .f .given .1) (c .refusal .ensures)) (c .before .before .before .before .before .before .before .args .register .now) in (e, ap toldCheck e)
+returns c = let e = check-refused (c .before .before .before .before .before .before .before .args .form) (c .before .before .before .before .before .before .before .args .s .now) _ (unbegun (c .before .before .before .before .before .before .before .args .form) (c .before .before .before .before .before .before .before .args .s .now) (c .before .before .before .before .begin .ensures) (c .before .before .f .given .1) (c .refusal .ensures)) (c .before .before .before .before .before .before .before .args .register .now) in (e, ap toldCheck e)
 
 -- src/register.rt:290:1
 returns-2 : tie.Need-returns-2

@@ -1,6 +1,5 @@
 use mathlib.Core.Path.{sym, _∙_}
 use Rattle.register.specs.RegisterLaws.{unbegun, write-refused}
-use Rattle.register.specs.declared.forms.Form.the-variants.{Old}
 use borrow.Author.Needs.{needs}
 use Rattle.register.proofs.register.register_write.Statement.{statement}
 use Rattle.register.proofs.register.register_write.Tie as tie
@@ -37,7 +36,7 @@ write-from-requires c κs = (c .before .before .table .ensures, sym (c .before .
 
 -- src/register.rt:236:1
 returns : tie.Need-returns
-returns c = write-refused Old (c .before .before .before .before .before .before .before .args .s .now) _ (unbegun Old (c .before .before .before .before .before .before .before .args .s .now) (c .before .before .before .before .begin .ensures) (c .before .before .f .given .1) (c .refusal .ensures)) (c .before .before .before .before .before .before .before .args .out .now)
+returns c = write-refused (c .before .before .before .before .before .before .before .args .form) (c .before .before .before .before .before .before .before .args .s .now) _ (unbegun (c .before .before .before .before .before .before .before .args .form) (c .before .before .before .before .before .before .before .args .s .now) (c .before .before .before .before .begin .ensures) (c .before .before .f .given .1) (c .refusal .ensures)) (c .before .before .before .before .before .before .before .args .out .now)
 
 -- src/register.rt:236:1
 same-length : tie.Need-same-length

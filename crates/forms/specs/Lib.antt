@@ -1,0 +1,4 @@
+-- the definitions
+pub mod Forms
+-- what is proved
+pub mod FormsLaws

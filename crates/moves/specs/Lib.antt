@@ -1,0 +1,7 @@
+-- the definitions
+pub mod Stored
+pub mod Example
+-- what is proved
+pub mod NumberLaws
+pub mod StoredLaws
+pub mod MovingLaws

@@ -1,0 +1,3 @@
+// The moves of a stored register from form to form.
+pub mod moving;
+pub mod reading;
