@@ -9,8 +9,8 @@
 uint64_t plain_judge(const uint8_t *s, size_t n);
 
 enum { ROUNDS = 21, ROOM = 1 << 17 };
-static uint8_t octets[ROOM], autack[ROOM], gs1[ROOM], out[ROOM], reg[ROOM], small[ROOM];
-static size_t size, autack_size, gs1_size, reg_size, small_size;
+static uint8_t octets[ROOM], autack[ROOM], gs1[ROOM], out[ROOM], reg[ROOM], form3[ROOM];
+static size_t size, autack_size, gs1_size, reg_size, form3_size;
 static uint64_t sink;
 
 #define TEXT(t) (const uint8_t *)(t), sizeof(t) - 1
@@ -27,10 +27,10 @@ static uint64_t seal_octets(void) { return gurandepi_seal_octets(octets, size, T
 static uint64_t seal(void) { return gurandepi_seal(octets, size, TEXT("M8"), TEXT("C8"), 2, octets, 256, out, ROOM).number; }
 static uint64_t register_write(void) { return gurandepi_register_write(octets, size, reg, ROOM).number; }
 static uint64_t register_check(void) { return gurandepi_register_check(octets, size, reg, reg_size).number; }
-static uint64_t write_small(void) { return gurandepi_register_write_small(octets, size, small, ROOM).number; }
-static uint64_t check_small(void) { return gurandepi_register_check_small(octets, size, small, small_size).number; }
-static uint64_t old_to_small(void) { return gurandepi_register_old_to_small(reg, reg_size, out, ROOM).number; }
-static uint64_t small_to_old(void) { return gurandepi_register_small_to_old(small, small_size, out, ROOM).number; }
+static uint64_t write_signed(void) { return gurandepi_register_write_signed(octets, size, form3, ROOM).number; }
+static uint64_t check_signed(void) { return gurandepi_register_check_signed(octets, size, form3, form3_size).number; }
+static uint64_t old_to_signed(void) { return gurandepi_register_old_to_signed(reg, reg_size, out, ROOM).number; }
+static uint64_t signed_to_old(void) { return gurandepi_register_signed_to_old(form3, form3_size, out, ROOM).number; }
 
 static double now(void) {
     struct timespec t;
@@ -67,11 +67,11 @@ int main(int argc, char **argv) {
     autack_size = read_file(argv[2], autack);
     gs1_size = read_file(argv[3], gs1);
     reg_size = gurandepi_register_write(octets, size, reg, ROOM).length;
-    small_size = gurandepi_register_write_small(octets, size, small, ROOM).length;
+    form3_size = gurandepi_register_write_signed(octets, size, form3, ROOM).length;
     static const struct { const char *name; uint64_t (*call)(void); } calls[] = {
         {"judge", judge}, {"totals", totals}, {"scope1", scope1}, {"scope2", scope2}, {"f01", f01}, {"scope3", scope3}, {"value", value},
         {"seal_octets", seal_octets}, {"seal", seal}, {"register_write", register_write}, {"register_check", register_check},
-        {"write_small", write_small}, {"check_small", check_small}, {"old_to_small", old_to_small}, {"small_to_old", small_to_old}};
+        {"write_signed", write_signed}, {"check_signed", check_signed}, {"old_to_signed", old_to_signed}, {"signed_to_old", signed_to_old}};
     printf("%-16s %10s %10s %8s   on %zu octets\n", "call", "ns/octet", "plain", "ratio", size);
     for (size_t k = 0; k < sizeof calls / sizeof *calls; k++) {
         uint64_t number = calls[k].call();

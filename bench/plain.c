@@ -31,7 +31,8 @@ typedef struct {
     unsigned usas, certificates, segments, headers, own;
     header h[HEADERS];
     header *named;
-    uint64_t claim, grams, control;
+    uint64_t claim;
+    int64_t grams, control;
     text unb, unh;
     // the messages before it
     unsigned messages;
@@ -245,9 +246,12 @@ static unsigned unit(text x, unsigned kgm, unsigned tne, unsigned *decimals) {
     return 0;
 }
 
-static bool grams(text x, unsigned whole, unsigned decimals, uint64_t *sum) {
-    uint64_t v = 0;
+// One minus may lead.
+static bool grams(text x, unsigned whole, unsigned decimals, int64_t *sum) {
+    int64_t v = 0;
     size_t i = 0;
+    bool minus = x.n && x.p[0] == '-';
+    if (minus) x.p++, x.n--;
     for (; i < x.n && digit(x.p[i]); i++) v = i < whole ? v * 10 + (x.p[i] - '0') : 0;
     if (i == 0 || i > whole) return false;
     if (i < x.n) {
@@ -259,7 +263,7 @@ static bool grams(text x, unsigned whole, unsigned decimals, uint64_t *sum) {
         }
     }
     while (decimals-- > 0) v *= 10;
-    *sum = v;
+    *sum = minus ? -v : v;
     return true;
 }
 
@@ -414,7 +418,7 @@ static int on_item(judge *j) {
 
 static int on_qty(judge *j) {
     unsigned whole, decimals;
-    uint64_t v;
+    int64_t v;
     if (on_item(j)) return 7;
     if (j->repeats) return 8;
     if (j->elements != 1 || j->e[0].parts != 3 || !(whole = unit(at(j, 0, 2), 9, 6, &decimals))) return 0;
@@ -425,7 +429,7 @@ static int on_qty(judge *j) {
 
 static int on_cnt(judge *j) {
     unsigned whole, decimals;
-    uint64_t v;
+    int64_t v;
     if (on_item(j)) return 7;
     if (j->repeats) return 8;
     if (!IS(at(j, 0, 0), "1")) return 0;

@@ -31,7 +31,7 @@ static int audit(size_t length, const char *message) {
 
     totals = gurandepi_totals(interchange, length, LENT(message));
     if (refused("totals", totals.number, totals.place, totals.segment)) return 1;
-    printf("message %s: %llu loads, %llu g\n", message, (unsigned long long)totals.loads, (unsigned long long)totals.grams);
+    printf("message %s: %llu loads, %lld g\n", message, (unsigned long long)totals.loads, (long long)totals.grams);
 
     written = gurandepi_register_write(interchange, length, kept, sizeof kept);
     if (refused("register", written.number, written.place, written.segment)) return 1;

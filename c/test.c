@@ -6,7 +6,7 @@
  * lent buffer held before: so one write outside the result shows in at least one turn, and so does an answer that depends on
  * an octet that was not lent. After each call every lent octet, and every guard, has to be as it was, but for the octets
  * of the result. A result is also written into a buffer of exactly its length, and refused in one that is shorter; a register
- * that was written is checked, and moved to what is written in the other form; one that was moved is moved back; what was
+ * that was written is checked, and moved to what is written in the other form; one that was moved is moved back, or on; what was
  * sealed is judged, and its octets and value are recovered. Interchanges of 65,535 octets and of one more are made and tried,
  * and stored registers of 65,535 messages and of one more.
  * `report`, and lines that the desk answers `bad`, have no exported call; they are passed over and counted.
@@ -76,8 +76,11 @@ static void make_judge(void) {
 
 static void make_totals(void) {
     struct gurandepi_loads r = gurandepi_totals(OCTETS(0), OCTETS(1));
-    uint64_t own[] = {r.loads, r.grams};
-    tell(r.number, r.place, r.segment, own, 2);
+    tell(r.number, r.place, r.segment, &r.loads, 1);
+    if (r.number == GURANDEPI_OK)
+        snprintf(said + strlen(said), 32, " %lld", (long long)r.grams);
+    else if (r.grams != 0)
+        fault("grams with a refusal", "");
 }
 
 static void make_scope1(void) {
@@ -152,36 +155,49 @@ static void seal_back(void) {
         fault("what was sealed has another value", "");
 }
 
-/* ---- the register: each form has calls of its own; the desk's numbers for them are 1, the old form, and 2 */
+/* ---- the register: each form has calls of its own; the desk's numbers for them are 1, the old form, 2, the smaller one, which is
+   only read, and 3, that with signed grams */
 
 static struct gurandepi_written write_form(uint64_t form, const uint8_t *of, size_t length, uint8_t *to, size_t room) {
     if (form == 1) return gurandepi_register_write(of, length, to, room);
-    return gurandepi_register_write_small(of, length, to, room);
+    return gurandepi_register_write_signed(of, length, to, room);
 }
 
 static struct gurandepi_answer check_form(uint64_t form, const uint8_t *of, size_t length, const uint8_t *kept, size_t size) {
     if (form == 1) return gurandepi_register_check(of, length, kept, size);
-    return gurandepi_register_check_small(of, length, kept, size);
+    if (form == 2) return gurandepi_register_check_small(of, length, kept, size);
+    return gurandepi_register_check_signed(of, length, kept, size);
 }
 
-static struct gurandepi_written move_from(uint64_t form, const uint8_t *stored, size_t size, uint8_t *to, size_t room) {
-    if (form == 1) return gurandepi_register_old_to_small(stored, size, to, room);
-    return gurandepi_register_small_to_old(stored, size, to, room);
+static struct gurandepi_written move_from(uint64_t form, uint64_t other, const uint8_t *stored, size_t size, uint8_t *to, size_t room) {
+    if (form == 1) return gurandepi_register_old_to_signed(stored, size, to, room);
+    if (form == 3) return gurandepi_register_signed_to_old(stored, size, to, room);
+    if (other == 1) return gurandepi_register_small_to_old(stored, size, to, room);
+    return gurandepi_register_small_to_signed(stored, size, to, room);
+}
+
+/* The other one of the forms that are written. */
+static uint64_t other_of(uint64_t form) {
+    return 4 - form;
+}
+
+static int alike(struct gurandepi_written a, const uint8_t *x, struct gurandepi_written b, const uint8_t *y) {
+    return a.number == b.number && a.length == b.length && memcmp(x, y, (size_t)a.length) == 0;
 }
 
 static void make_register(void) {
     tell_written(write_form(number[1], OCTETS(0), OCTETS(2)), 2);
 }
 
-/* The register that was just written is the interchange's; moved, it is what is written in the other form; cut by an octet, or
-   with another octet, it is not the interchange's. */
+/* The register that was just written is the interchange's; moved, it is what is written in the other form, or refused as that is;
+   cut by an octet, or with another octet, it is not the interchange's. */
 static void check_back(void) {
     static uint8_t moved[BUFFER], other_form[BUFFER];
     uint8_t *kept = lent[2].now + GUARD;
     uint64_t form = number[1], whole = check_form(form, OCTETS(0), kept, written).number, cut, other;
-    struct gurandepi_written m = move_from(form, kept, written, moved, BUFFER);
-    struct gurandepi_written o = write_form(3 - form, OCTETS(0), other_form, BUFFER);
-    if (m.number != o.number || m.length != o.length || memcmp(moved, other_form, (size_t)m.length) != 0)
+    struct gurandepi_written m = move_from(form, other_of(form), kept, written, moved, BUFFER);
+    struct gurandepi_written o = write_form(other_of(form), OCTETS(0), other_form, BUFFER);
+    if (!alike(m, moved, o, other_form))
         fault("a register that was written is not moved to the other one", "");
     cut = check_form(form, OCTETS(0), kept, written - 1).number;
     kept[written - 1] ^= 1;
@@ -192,15 +208,20 @@ static void check_back(void) {
 }
 
 static void make_move(void) {
-    tell_written(move_from(number[0], OCTETS(2), OCTETS(3)), 3);
+    tell_written(move_from(number[0], number[1], OCTETS(2), OCTETS(3)), 3);
 }
 
-/* The register that was just moved moves back to the one that it was, where that is not too long. */
+/* The register that was just moved moves back to the one that it was, where that is not too long. There is no way back to the smaller
+   form: from it the way to the other form is the same by this one. */
 static void move_back(void) {
-    static uint8_t back[BUFFER];
-    struct gurandepi_written r = move_from(number[1], lent[3].now + GUARD, written, back, BUFFER);
-    if (lent[2].length > GURANDEPI_LONGEST ? r.number != GURANDEPI_NO_ROOM
-                                           : r.number != 0 || r.length != lent[2].length || memcmp(back, lent[2].now + GUARD, lent[2].length) != 0)
+    static uint8_t back[BUFFER], straight[BUFFER];
+    uint64_t from = number[0], to = number[1];
+    struct gurandepi_written r = move_from(to, other_of(to), lent[3].now + GUARD, written, back, BUFFER);
+    if (from == 2) {
+        if (!alike(r, back, move_from(2, other_of(to), OCTETS(2), straight, BUFFER), straight))
+            fault("a register that was moved does not move on as it would have", "");
+    } else if (lent[2].length > GURANDEPI_LONGEST ? r.number != GURANDEPI_NO_ROOM
+                                                  : r.number != 0 || r.length != lent[2].length || memcmp(back, lent[2].now + GUARD, lent[2].length) != 0)
         fault("a register that was moved is not moved back", "");
 }
 
@@ -398,34 +419,35 @@ static void long_register(uint64_t form, const char *answer, const char *back, c
     lend_octets(2, kept, written);
     held("hnh", make_check, back);
     number[0] = form;
+    number[1] = other_of(form);
     lend_octets(3, kept, BUFFER);
     held("nnhc", make_move, moved);
 }
 
-/* In the old form a register of 3,276 messages has 65,524 octets, one of 3,277 has 65,544; in the smaller form both are short. */
+/* In the old form a register of 3,276 messages has 65,524 octets, one of 3,277 has 65,544; in that with signed grams both are short. */
 static void long_ones(void) {
     lend_long(3276, GURANDEPI_LONGEST);
     held("h", make_judge, "ok");
     lend_octets(1, name_of(3275), strlen(name_of(3275)));
     held("hh", make_totals, "ok 1 1000");
     lend_octets(1, "", 0);
-    long_register(1, "ok 00000ccc", "ok", "ok 02cc19");
-    long_register(2, "ok 02cc19", "ok", "ok 00000ccc");
+    long_register(1, "ok 00000ccc", "ok", "ok 03cc19");
+    long_register(3, "ok 03cc19", "ok", "ok 00000ccc");
     lend_long(3277, GURANDEPI_LONGEST);
     held("h", make_judge, "ok");
     long_register(1, "refused 15 0 0", "refused 13 0 0", "refused 17 0 0");
-    long_register(2, "ok 02cd19", "ok", "refused 15 0 0");
+    long_register(3, "ok 03cd19", "ok", "refused 15 0 0");
     lend_long(3276, GURANDEPI_LONGEST + 1);
     held("h", make_judge, "refused 1 0 0");
     long_register(1, "refused 1 0 0", "refused 1 0 0", "refused 17 0 0");
-    long_register(2, "refused 1 0 0", "refused 1 0 0", "refused 17 0 0");
+    long_register(3, "refused 1 0 0", "refused 1 0 0", "refused 17 0 0");
 }
 
 /* ---- stored registers of many messages, all numbers 0: 65,535 are moved as far as there is room, one more is no register */
 
 static void long_move(const char *what, uint64_t form, size_t length, uint64_t refusal, size_t result) {
     static uint8_t out[BUFFER];
-    struct gurandepi_written r = move_from(form, (const uint8_t *)commands, length, out, BUFFER);
+    struct gurandepi_written r = move_from(form, form == 1 ? 3 : 1, (const uint8_t *)commands, length, out, BUFFER);
     if (r.number != refusal || r.length != result) fault("of a long register: ", what);
     compared++;
 }

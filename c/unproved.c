@@ -21,10 +21,13 @@ void inner_value(struct gurandepi_written *, const struct octets *, const struct
 void inner_seal_octets(struct gurandepi_written *, const struct octets *, const struct octets *, const struct octets *, uint64_t, const struct room *);
 void inner_seal(struct gurandepi_written *, const struct octets *, const struct octets *, const struct octets *, uint64_t, const struct octets *, const struct room *);
 void inner_register_write(struct gurandepi_written *, const struct octets *, const struct room *);
-void inner_register_write_small(struct gurandepi_written *, const struct octets *, const struct room *);
+void inner_register_write_signed(struct gurandepi_written *, const struct octets *, const struct room *);
 void inner_register_check(struct gurandepi_answer *, const struct octets *, const struct octets *);
 void inner_register_check_small(struct gurandepi_answer *, const struct octets *, const struct octets *);
-void inner_register_old_to_small(struct gurandepi_written *, const struct octets *, const struct room *);
+void inner_register_check_signed(struct gurandepi_answer *, const struct octets *, const struct octets *);
+void inner_register_old_to_signed(struct gurandepi_written *, const struct octets *, const struct room *);
+void inner_register_signed_to_old(struct gurandepi_written *, const struct octets *, const struct room *);
+void inner_register_small_to_signed(struct gurandepi_written *, const struct octets *, const struct room *);
 void inner_register_small_to_old(struct gurandepi_written *, const struct octets *, const struct room *);
 
 #define OCTETS(name) &(struct octets){name, name##_length}
@@ -106,10 +109,10 @@ struct gurandepi_answer gurandepi_register_check(const uint8_t *interchange, siz
     return r;
 }
 
-struct gurandepi_written gurandepi_register_write_small(const uint8_t *interchange, size_t interchange_length, uint8_t *out,
-                                                        size_t out_length) {
+struct gurandepi_written gurandepi_register_write_signed(const uint8_t *interchange, size_t interchange_length, uint8_t *out,
+                                                         size_t out_length) {
     struct gurandepi_written r;
-    inner_register_write_small(&r, OCTETS(interchange), ROOM);
+    inner_register_write_signed(&r, OCTETS(interchange), ROOM);
     return r;
 }
 
@@ -120,9 +123,28 @@ struct gurandepi_answer gurandepi_register_check_small(const uint8_t *interchang
     return r;
 }
 
-struct gurandepi_written gurandepi_register_old_to_small(const uint8_t *stored, size_t stored_length, uint8_t *out, size_t out_length) {
+struct gurandepi_answer gurandepi_register_check_signed(const uint8_t *interchange, size_t interchange_length, const uint8_t *kept,
+                                                        size_t kept_length) {
+    struct gurandepi_answer r;
+    inner_register_check_signed(&r, OCTETS(interchange), OCTETS(kept));
+    return r;
+}
+
+struct gurandepi_written gurandepi_register_old_to_signed(const uint8_t *stored, size_t stored_length, uint8_t *out, size_t out_length) {
     struct gurandepi_written r;
-    inner_register_old_to_small(&r, OCTETS(stored), ROOM);
+    inner_register_old_to_signed(&r, OCTETS(stored), ROOM);
+    return r;
+}
+
+struct gurandepi_written gurandepi_register_signed_to_old(const uint8_t *stored, size_t stored_length, uint8_t *out, size_t out_length) {
+    struct gurandepi_written r;
+    inner_register_signed_to_old(&r, OCTETS(stored), ROOM);
+    return r;
+}
+
+struct gurandepi_written gurandepi_register_small_to_signed(const uint8_t *stored, size_t stored_length, uint8_t *out, size_t out_length) {
+    struct gurandepi_written r;
+    inner_register_small_to_signed(&r, OCTETS(stored), ROOM);
     return r;
 }
 

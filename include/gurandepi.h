@@ -45,8 +45,8 @@ extern "C" {
  * declaration is changed or gone, or for equal octets another answer is given. The library has no version of its own: take
  * both from one tree.
  */
-#define GURANDEPI_MAJOR 4
-#define GURANDEPI_MINOR 1
+#define GURANDEPI_MAJOR 5
+#define GURANDEPI_MINOR 0
 
 /*
  * The octets of the longest interchange, and of the longest result. An `out` of so many octets has room for every result:
@@ -57,8 +57,8 @@ extern "C" {
 /*
  * The refusals. A file has one: numbers 1 and 2 are looked for first, then the segments are gone through in order, and the
  * first bad one decides. Every call on an interchange judges it in this way before all else, so that each may refuse with 1
- * to 12; 13, 16, 14 and 15 are looked for after that, in this order. The moves of a register are lent no interchange: they
- * refuse with 17, then 15.
+ * to 12; 13, 16, 14, 19 and 15 are looked for after that, in this order. The moves of a register are lent no interchange:
+ * they refuse with 17, then 19, then 15.
  */
 enum gurandepi_number {
     GURANDEPI_OK = 0,               /* no refusal */
@@ -83,8 +83,10 @@ enum gurandepi_number {
     GURANDEPI_NO_ROOM = 15,         /* the result is longer than `out`, or than 65,535 octets. Place: 0 */
     GURANDEPI_NOT_SEALABLE = 16,    /* sealing: the reference is not allowed or already used in the message; the filter or
                                        the length of the value is not allowed; nine headers already; an AUTACK. Place: 0 */
-    GURANDEPI_BAD_REGISTER = 17     /* moving: the stored register starts otherwise than its form, is cut, has a number that
-                                       is overlong or too large, or octets left over. Place: 0 */
+    GURANDEPI_BAD_REGISTER = 17,    /* moving: the stored register starts otherwise than its form, is cut, has a number that
+                                       is overlong or too large, or octets left over; or it has grams of 2^63 or more and
+                                       is moved to the form with signed grams. Place: 0 */
+    GURANDEPI_NEGATIVE_TOTAL = 19   /* writing or moving to the old form of a register: a total is below zero. Place: 0 */
 };
 
 /* How the value of a seal is written (0505): the `filter` of the sealing calls, which refuse every other with 16. */
@@ -100,13 +102,13 @@ struct gurandepi_answer {
     uint64_t segment;
 };
 
-/* The loads of a message and the sum of their amounts, exact, in grams. */
+/* The loads of a message and the sum of their amounts, exact, in grams: below zero where more was tipped back than loaded. */
 struct gurandepi_loads {
     uint64_t number;
     uint64_t place;
     uint64_t segment;
     uint64_t loads;
-    uint64_t grams;
+    int64_t grams;
 };
 
 /* Two parts of the lent interchange, which are sealed as if joined: the header group and the body. */
@@ -222,19 +224,21 @@ struct gurandepi_written gurandepi_seal(const uint8_t *interchange, size_t inter
 /*
  * The register of an interchange, in the old form: the count of messages in 4 octets, then for each message 20: the place of
  * its UNH (4), its length to the end of UNT (4), its loads (4), their grams (8); the highest octet first in each number.
- * In the smaller form: the octet 2, then the same numbers in the same order, each in groups of seven bits, the lowest group
- * first, the high bit set on all but the last, in as few groups as hold it. Each form has calls of its own.
- * Both refuse with 1 to 12; 15.
+ * In the form with signed grams: the octet 3, then the same numbers in the same order, each in groups of seven bits, the
+ * lowest group first, the high bit set on all but the last, in as few groups as hold it. There the grams are doubled, and
+ * those below zero are twice their magnitude less one. The smaller form is the same with the octet 2, and with the grams as
+ * they are; it is read and no longer written. Each form has calls of its own.
+ * Both refuse with 1 to 12; 19, the first alone: a total is below zero; 15.
  */
 struct gurandepi_written gurandepi_register_write(const uint8_t *interchange, size_t interchange_length,
                                                   uint8_t *out, size_t out_length);
 
-struct gurandepi_written gurandepi_register_write_small(const uint8_t *interchange, size_t interchange_length,
-                                                        uint8_t *out, size_t out_length);
+struct gurandepi_written gurandepi_register_write_signed(const uint8_t *interchange, size_t interchange_length,
+                                                         uint8_t *out, size_t out_length);
 
 /*
- * Is `kept` the register of this interchange, in the old form or in the smaller one, octet for octet? Both refuse with 1 to
- * 12; 13: it is not.
+ * Is `kept` the register of this interchange, in the old form, the smaller one or that with signed grams, octet for octet?
+ * Each refuses with 1 to 12; 13: it is not. Where a total is below zero, no octets are, but in the last form.
  */
 struct gurandepi_answer gurandepi_register_check(const uint8_t *interchange, size_t interchange_length,
                                                  const uint8_t *kept, size_t kept_length);
@@ -242,15 +246,25 @@ struct gurandepi_answer gurandepi_register_check(const uint8_t *interchange, siz
 struct gurandepi_answer gurandepi_register_check_small(const uint8_t *interchange, size_t interchange_length,
                                                        const uint8_t *kept, size_t kept_length);
 
+struct gurandepi_answer gurandepi_register_check_signed(const uint8_t *interchange, size_t interchange_length,
+                                                        const uint8_t *kept, size_t kept_length);
+
 /*
- * A stored register in the other form: from the old form to the smaller one, and from the smaller one to the old. Its places
- * and lengths are compared with nothing. Where neither is refused, there and back gives the same octets.
- * `stored` may be longer than 65,535 octets, the result not. Both refuse with 17: `stored` is no register of that form, that
- * is it starts otherwise, is cut, has octets left over, a number in more groups than it needs, a count above 65,535, grams
- * of 2^64 or more or another number of 2^32 or more; 15.
+ * A stored register in another form: from the old form to that with signed grams and back, and from the smaller one to
+ * either. Its places and lengths are compared with nothing. Where neither is refused, there and back gives the same octets.
+ * `stored` may be longer than 65,535 octets, the result not. Each refuses with 17: `stored` is no register of that form, that
+ * is it starts otherwise, is cut, has octets left over, a number in more groups than it needs, a count above 65,535, a grams
+ * number of 2^64 or more or another number of 2^32 or more; or, to the form with signed grams, it has grams of 2^63 or more;
+ * 19, to the old form: a total is below zero; 15.
  */
-struct gurandepi_written gurandepi_register_old_to_small(const uint8_t *stored, size_t stored_length,
-                                                         uint8_t *out, size_t out_length);
+struct gurandepi_written gurandepi_register_old_to_signed(const uint8_t *stored, size_t stored_length,
+                                                          uint8_t *out, size_t out_length);
+
+struct gurandepi_written gurandepi_register_signed_to_old(const uint8_t *stored, size_t stored_length,
+                                                          uint8_t *out, size_t out_length);
+
+struct gurandepi_written gurandepi_register_small_to_signed(const uint8_t *stored, size_t stored_length,
+                                                            uint8_t *out, size_t out_length);
 
 struct gurandepi_written gurandepi_register_small_to_old(const uint8_t *stored, size_t stored_length,
                                                          uint8_t *out, size_t out_length);

@@ -18,7 +18,7 @@ mod c {
         pub place: u64,
         pub segment: u64,
         pub loads: u64,
-        pub grams: u64,
+        pub grams: i64,
     }
 
     #[repr(C)]
@@ -87,7 +87,7 @@ mod c {
         pub fn gurandepi_register_write(
             interchange: *const u8, interchange_length: usize, out: *mut u8, out_length: usize
         ) -> Written;
-        pub fn gurandepi_register_write_small(
+        pub fn gurandepi_register_write_signed(
             interchange: *const u8, interchange_length: usize, out: *mut u8, out_length: usize
         ) -> Written;
         pub fn gurandepi_register_check(
@@ -96,7 +96,16 @@ mod c {
         pub fn gurandepi_register_check_small(
             interchange: *const u8, interchange_length: usize, kept: *const u8, kept_length: usize
         ) -> Answer;
-        pub fn gurandepi_register_old_to_small(
+        pub fn gurandepi_register_check_signed(
+            interchange: *const u8, interchange_length: usize, kept: *const u8, kept_length: usize
+        ) -> Answer;
+        pub fn gurandepi_register_old_to_signed(
+            stored: *const u8, stored_length: usize, out: *mut u8, out_length: usize
+        ) -> Written;
+        pub fn gurandepi_register_signed_to_old(
+            stored: *const u8, stored_length: usize, out: *mut u8, out_length: usize
+        ) -> Written;
+        pub fn gurandepi_register_small_to_signed(
             stored: *const u8, stored_length: usize, out: *mut u8, out_length: usize
         ) -> Written;
         pub fn gurandepi_register_small_to_old(
@@ -126,6 +135,10 @@ fn reason(number: u64) -> Reason {
         NotSealable,
         Register,
     ];
+    // 18 is none of these calls'.
+    if number == 19 {
+        return NegativeTotal;
+    }
     all[number as usize - 1]
 }
 
@@ -380,14 +393,18 @@ pub fn seal<'o>(
     written(r, out)
 }
 
-/// The register of an interchange in a [`Form`]. It is written to the front of `out` and handed back; on a refusal `out` is
-/// left as it was.
-pub fn register_write<'o>(interchange: &[u8], form: Form, out: &'o mut [u8]) -> Result<&'o mut [u8], Refusal> {
-    let (i, o, n) = (interchange, out.as_mut_ptr(), out.len());
-    let r = match form {
-        Form::Old => unsafe { c::gurandepi_register_write(i.as_ptr(), i.len(), o, n) },
-        Form::Small => unsafe { c::gurandepi_register_write_small(i.as_ptr(), i.len(), o, n) },
-    };
+/// The register of an interchange in [`Form::Old`]. A total below zero: [`Reason::NegativeTotal`]. It is written to the front
+/// of `out` and handed back; on a refusal `out` is left as it was.
+pub fn register_write<'o>(interchange: &[u8], out: &'o mut [u8]) -> Result<&'o mut [u8], Refusal> {
+    let i = interchange;
+    let r = unsafe { c::gurandepi_register_write(i.as_ptr(), i.len(), out.as_mut_ptr(), out.len()) };
+    written(r, out)
+}
+
+/// The register of an interchange in [`Form::Signed`]; else as [`register_write`].
+pub fn register_write_signed<'o>(interchange: &[u8], out: &'o mut [u8]) -> Result<&'o mut [u8], Refusal> {
+    let i = interchange;
+    let r = unsafe { c::gurandepi_register_write_signed(i.as_ptr(), i.len(), out.as_mut_ptr(), out.len()) };
     written(r, out)
 }
 
@@ -397,32 +414,48 @@ pub fn register_check(interchange: &[u8], form: Form, kept: &[u8]) -> Result<(),
     let r = match form {
         Form::Old => unsafe { c::gurandepi_register_check(i.as_ptr(), i.len(), k.as_ptr(), k.len()) },
         Form::Small => unsafe { c::gurandepi_register_check_small(i.as_ptr(), i.len(), k.as_ptr(), k.len()) },
+        Form::Signed => unsafe { c::gurandepi_register_check_signed(i.as_ptr(), i.len(), k.as_ptr(), k.len()) },
     };
     given(r.number, r.place, r.segment, || ())
 }
 
-/// A stored register of [`Form::Old`] in [`Form::Small`]. Its places and lengths are compared with nothing. One that is no
-/// register of its form: [`Reason::Register`]. It is written to the front of `out` and handed back; on a refusal `out` is left
-/// as it was.
+/// A stored register of [`Form::Old`] in [`Form::Signed`]. Its places and lengths are compared with nothing. One that is no
+/// register of its form, or has grams of 2^63 or more: [`Reason::Register`]. It is written to the front of `out` and handed
+/// back; on a refusal `out` is left as it was.
 ///
 #[cfg_attr(linked, doc = "```")]
 #[cfg_attr(not(linked), doc = "```no_run")]
 /// # let p7 = std::fs::read("../examples/p7.edi").unwrap();
-/// use gurandepi::{register_old_to_small, register_small_to_old, register_write, Form};
+/// use gurandepi::{register_old_to_signed, register_signed_to_old, register_write};
 ///
-/// let (mut old, mut small, mut back) = ([0; 24], [0; 24], [0; 24]);
-/// let old = register_write(&p7, Form::Old, &mut old).unwrap();
-/// let small = register_old_to_small(old, &mut small).unwrap();
-/// assert_eq!(small, [2, 1, 40, 0x86, 1, 2, 0xE0, 0xE0, 0xAB, 0x1B]);
-/// assert_eq!(register_small_to_old(small, &mut back).unwrap(), old);
+/// let (mut old, mut signed, mut back) = ([0; 24], [0; 24], [0; 24]);
+/// let old = register_write(&p7, &mut old).unwrap();
+/// let signed = register_old_to_signed(old, &mut signed).unwrap();
+/// assert_eq!(signed, [3, 1, 40, 0x86, 1, 2, 0xC0, 0xC1, 0xD7, 0x36]);
+/// assert_eq!(register_signed_to_old(signed, &mut back).unwrap(), old);
 /// ```
-pub fn register_old_to_small<'o>(stored: &[u8], out: &'o mut [u8]) -> Result<&'o mut [u8], Refusal> {
+pub fn register_old_to_signed<'o>(stored: &[u8], out: &'o mut [u8]) -> Result<&'o mut [u8], Refusal> {
     let s = stored;
-    let r = unsafe { c::gurandepi_register_old_to_small(s.as_ptr(), s.len(), out.as_mut_ptr(), out.len()) };
+    let r = unsafe { c::gurandepi_register_old_to_signed(s.as_ptr(), s.len(), out.as_mut_ptr(), out.len()) };
     written(r, out)
 }
 
-/// A stored register of [`Form::Small`] in [`Form::Old`]; else as [`register_old_to_small`].
+/// A stored register of [`Form::Signed`] in [`Form::Old`]. A total below zero: [`Reason::NegativeTotal`]; else as
+/// [`register_old_to_signed`].
+pub fn register_signed_to_old<'o>(stored: &[u8], out: &'o mut [u8]) -> Result<&'o mut [u8], Refusal> {
+    let s = stored;
+    let r = unsafe { c::gurandepi_register_signed_to_old(s.as_ptr(), s.len(), out.as_mut_ptr(), out.len()) };
+    written(r, out)
+}
+
+/// A stored register of [`Form::Small`] in [`Form::Signed`]; else as [`register_old_to_signed`].
+pub fn register_small_to_signed<'o>(stored: &[u8], out: &'o mut [u8]) -> Result<&'o mut [u8], Refusal> {
+    let s = stored;
+    let r = unsafe { c::gurandepi_register_small_to_signed(s.as_ptr(), s.len(), out.as_mut_ptr(), out.len()) };
+    written(r, out)
+}
+
+/// A stored register of [`Form::Small`] in [`Form::Old`]; else as [`register_old_to_signed`], but for large grams.
 pub fn register_small_to_old<'o>(stored: &[u8], out: &'o mut [u8]) -> Result<&'o mut [u8], Refusal> {
     let s = stored;
     let r = unsafe { c::gurandepi_register_small_to_old(s.as_ptr(), s.len(), out.as_mut_ptr(), out.len()) };

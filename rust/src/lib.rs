@@ -74,12 +74,14 @@ pub enum Reason {
     /// nine headers already, or an AUTACK.
     NotSealable,
     /// A stored register that is moved starts otherwise than its form, is cut, has a number that is overlong or too large, or
-    /// octets left over.
+    /// octets left over; or it has grams of 2^63 or more and is moved to [`Form::Signed`].
     Register,
+    /// A total is below zero, and a register is written in or moved to [`Form::Old`].
+    NegativeTotal = 19,
 }
 
 /// A refusal: why, and the place of the fault, counted in octets from 0: its segment's first octet if [`Reason`] says nothing
-/// else, or the end of the input; 0 for the reasons 1, 2 and 13 to 17.
+/// else, or the end of the input; 0 for the reasons 1, 2 and from 13 on.
 #[derive(Clone, Copy, Debug, PartialEq, Eq, Hash)]
 pub struct Refusal {
     /// Why.
@@ -87,12 +89,12 @@ pub struct Refusal {
     /// Where.
     pub place: usize,
     /// Which segment stands there: UNB is 1, UNA counts as none, the end of the input, or what stands after UNZ, counts as the
-    /// next one. 0 for the reasons 1, 2 and 13 to 17.
+    /// next one. 0 for the reasons 1, 2 and from 13 on.
     pub segment: usize,
 }
 
 impl Refusal {
-    /// The paper's number of the reason, 1 to 17.
+    /// The paper's number of the reason.
     pub const fn number(self) -> u8 {
         self.reason as u8
     }
@@ -111,8 +113,8 @@ impl core::error::Error for Refusal {}
 pub struct Totals {
     /// How many loads.
     pub loads: u64,
-    /// Their sum.
-    pub grams: u64,
+    /// Their sum: below zero where more was tipped back than loaded.
+    pub grams: i64,
 }
 
 /// What a header of scope 1 seals: two parts of the lent interchange, as if joined.
@@ -149,6 +151,9 @@ pub enum Form {
     /// Each number in 4 octets, the grams in 8, the highest octet first.
     Old,
     /// The octet 2, then each number in groups of seven bits, the lowest first, the high bit set on all but the last, in as
-    /// few as hold it.
+    /// few as hold it. It is read, and not written.
     Small,
+    /// The octet 3, then each number as in [`Form::Small`]; the grams are doubled, and those below zero are twice their
+    /// magnitude less one.
+    Signed,
 }

@@ -104,7 +104,7 @@ fn p_is_sealed_to_p7_and_a_used_reference_is_refused() {
 #[cfg_attr(linked, test)]
 fn a_register_is_written_and_checked() {
     let mut out = [0; 24];
-    let kept = register_write(P.as_bytes(), Form::Old, &mut out).unwrap();
+    let kept = register_write(P.as_bytes(), &mut out).unwrap();
     assert_eq!(kept[..12], [0, 0, 0, 1, 0, 0, 0, 40, 0, 0, 0, 82]);
     assert_eq!(register_check(P.as_bytes(), Form::Old, kept), Ok(()));
     assert_eq!(said(register_check(P7.as_bytes(), Form::Old, kept)), "refused 13 at 0 segment 0");
@@ -112,15 +112,31 @@ fn a_register_is_written_and_checked() {
 }
 
 #[cfg_attr(linked, test)]
-fn a_smaller_register_is_written_checked_and_moved() {
+fn a_register_with_signed_grams_is_written_checked_and_moved() {
     let (mut out, mut old, mut back) = ([0; 9], [0; 24], *b"untouched");
-    let kept = register_write(P.as_bytes(), Form::Small, &mut out).unwrap();
-    assert_eq!(kept, [2, 1, 40, 82, 2, 0xE0, 0xE0, 0xAB, 0x1B]);
-    assert_eq!(register_check(P.as_bytes(), Form::Small, kept), Ok(()));
-    let moved = register_small_to_old(kept, &mut old).unwrap();
+    let kept = register_write_signed(P.as_bytes(), &mut out).unwrap();
+    assert_eq!(kept, [3, 1, 40, 82, 2, 0xC0, 0xC1, 0xD7, 0x36]);
+    assert_eq!(register_check(P.as_bytes(), Form::Signed, kept), Ok(()));
+    let moved = register_signed_to_old(kept, &mut old).unwrap();
     assert_eq!(register_check(P.as_bytes(), Form::Old, moved), Ok(()));
-    assert_eq!(register_old_to_small(&moved[..23], &mut back).unwrap_err().reason, Reason::Register);
-    assert_eq!(register_old_to_small(moved, &mut back[..8]).unwrap_err().reason, Reason::Room);
+    assert_eq!(register_old_to_signed(&moved[..23], &mut back).unwrap_err().reason, Reason::Register);
+    assert_eq!(register_old_to_signed(moved, &mut back[..8]).unwrap_err().reason, Reason::Room);
     assert_eq!(&back, b"untouched");
-    assert_eq!(register_old_to_small(moved, &mut back).unwrap(), kept);
+    assert_eq!(register_old_to_signed(moved, &mut back).unwrap(), kept);
+}
+
+#[cfg_attr(linked, test)]
+fn a_smaller_register_is_read() {
+    let (mut old, mut signed) = ([0; 24], [0; 9]);
+    let small = [2, 1, 40, 82, 2, 0xE0, 0xE0, 0xAB, 0x1B];
+    assert_eq!(register_check(P.as_bytes(), Form::Small, &small), Ok(()));
+    assert_eq!(register_check(P.as_bytes(), Form::Old, register_small_to_old(&small, &mut old).unwrap()), Ok(()));
+    assert_eq!(register_check(P.as_bytes(), Form::Signed, register_small_to_signed(&small, &mut signed).unwrap()), Ok(()));
+}
+
+#[cfg_attr(linked, test)]
+fn a_negative_total_is_not_in_the_old_form() {
+    let minus_one = [3, 1, 40, 82, 2, 1];
+    let refusal = register_signed_to_old(&minus_one, &mut []).unwrap_err();
+    assert_eq!((refusal.reason, refusal.number()), (Reason::NegativeTotal, 19));
 }

@@ -17,9 +17,9 @@ use Rattle.grammar.specs.Verdict.{Verdict, accepted, refusedWith, verdictOf}
 use Rattle.writing.specs.Written.{Text, text, noText, refusedAs, Writes}
 use Rattle.writing.specs.WrittenLaws.{writes, length-told}
 use Rattle.writing.specs.declared.Written.the-variants.{Length}
-use Rattle.forms.specs.Forms.{registerText}
+use Rattle.forms.specs.Forms.{textIn}
 use Rattle.forms.specs.declared.Form.{Form}
-use Rattle.register.specs.Register.{entriesIn, registerBy, registerOf, toldCheck, checkNumbers}
+use Rattle.register.specs.Register.{entriesIn, registerBy, registerOf, equalTo, checkedBy, toldCheck, checkNumbers}
 use Rattle.register.specs.declared.register.Checked.the-variants.{Same, Refused as Differs}
 use Rattle.demands.specs.NumbersLaws.{refused-number}
 
@@ -30,8 +30,9 @@ pub record Accepted (x : Text) (g : List ℕ) : Type 0 where
 
 -- ---- the check
 
-text-accepted : (t g : List ℕ) → toldCheck Same ≡ checkNumbers (text t) g → Accepted (text t) g
-text-accepted t g e = by (ltb 65535 (length t)) (ltb-false 65535 (length t)) (same t g) (λ d. same-eq t g (subst T (sym d) tt)) e
+text-accepted : (x : Text) (g : List ℕ) → toldCheck Same ≡ toldCheck (equalTo x g) → Accepted x g
+text-accepted (noText f) g e = let z : _≡_ {A = ℕ} 0 13 = cc in absurd (omega arith)
+text-accepted (text t) g e = by (ltb 65535 (length t)) (ltb-false 65535 (length t)) (same t g) (λ d. same-eq t g (subst T (sym d) tt)) e
   where
     by : (l : Bool) → (l ≡ false → length t ≤ 65535) → (b : Bool) → (b ≡ true → t ≡ g) → toldCheck Same ≡ toldCheck (cond l (Differs (atZero 13)) (cond b Same (Differs (atZero 13))))
         → Accepted (text t) g
@@ -40,15 +41,19 @@ text-accepted t g e = by (ltb 65535 (length t)) (ltb-false 65535 (length t)) (sa
     by false k true f e = let h : t ≡ g = f refl in record { is = ap text h; short = subst (λ (x : List ℕ). length x ≤ 65535) h (k refl) }
 
 -- a refusal has no number 0
-check-accepted : (f : Form) (s g : List ℕ) → toldCheck Same ≡ checkNumbers (registerOf f s) g → Accepted (registerOf f s) g
+check-accepted : (f : Form) (s g : List ℕ) → toldCheck Same ≡ checkNumbers f s g → Accepted (registerOf f s) g
 check-accepted f s g e = by (verdictOf s) (refused-number s) e
   where
-    by : (v : Verdict) → ((w : Refusal) → v ≡ refusedWith w → (1 ≤ w .number) × (w .number ≤ 12)) → toldCheck Same ≡ checkNumbers (registerBy f v) g → Accepted (registerBy f v) g
-    by (accepted i) h e = text-accepted (registerText f (entriesIn i)) g e
+    by : (v : Verdict) → ((w : Refusal) → v ≡ refusedWith w → (1 ≤ w .number) × (w .number ≤ 12)) → toldCheck Same ≡ toldCheck (checkedBy f v g) → Accepted (registerBy f v) g
+    by (accepted i) h e = text-accepted (textIn f (entriesIn i)) g e
     by (refusedWith w) h e = let z : 0 ≡ w .number = cc in absurd (omega (arith, z, h w refl .0))
 
-accepted-checks : {x : Text} {g : List ℕ} → Accepted x g → toldCheck Same ≡ checkNumbers x g
-accepted-checks {x} {g} a = sym (ap (λ (x : Text). checkNumbers x g) (a .is) ∙ rw (le-ltb 65535 (length g) (a .short), same-self g))
+accepted-checks : (f : Form) (s g : List ℕ) → Accepted (registerOf f s) g → toldCheck Same ≡ checkNumbers f s g
+accepted-checks f s g a = by (verdictOf s) a
+  where
+    by : (v : Verdict) → Accepted (registerBy f v) g → toldCheck Same ≡ toldCheck (checkedBy f v g)
+    by (accepted i) a = sym (ap (λ (x : Text). toldCheck (equalTo x g)) (a .is) ∙ rw (le-ltb 65535 (length g) (a .short), same-self g))
+    by (refusedWith w) a = let z : noText w ≡ text g = a .is in let y : _≡_ {A = ℕ} 0 1 = cc in absurd (omega arith)
 
 -- ---- the write
 
@@ -82,6 +87,5 @@ writes-accepted (text t) g out w = by (ltb 65535 (length t)) (ltb-false 65535 (l
 
 -- ---- both, in each form
 
-pub accepts-written : (f : Form) (s g out : List ℕ) → length g ≤ length out
-    → (toldCheck Same ≡ checkNumbers (registerOf f s) g) ↔ Writes (registerOf f s) out (Length (length g)) (g ++ drop (length g) out)
-accepts-written f s g out h = (λ e. accepted-writes h (check-accepted f s g e), λ w. accepted-checks (writes-accepted (registerOf f s) g out w))
+pub accepts-written : (f : Form) (s g out : List ℕ) → length g ≤ length out → (toldCheck Same ≡ checkNumbers f s g) ↔ Writes (registerOf f s) out (Length (length g)) (g ++ drop (length g) out)
+accepts-written f s g out h = (λ e. accepted-writes h (check-accepted f s g e), λ w. accepted-checks f s g (writes-accepted (registerOf f s) g out w))

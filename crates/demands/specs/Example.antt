@@ -8,7 +8,8 @@ use Rattle.syntax.specs.Octets.{octets}
 use Rattle.syntax.specs.Example.{P}
 use Rattle.syntax.specs.Repertoire.{inside}
 use Rattle.grammar.specs.Example.{P3, P4, P5, P6, P7, P8, P9}
-use Rattle.grammar.specs.Verdict.{verdictOf, totalsOf, numbers, totalNumbers}
+use Rattle.grammar.specs.Grams.{magnitude}
+use Rattle.grammar.specs.Verdict.{verdictOf, totalsOf, numbers, totalNumbers, totalGrams}
 use Rattle.groups.specs.Calls.{Answered, given, refusedAs}
 use Rattle.ranges.specs.Ranges.{Parts, parts, scope1Of}
 use Rattle.ranges.specs.Told.{partNumbers}
@@ -44,7 +45,8 @@ abbrev pub table : List Row
 table =
     -- P1 accepted, 57,340,000 g
     row (numbers (verdictOf P)) (0 ∷ 0 ∷ 0 ∷ [])
-    ∷ row (totalNumbers (totalsOf P (octets "M1"))) (0 ∷ 0 ∷ 0 ∷ 2 ∷ 57340000 ∷ [])
+    ∷ row (totalNumbers (totalsOf P (octets "M1"))) (0 ∷ 0 ∷ 0 ∷ 2 ∷ [])
+    ∷ row (magnitude (totalGrams (totalsOf P (octets "M1"))) ∷ []) (57340000 ∷ [])
     -- P2 empty: 1 at 0, in no segment
     ∷ row (numbers (verdictOf [])) (1 ∷ 0 ∷ 0 ∷ [])
     -- P3 `UNT+6`: 10 at 113, in segment 6

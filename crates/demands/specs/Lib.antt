@@ -51,3 +51,5 @@ pub mod Companion
 pub mod CompanionLaws
 -- the moves of a register
 pub mod MovedLaws
+-- a minus before an amount
+pub mod ReversedLaws

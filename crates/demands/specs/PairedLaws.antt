@@ -6,7 +6,8 @@ use mathlib.Core.List.{List}
 use mathlib.Core.Path.{_≡_, refl, ap, _∙_, sym, subst}
 use lib.Dec.{eqb, eqb→eq}
 use Rattle.grammar.specs.Lists.{Snoc, nil, each, size, always, test, holds, every, distinct}
-use Rattle.grammar.specs.Grams.{sum}
+use Rattle.grammar.specs.Grams.{Grams, sameGrams, sum}
+use Rattle.grammar.specs.WeighedLaws.{same-grams}
 use Rattle.grammar.specs.Interchange.{Header, Trailer, trailer, Body, plain, ack, msg, Message, message, showHeader, showTrailer}
 use Rattle.grammar.specs.Rules.{refH, refT, one, refsMessage, total, sizeAt, counted, countsMessage}
 use Rattle.grammar.specs.ListsLaws.{each-size}
@@ -62,9 +63,9 @@ size-of r x e d = found-once refH r (sizeAt r) (λ s h. size (showHeader h)) (λ
 pair-counted : (hs : Snoc Header) (t : Trailer) → holds (counted hs t) → number0588 t ≡ sizeAt (refT t) hs + size (showTrailer t)
 pair-counted hs (trailer c r) h = eqb→eq _ _ h
 
-total-of : (b : Body) → holds (total b) → (n : ℕ) → In n (controlsB b) → n ≡ sum (loadsB b)
-total-of (plain b) h n x = eqb→eq n (sum (loads b)) (every-in (λ (n : ℕ). test (eqb n (sum (loads b)))) h x)
-total-of (ack c ls) h n x = absurd (every-in (λ (n : ℕ). test false) {row = nil} tt x)
+total-of : (b : Body) → holds (total b) → (n : Grams) → In n (controlsB b) → n ≡ sum (loadsB b)
+total-of (plain b) h n x = same-grams n (sum (loads b)) (every-in (λ (n : Grams). test (sameGrams n (sum (loads b)))) h x)
+total-of (ack c ls) h n x = absurd (every-in (λ (n : Grams). test false) {row = nil} tt x)
 
 counts-of : (v : Version) (m : Message) → holds (refsMessage m) → holds (countsMessage v m) → CountsAgree v m
 counts-of v (message (msg h hs b ts) t) q c = record {

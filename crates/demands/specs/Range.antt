@@ -26,7 +26,7 @@ pub record Reads {A : Type 0} (g : Grammar A) (σ : Service) (o : List ℕ) (t :
   pub printed : print σ (list (g .segments t)) ≡ o
 
 -- the total: the exact sum, in whole grams
-abbrev pub totalIn : {A : Type 0} → Grammar A → A → ℕ
+abbrev pub totalIn : {A : Type 0} → Grammar A → A → Grams
 totalIn g t = sum (g .loads t)
 
 -- "the same segments element by element, .. the same loads in the same order, the same total in whole grams"

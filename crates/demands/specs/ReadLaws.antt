@@ -6,6 +6,7 @@ use mathlib.Core.List.{List, _++_, append-assoc}
 use mathlib.Core.Option.{Option, some}
 use mathlib.Core.Bool.{Bool, true, false, cond}
 use lib.Dec.{T, T-not, leb→le, le→leb}
+use lib.IntN.{+ℤ-idr, +ℤ-assoc}
 use lib.ListN.{length}
 use lib.Seq.{slice}
 use Rattle.syntax.specs.BareLaws.{compared-twice}
@@ -18,7 +19,7 @@ use Rattle.syntax.specs.TreeLaws.{and-left, and-right}
 use Rattle.syntax.specs.declared.Service.{Service}
 use Rattle.syntax.specs.declared.Syntax.{Syntax}
 use Rattle.grammar.specs.Lists.{Snoc, nil, _▷_, _+++_, joined, list, each, size, any, check, among, holds, every, few, distinct}
-use Rattle.grammar.specs.Grams.{sum}
+use Rattle.grammar.specs.Grams.{Grams, addGrams, sum}
 use Rattle.grammar.specs.Segments.{Unb, Unh, Unt, Unz, seg, unh0062Text, ush0541}
 use Rattle.grammar.specs.Interchange.{Leaf, Header, header, Trailer, Body, plain, ack, Open, msg, Message, message, showHeader, showTrailer, showBody, showOpen, showMessage, shown, idle}
 use Rattle.grammar.specs.declared.Subset.{Subset}
@@ -359,13 +360,13 @@ each-as f g h nil = refl
 each-as f g h (s ▷ a) = rw (each-as f g h s, h a)
 
 -- the sum of all loads is the sum of the messages' totals
-sum-join : (a b : Snoc ℕ) → sum (a +++ b) ≡ sum a + sum b
-sum-join a nil = omega arith
-sum-join a (b ▷ n) = omega (arith, sum-join a b)
+sum-join : (a b : Snoc Grams) → sum (a +++ b) ≡ addGrams (sum a) (sum b)
+sum-join a nil = sym (+ℤ-idr (sum a))
+sum-join a (b ▷ n) = ap (λ (z : Grams). addGrams z n) (sum-join a b) ∙ +ℤ-assoc (sum a) (sum b) n
 
 sum-each : (ms : Snoc Message) → sum (joined loadsM ms) ≡ sum (each (λ (m : Message). sum (loadsM m)) ms)
 sum-each nil = refl
-sum-each (ms ▷ m) = omega (arith, sum-join (joined loadsM ms) (loadsM m), sum-each ms)
+sum-each (ms ▷ m) = sum-join (joined loadsM ms) (loadsM m) ∙ ap (λ (z : Grams). addGrams z (sum (loadsM m))) (sum-each ms)
 
 -- what is known of all messages
 messages-ordered : (i : Interchange) → Valid i → holds (every okMessage (messagesIn i))

@@ -5,10 +5,12 @@
 // `sealOctetsOf` and `sealed` (Sealing.antt); of `register` `registerOf`, `checkNumbers`, `toldCheck` (Register.antt), of `forms` `registerText`
 // (Forms.antt), of `moves` `moveOf` (Stored.antt); of `writing` `Writes` (Written.antt); and here `Printed.antt`, `Companion.antt`, `Reported.antt`, `Sealed.antt`, `Range.antt` (the grammars of what is sealed) and `Read.antt`.
 ghost use Prim.Native.Nat.{ℕ, _+_, _-_, _≤_};
+ghost use mathlib.Core.Bool.{false};
 ghost use mathlib.Core.Path.{_≡_};
 ghost use mathlib.Core.List.{List, _++_};
 ghost use mathlib.Core.Logic.{_↔_};
 ghost use lib.Dec.{T};
+ghost use lib.IntN.{negℤ};
 ghost use lib.ListN.{length, take, drop};
 ghost use lib.Seq.{slice};
 ghost use Rattle.syntax.specs.Content.{compared};
@@ -17,6 +19,8 @@ ghost use Rattle.syntax.specs.Service.{fit};
 ghost use Rattle.syntax.specs.declared.Refusal.{Refusal};
 ghost use Rattle.syntax.specs.declared.Service.{Service};
 ghost use Rattle.grammar.specs.Lists.{Snoc, size};
+ghost use Rattle.grammar.specs.Grams.{noGrams};
+ghost use Rattle.grammar.specs.Loads.{Shape, reversed, amountRight, grams};
 ghost use Rattle.grammar.specs.Interchange.{Message};
 ghost use Rattle.grammar.specs.Valid.{Interchange, printInterchange, Valid};
 ghost use Rattle.grammar.specs.Verdict.{verdictOf, accepted, refusedWith, totalsOf, totalsIn};
@@ -229,26 +233,33 @@ pub fn sealed_keeps_ranges()
     ensures { λ _. ⌜ ((s m r : List ℕ) (f : ℕ) (v x : List ℕ) → sealOf s m r f v ≡ text x → length x ≤ 65535 → Kept s x) ⌝ }
 {}
 
-// D2e. The check call accepts exactly what the write call writes, in each form. Left is what `register_check` promises, with the answer `Same`; right what
-// `register_write` promises, with the answer the length of g, and a lent buffer that now starts with g. The buffer is any that has room for g.
-// A register longer than 65,535 octets (in the old form of more than 3,276 messages) is not written (15), and the check accepts none there: it answers 13.
-pub fn check_accepts_written()
-    ensures { λ _. ⌜ ((f : Form) (s g out : List ℕ) → length g ≤ length out → (toldCheck Same ≡ checkNumbers (registerOf f s) g) ↔ Writes (registerOf f s) out (Length (length g)) (g ++ drop (length g) out)) ⌝ }
+// Reversed loads. "Allow one leading minus before the digits": with it an amount is written right where it is without it, and counts as much below zero as it counts above
+// zero without it. "Minus zero is zero."
+pub fn minus_reverses()
+    ensures { λ _. ⌜ ((u : Shape) (a : List ℕ) → reversed a ≡ false → (amountRight u (octets "-" ++ a) ≡ amountRight u a) × ((grams u (octets "-" ++ a) ≡ negℤ (grams u a)) × (grams u a ≡ noGrams → grams u (octets "-" ++ a) ≡ noGrams))) ⌝ }
 {}
 
-// The moves. "Where no move is refused, old to new to old gives the same octets, and so does new to old to new.": of any two forms; what a move of r wrote,
-// first in the lent buffer, is moved back to r. So the way back is never refused with 17, only where r has no room (15).
+// D2e. The check call accepts exactly what the write call writes, in each form. Left is what `register_check` promises, with the answer `Same`; right what
+// `register_write` promises, with the answer the length of g, and a lent buffer that now starts with g. The buffer is any that has room for g.
+// A register longer than 65,535 octets (in the old form of more than 3,276 messages) is not written (15), nor is one with a negative total in a form without
+// sign (19), and the check accepts none there: it answers 13.
+pub fn check_accepts_written()
+    ensures { λ _. ⌜ ((f : Form) (s g out : List ℕ) → length g ≤ length out → (toldCheck Same ≡ checkNumbers f s g) ↔ Writes (registerOf f s) out (Length (length g)) (g ++ drop (length g) out)) ⌝ }
+{}
+
+// The moves. "Where no move is refused, old to new to old gives the same octets, and so does new to old to new.", "item 2's round trip holds for form 3": of any two
+// forms; what a move of r wrote, first in the lent buffer, is moved back to r. So the way back is never refused with 17 or 19, only where r has no room (15).
 pub fn moved_there_and_back()
     ensures { λ _. ⌜ ((f g : Form) (r out left : List ℕ) (n : ℕ) → Octets r → Writes (moveOf f g r) out (Length n) left → moveOf g f (take n left) ≡ text r) ⌝ }
 {}
 
-// A stored register is moved, and not refused with 17, if and only if it is the text of entries: of at most 65,535, whose numbers are below 2^32, and their
-// grams below 2^64. So one that starts otherwise, is cut or overlong or has octets left over is the text of none.
+// A stored register is moved, and not refused with 17 or 19, if and only if it is the text of entries that fit both forms: of at most 65,535, whose numbers are below
+// 2^32, and their grams from 0 to 2^64 - 1, in form 3 from -2^63 to 2^63 - 1. So one that starts otherwise, is cut or overlong or has octets left over is the text of none.
 pub fn moved_exactly()
-    ensures { λ _. ⌜ ((f g : Form) (r : List ℕ) → Octets r → ((t : List ℕ) × (moveOf f g r ≡ text t)) ↔ ((es : List Entry) × (length es ≤ 65535) × AllFit es × (registerText f es ≡ r))) ⌝ }
+    ensures { λ _. ⌜ ((f g : Form) (r : List ℕ) → Octets r → ((t : List ℕ) × (moveOf f g r ≡ text t)) ↔ ((es : List Entry) × (length es ≤ 65535) × AllFit f es × AllFit g es × (registerText f es ≡ r))) ⌝ }
 {}
 
-// What is written for an interchange in one form is moved to what is written for it in another.
+// What is written for an interchange in one form is moved to what is written for it in another, or refused as that is: with 19.
 pub fn written_is_moved()
     ensures { λ _. ⌜ ((f g : Form) (s out left : List ℕ) (n : ℕ) → Writes (registerOf f s) out (Length n) left → moveOf f g (take n left) ≡ registerOf g s) ⌝ }
 {}

@@ -10,9 +10,9 @@
 //     value I MREF HREF CAP    ok HEX: the octets written into a buffer of CAP
 //     sealoct I MREF REF F CAP    ok HEX
 //     seal I MREF REF F VALUE CAP    ok HEX
-//     regwrite I FORM CAP    ok HEX. FORM is 1, the old form, or 2, the smaller one
-//     regcheck I FORM REG    ok
-//     regmove FROM TO REG CAP    ok HEX: from 1 to 2, or from 2 to 1
+//     regwrite I FORM CAP    ok HEX. FORM is 1, the old form, or 3, that with signed grams
+//     regcheck I FORM REG    ok. FORM is 1, 3, or 2, the smaller form, which is only read
+//     regmove FROM TO REG CAP    ok HEX: from each form to 1 and 3, but to itself
 //     report I    ok HEX: the text that the program `report` prints, always
 //
 // Each but the last may answer `refused NUMBER PLACE SEGMENT`. The answer to every other line is `bad`.
@@ -74,6 +74,9 @@ fn print_totals(out: &mut [u8; 4096], n: usize, t: Totals) -> usize {
             let mut k = text(out, n, b"ok ");
             k = number(out, k, l.loads as u64);
             k = put(out, k, b' ');
+            if l.below {
+                k = put(out, k, b'-');
+            }
             k = number(out, k, l.grams);
             put(out, k, b'\n')
         }
@@ -310,6 +313,16 @@ fn form_named(n: u64) -> Named {
     match n {
         1 => Named::As(Form::Old),
         2 => Named::As(Form::Small),
+        3 => Named::As(Form::Signed),
+        _ => Named::Unknown,
+    }
+}
+
+// A form that is written: form 2 is only read.
+fn written_form(n: u64) -> Named {
+    match n {
+        1 => Named::As(Form::Old),
+        3 => Named::As(Form::Signed),
         _ => Named::Unknown,
     }
 }
@@ -332,7 +345,7 @@ fn answer_regwrite(out: &mut [u8; 4096], n: usize, s: &[u8], room: &mut [u8; 150
     let mut bounds = [0usize; 7];
     if arguments(s, b"hnn", room, &mut bounds) {
         let mut written = [0u8; 65536];
-        match form_named(number_of(argument(room, &bounds, 1))) {
+        match written_form(number_of(argument(room, &bounds, 1))) {
             Named::As(form) => {
                 return write_register(out, n, room, &bounds, form, &mut written);
             }
@@ -349,17 +362,16 @@ enum Move {
 }
 
 fn move_named(from: u64, to: u64) -> Move {
-    if from == 1 {
-        if to == 2 {
-            return Move::Between(Form::Old, Form::Small);
-        }
+    if from == to {
+        return Move::Unknown;
     }
-    if from == 2 {
-        if to == 1 {
-            return Move::Between(Form::Small, Form::Old);
-        }
+    match form_named(from) {
+        Named::As(a) => match written_form(to) {
+            Named::As(b) => Move::Between(a, b),
+            Named::Unknown => Move::Unknown,
+        },
+        Named::Unknown => Move::Unknown,
     }
-    Move::Unknown
 }
 
 fn write_moved(

@@ -254,7 +254,7 @@ module _ (σ : Service) (s : List ℕ) (a : ℕ) {x : List ℕ} (e : x ≡ partO
           ∙ ap (λ (t : List ℕ). amountRight (shape (f .whole) (f .decimals)) (content (σ .release) t)) (sym g)
           ∙ k)
 
-      pub control-right : {n : ℕ} → q ≡ Grams n → true ≡ controlBy (controlUnit (textAt σ s a 1 2)) (textAt σ s a 1 1)
+      pub control-right : {n : ℕ} {t : Bool} → q ≡ Grams n t → true ≡ controlBy (controlUnit (textAt σ s a 1 2)) (textAt σ s a 1 1)
       control-right k = amount-read (amount-grams (f .whole) (f .decimals) (content (σ .release) z) m k .0)
 
       pub control-wrong : q ≡ Bad → false ≡ controlBy (controlUnit (textAt σ s a 1 2)) (textAt σ s a 1 1)

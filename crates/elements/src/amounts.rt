@@ -1,15 +1,16 @@
-// Amounts: digits, optionally a mark and digits, in whole grams.
+// Amounts: one leading minus or none, digits, optionally a mark and digits, in whole grams.
 use syntax::content::Next;
 use syntax::content::content_is;
 use syntax::content::next_octet;
 use syntax::content::wide;
 ghost use mathlib.Core.Path.{_≡_};
+ghost use mathlib.Core.Bool.{false};
 ghost use Prim.Native.Nat.{_≤_, _<_, _*_};
 ghost use lib.ListN.{drop};
 ghost use Rattle.syntax.specs.Content.{content};
-ghost use Rattle.grammar.specs.Loads.{shape, mark, tens, amountRight, grams};
+ghost use Rattle.grammar.specs.Loads.{shape, mark, tens, weightRight, weight, amountRight, grams};
 ghost use Rattle.grammar.specs.Loads as loads;
-ghost use Rattle.elements.specs.Amounts.{amountIs, unitIs, fractionOf};
+ghost use Rattle.elements.specs.Amounts.{weightIs, amountIs, unitIs, fractionOf, Unsigned};
 
 // How many digits may stand before and behind the mark.
 pub struct Form {
@@ -17,8 +18,15 @@ pub struct Form {
     pub decimals: usize,
 }
 
-pub enum Amount {
+// The grams that digits and a mark give.
+pub enum Weight {
     Grams(u64),
+    Bad,
+}
+
+// So many grams without their sign, and whether they are below zero; 0 grams are not.
+pub enum Amount {
+    Grams(u64, bool),
     Bad,
 }
 
@@ -56,7 +64,7 @@ fn is_mark(b: u8) -> bool
 }
 
 // The grams of digits behind the mark: `v` are those before it; a digit that is not there counts as 0.
-fn fraction(x: &[u8], from: usize, release: u8, v: u64, decimals: usize) -> Amount
+fn fraction(x: &[u8], from: usize, release: u8, v: u64, decimals: usize) -> Weight
     requires { ⌜ (v < 1000000000000) × (decimals ≤ 6) ⌝ }
     ensures { λ r. ⌜ r ≡ fractionOf v decimals (content release (drop from (now (x .entry)))) ⌝ }
 {
@@ -67,13 +75,13 @@ fn fraction(x: &[u8], from: usize, release: u8, v: u64, decimals: usize) -> Amou
         match next_octet(x, i, release) {
             Next::Octet(b, j) => {
                 if b < 48 {
-                    return Amount::Bad;
+                    return Weight::Bad;
                 }
                 if 57 < b {
-                    return Amount::Bad;
+                    return Weight::Bad;
                 }
                 if decimals <= n {
-                    return Amount::Bad;
+                    return Weight::Bad;
                 }
                 g = g * 10 + (wide(b) - 48);
                 n += 1;
@@ -81,9 +89,9 @@ fn fraction(x: &[u8], from: usize, release: u8, v: u64, decimals: usize) -> Amou
             }
             Next::Over => {
                 if n == 0 {
-                    return Amount::Bad;
+                    return Weight::Bad;
                 }
-                return Amount::Grams(scaled(g, decimals - n));
+                return Weight::Grams(scaled(g, decimals - n));
             }
         }
     }
@@ -123,13 +131,13 @@ fn scaled(v: u64, zeros: usize) -> u64
     v * power(zeros)
 }
 
-// The grams that the content gives, where it is written right.
-pub fn amount_in(x: &[u8], release: u8, f: Form) -> Amount
+// The grams that the content from here gives, where it is digits, optionally a mark and digits.
+fn weight_from(x: &[u8], from: usize, release: u8, f: Form) -> Weight
     requires { ⌜ (f .whole ≤ 12) × (f .decimals ≤ 6) ⌝ }
     ensures { λ r. ⌜
-        r ≡ amountIs (amountRight (shape (f .whole) (f .decimals)) (content release (now (x .entry)))) (grams (shape (f .whole) (f .decimals)) (content release (now (x .entry)))) ⌝ }
+        r ≡ weightIs (weightRight (shape (f .whole) (f .decimals)) (content release (drop from (now (x .entry))))) (weight (shape (f .whole) (f .decimals)) (content release (drop from (now (x .entry))))) ⌝ }
 {
-    let mut i = 0;
+    let mut i = from;
     let mut n: usize = 0;
     let mut v: u64 = 0;
     loop {
@@ -137,18 +145,18 @@ pub fn amount_in(x: &[u8], release: u8, f: Form) -> Amount
             Next::Octet(b, j) => {
                 if is_mark(b) {
                     if n == 0 {
-                        return Amount::Bad;
+                        return Weight::Bad;
                     }
                     return fraction(x, j, release, v, f.decimals);
                 }
                 if b < 48 {
-                    return Amount::Bad;
+                    return Weight::Bad;
                 }
                 if 57 < b {
-                    return Amount::Bad;
+                    return Weight::Bad;
                 }
                 if f.whole <= n {
-                    return Amount::Bad;
+                    return Weight::Bad;
                 }
                 v = v * 10 + (wide(b) - 48);
                 n += 1;
@@ -156,10 +164,54 @@ pub fn amount_in(x: &[u8], release: u8, f: Form) -> Amount
             }
             Next::Over => {
                 if n == 0 {
-                    return Amount::Bad;
+                    return Weight::Bad;
                 }
-                return Amount::Grams(scaled(v, f.decimals));
+                return Weight::Grams(scaled(v, f.decimals));
             }
         }
+    }
+}
+
+// Where the content goes on behind a leading minus; 0 where none leads.
+fn behind_minus(x: &[u8], release: u8) -> usize
+    ensures { λ r. ⌜ Unsigned (content release (now (x .entry))) r (content release (drop r (now (x .entry)))) ⌝ }
+{
+    match next_octet(x, 0, release) {
+        Next::Octet(b, j) => {
+            if b == 45 {
+                return j;
+            }
+            0
+        }
+        Next::Over => 0,
+    }
+}
+
+// The grams behind a leading minus, of content that is not written right without one.
+fn reversed_in(x: &[u8], release: u8, f: Form) -> Amount
+    requires { ⌜ (f .whole ≤ 12) × (f .decimals ≤ 6) ⌝ }
+    requires { ⌜ weightRight (shape (f .whole) (f .decimals)) (content release (now x)) ≡ false ⌝ }
+    ensures { λ r. ⌜
+        r ≡ amountIs (amountRight (shape (f .whole) (f .decimals)) (content release (now (x .entry)))) (grams (shape (f .whole) (f .decimals)) (content release (now (x .entry)))) ⌝ }
+{
+    let from = behind_minus(x, release);
+    if from == 0 {
+        return Amount::Bad;
+    }
+    match weight_from(x, from, release, f) {
+        Weight::Grams(n) => Amount::Grams(n, 0 < n),
+        Weight::Bad => Amount::Bad,
+    }
+}
+
+// The grams that the content gives, where it is written right. Few amounts have a minus, so it is looked for where no digits lead.
+pub fn amount_in(x: &[u8], release: u8, f: Form) -> Amount
+    requires { ⌜ (f .whole ≤ 12) × (f .decimals ≤ 6) ⌝ }
+    ensures { λ r. ⌜
+        r ≡ amountIs (amountRight (shape (f .whole) (f .decimals)) (content release (now (x .entry)))) (grams (shape (f .whole) (f .decimals)) (content release (now (x .entry)))) ⌝ }
+{
+    match weight_from(x, 0, release, f) {
+        Weight::Grams(n) => Amount::Grams(n, false),
+        Weight::Bad => reversed_in(x, release, f),
     }
 }

@@ -464,7 +464,7 @@ fn control_formed(s: &[u8], at: usize, y: Syntax, marks: &[usize]) -> bool
     let v = y.service;
     match unit_in(field(s, at, y, marks, 1, 2), v.release, 12, 9) {
         Unit::Of(u) => match amount_in(field(s, at, y, marks, 1, 1), v.release, u) {
-            Amount::Grams(_) => true,
+            Amount::Grams(_, _) => true,
             Amount::Bad => false,
         },
         Unit::Unknown => false,

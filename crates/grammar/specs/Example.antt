@@ -4,11 +4,13 @@ use Prim.Native.String.{String}
 use mathlib.Core.List.{List, [], _∷_, _++_}
 use mathlib.Core.Bool.{Bool, _&&_}
 use lib.Dec.{T}
+use lib.IntN.{pos, negsuc}
 use lib.ListN.{take}
 use Rattle.syntax.specs.Octets.{octets, same}
 use Rattle.syntax.specs.Example.{P}
 use Rattle.syntax.specs.Repertoire.{inside}
-use Rattle.grammar.specs.Verdict.{verdictOf, totalsOf, numbers, totalNumbers}
+use Rattle.grammar.specs.Verdict.{Totals, verdictOf, totalsOf, numbers, totalNumbers, totalGrams}
+use Rattle.grammar.specs.Grams.{Grams, sameGrams}
 
 -- ---- document 01's examples as octets. What they come to is one table of the crate `demands`.
 
@@ -52,6 +54,10 @@ P9 =
 abbrev says : List ℕ → ℕ → ℕ → ℕ → Bool
 says s n p o = same (numbers (verdictOf s)) (n ∷ p ∷ o ∷ [])
 
+-- the numbers of totals, and their grams
+abbrev totals : Totals → List ℕ → Grams → Bool
+totals t n g = same (totalNumbers t) n && sameGrams (totalGrams t) g
+
 -- an interchange of version 4, UNOA, from its UNH on
 abbrev Q : String → List ℕ
 Q x = octets "UNB+UNOA:4+A+B+20240105:0700+R'" ++ octets x
@@ -71,7 +77,13 @@ pub rule-table : T (
     && says (Q "UNH+M+X'USH+1+A+1'FTX'UST+A+2'USR+1:0F'UNT+6+M'UNZ+1+R'") 10 70 7
     -- three decimals of a kilogram and six of a tonne are the same grams
     && says (Q "UNH+M+X'QTY+12:1,234:KGM'CNT+1:0.001234:TNE'UNT+4+M'UNZ+1+R'") 0 0 0
-    && same (totalNumbers (totalsOf (Q "UNH+M+X'QTY+12:1,234:KGM'UNT+3+M'UNZ+1+R'") (octets "M"))) (0 ∷ 0 ∷ 0 ∷ 1 ∷ 1234 ∷ [])
+    && totals (totalsOf (Q "UNH+M+X'QTY+12:1,234:KGM'UNT+3+M'UNZ+1+R'") (octets "M")) (0 ∷ 0 ∷ 0 ∷ 1 ∷ []) (pos 1234)
+    -- "one leading minus before the digits": 30 t tipped, and 30.001 t tipped back; minus zero is zero, and is a load
+    && totals (totalsOf (Q "UNH+M+X'QTY+12:30:TNE'QTY+12:-30001:KGM'CNT+1:-1:KGM'UNT+5+M'UNZ+1+R'") (octets "M")) (0 ∷ 0 ∷ 0 ∷ 2 ∷ []) (negsuc 999)
+    && totals (totalsOf (Q "UNH+M+X'QTY+12:-0:KGM'CNT+1:0:KGM'UNT+4+M'UNZ+1+R'") (octets "M")) (0 ∷ 0 ∷ 0 ∷ 1 ∷ []) (pos 0)
+    && says (Q "UNH+M+X'QTY+12:-1:KGM'CNT+1:1:KGM'UNT+4+M'UNZ+1+R'") 10 65 5
+    && says (Q "UNH+M+X'QTY+12:--1:KGM'UNT+3+M'UNZ+1+R'") 12 39 3
+    && says (Q "UNH+M+X'CNT+1:+1:KGM'UNT+3+M'UNZ+1+R'") 8 39 3
     -- a CNT that is not the message's load total
     && says (Q "UNH+M+X'QTY+12:1:KGM'CNT+1:2:KGM'UNT+4+M'UNZ+1+R'") 10 64 5
     -- AUTACK: good; another scope; a USY that names no header
@@ -87,7 +99,7 @@ pub rule-table : T (
     && says (Q "UNH+M+AUTACK::::EAN001'USH+1+A+3'USC+C'USB+1'USX+R+++++N'USY+A+1:0F'UST+A+3'UNT+8+M'UNZ+1+R'") 8 76 6
     && says (Q "UNH+M+AUTACK::::EAN001'USH+1+A+F01'USC+C'USB+1'USX+R++++++N'USY+A+1:0F'UST+A+3'UNT+8+M'UNZ+1+R'") 11 54 3
     -- totals of no such message
-    && same (totalNumbers (totalsOf (Q "UNH+M+X'UNT+2+M'UNZ+1+R'") (octets "N"))) (13 ∷ 0 ∷ 0 ∷ 0 ∷ 0 ∷ [])
+    && same (totalNumbers (totalsOf (Q "UNH+M+X'UNT+2+M'UNZ+1+R'") (octets "N"))) (13 ∷ 0 ∷ 0 ∷ 0 ∷ [])
     )
 unfolding inside
 rule-table = tt

@@ -17,6 +17,8 @@ pub mod ExampleTree
 -- a run over segments, as the proofs see it
 pub mod Running
 pub mod Going
+-- a sum of signed grams, as the code keeps it
+pub mod Weighed
 -- what is proved
 pub mod TestLaws
 pub mod SnocLaws
@@ -29,3 +31,4 @@ pub mod WalkLaws
 pub mod StartLaws
 pub mod VerdictLaws
 pub mod PairLaws
+pub mod WeighedLaws

@@ -9,10 +9,20 @@ use Rattle.syntax.specs.Octets.{octet, octets, same, within}
 use Rattle.syntax.specs.Content.{allDigits, valueFrom}
 use Rattle.syntax.specs.Tree.{Segment}
 use Rattle.grammar.specs.Lists.{Snoc, nil, _▷_}
-use Rattle.grammar.specs.Grams.{Grams}
+use Rattle.grammar.specs.Grams.{Grams, signed}
 use Rattle.grammar.specs.Segments.{Asked, asked}
 
--- ---- amounts: digits, optionally a mark and digits; "comma and full stop both serve", "No sign"
+-- ---- amounts: "one leading minus before the digits", digits, optionally a mark and digits; "comma and full stop both serve"
+
+-- whether a minus leads
+abbrev pub reversed : List ℕ → Bool
+reversed [] = false
+reversed (b ∷ s) = eqb b (octet "-")
+
+-- what stands behind the minus, or all where there is none
+abbrev pub unsigned : List ℕ → List ℕ
+unsigned [] = []
+unsigned (b ∷ s) = cond (eqb b (octet "-")) s (b ∷ s)
 
 abbrev pub mark : ℕ → Bool
 mark b = eqb b (octet ",") || eqb b (octet ".")
@@ -41,16 +51,24 @@ abbrev pub fractionRight : ℕ → Option (List ℕ) → Bool
 fractionRight n none = true
 fractionRight n (some f) = digits n f
 
+abbrev pub weightRight : Shape → List ℕ → Bool
+weightRight (shape w d) s = digits w (before s) && fractionRight d (behind s)
+
+-- with a minus or without: nothing else may lead, and no second one
 abbrev pub amountRight : Shape → List ℕ → Bool
-amountRight (shape w d) s = digits w (before s) && fractionRight d (behind s)
+amountRight u s = weightRight u (unsigned s)
 
 abbrev pub fraction : ℕ → Option (List ℕ) → ℕ
 fraction d none = 0
 fraction d (some f) = valueFrom 0 f * tens (d - length f)
 
 -- the digits before the mark, and those behind it, as whole grams: never through a float
+abbrev pub weight : Shape → List ℕ → ℕ
+weight (shape w d) s = valueFrom 0 (before s) * tens d + fraction d (behind s)
+
+-- "A truck that tips back gets a second ticket with a minus sign."
 abbrev pub grams : Shape → List ℕ → Grams
-grams (shape w d) s = valueFrom 0 (before s) * tens d + fraction d (behind s)
+grams u s = signed (reversed s) (weight u (unsigned s))
 
 -- the shape that a unit gives
 abbrev pub unit : List ℕ → Shape → Shape → Option Shape

@@ -19,7 +19,7 @@ use Rattle.syntax.specs.declared.opening.Start.{Start}
 use Rattle.syntax.specs.declared.opening.Begun.{Begun}
 use Rattle.syntax.specs.declared.opening.Begun.the-variants.{Ready, Refused}
 use Rattle.grammar.specs.Lists.{Snoc, nil, _▷_, size, Rule, check}
-use Rattle.grammar.specs.Grams.{Grams, sum}
+use Rattle.grammar.specs.Grams.{Grams, noGrams, sum}
 use Rattle.grammar.specs.Interchange.{Body, plain, ack, Open, msg, Message, message, Reading, start, idle, busy, done}
 use Rattle.grammar.specs.Rules.{insideS, order, formedS, subsets, refs, counts, scopes, amountS, refM}
 use Rattle.grammar.specs.Loads.{loads}
@@ -157,5 +157,10 @@ numbers (accepted t) = 0 ∷ 0 ∷ 0 ∷ []
 numbers (refusedWith f) = f .number ∷ f .place ∷ f .segment ∷ []
 
 abbrev pub totalNumbers : Totals → List ℕ
-totalNumbers (totalled n g) = 0 ∷ 0 ∷ 0 ∷ n ∷ g ∷ []
-totalNumbers (refusedTotals f) = f .number ∷ f .place ∷ f .segment ∷ 0 ∷ 0 ∷ []
+totalNumbers (totalled n g) = 0 ∷ 0 ∷ 0 ∷ n ∷ []
+totalNumbers (refusedTotals f) = f .number ∷ f .place ∷ f .segment ∷ 0 ∷ []
+
+-- and the grams
+abbrev pub totalGrams : Totals → Grams
+totalGrams (totalled n g) = g
+totalGrams (refusedTotals f) = noGrams

@@ -1,4 +1,5 @@
--- The exported answers: the fields of each struct, in their order. The paper's number and place and the ordinal of the segment come first, then the call's own numbers.
+-- The exported answers: the fields of each struct, in their order. The paper's number and place and the ordinal of the segment come first, then the call's own numbers. The grams of
+-- `Loads`, which may be below zero, are told beside these.
 use Prim.Native.Nat.{ℕ}
 use mathlib.Core.List.{List, [], _∷_}
 use mathlib.Core.Path.{_≡_}
@@ -13,7 +14,7 @@ abbrev pub answerFields : Answer → List ℕ
 answerFields r = r .number ∷ r .place ∷ r .segment ∷ []
 
 abbrev pub totalsFields : Loads → List ℕ
-totalsFields r = r .number ∷ r .place ∷ r .segment ∷ r .loads ∷ r .grams ∷ []
+totalsFields r = r .number ∷ r .place ∷ r .segment ∷ r .loads ∷ []
 
 abbrev pub partsFields : Parts → List ℕ
 partsFields r = r .number ∷ r .place ∷ r .segment ∷ r .«header_start» ∷ r .«header_end» ∷ r .«body_start» ∷ r .«body_end» ∷ []

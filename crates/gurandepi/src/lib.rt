@@ -3,9 +3,11 @@
 // the refusal, 0 for none, its place, the ordinal of the segment there, then the call's own. Any octets of any length are allowed everywhere; no call keeps
 // anything.
 ghost use mathlib.Core.Path.{_≡_};
-ghost use Rattle.grammar.specs.Verdict.{verdictOf, numbers, totalsOf, totalNumbers};
+ghost use Prim.Native.Nat.{_<_};
+ghost use Rattle.grammar.specs.Grams.{signed};
+ghost use Rattle.grammar.specs.Verdict.{verdictOf, numbers, totalsOf, totalNumbers, totalGrams};
 ghost use Rattle.judge.specs.Told.{toldVerdict};
-ghost use Rattle.judge.specs.Totals.{toldTotals};
+ghost use Rattle.judge.specs.Totals.{toldTotals, toldGrams, Light};
 ghost use Rattle.ranges.specs.Ranges.{scope1Of, scope2Of};
 ghost use Rattle.f01.specs.F01.{f01Of};
 ghost use Rattle.scope3.specs.Scope3.{scope3Of};
@@ -14,7 +16,7 @@ ghost use Rattle.writing.specs.Written.{toldWritten};
 ghost use Rattle.values.specs.Values.{valueOf};
 ghost use Rattle.sealing.specs.Sealing.{sealOctetsOf, sealOf};
 ghost use Rattle.register.specs.Register.{registerOf, checkNumbers, toldCheck};
-ghost use Rattle.forms.specs.declared.Form.the-variants.{Old, Small};
+ghost use Rattle.forms.specs.declared.Form.the-variants.{Old, Small, Signed};
 ghost use Rattle.moves.specs.Stored.{moveOf};
 ghost use Rattle.gurandepi.specs.Answers.{answerFields, totalsFields, partsFields, rangeFields, Gives, writtenFields};
 use f01::f01_places;
@@ -48,7 +50,7 @@ pub struct Loads {
     pub place: u64,
     pub segment: u64,
     pub loads: u64,
-    pub grams: u64,
+    pub grams: i64,
 }
 
 #[repr(C)]
@@ -97,17 +99,34 @@ fn verdict_answer(v: Verdict) -> Answer
     }
 }
 
+// So many grams, behind a minus or not.
+fn signed_grams(grams: u64, below: bool) -> i64
+    requires { ⌜ grams < 9223372036854775808 ⌝ }
+    ensures { λ r. ⌜ r ≡ signed below grams ⌝ }
+{
+    let z = grams as i64;
+    if below {
+        return -z;
+    }
+    z
+}
+
 fn totals_answer(t: judge::totals::Totals) -> Loads
+    requires { ⌜ Light t ⌝ }
     ensures { λ r. ⌜ totalsFields r ≡ toldTotals t ⌝ }
+    ensures { λ r. ⌜ r .grams ≡ toldGrams t ⌝ }
 {
     match t {
-        judge::totals::Totals::Of(x) => Loads {
-            number: 0,
-            place: 0,
-            segment: 0,
-            loads: x.loads as u64,
-            grams: x.grams,
-        },
+        judge::totals::Totals::Of(x) => {
+            let z = signed_grams(x.grams, x.below);
+            Loads {
+                number: 0,
+                place: 0,
+                segment: 0,
+                loads: x.loads as u64,
+                grams: z,
+            }
+        }
         judge::totals::Totals::Refused(f) => Loads {
             number: f.number as u64,
             place: f.place as u64,
@@ -212,6 +231,7 @@ pub extern "C" fn gurandepi_judge(interchange: &[u8]) -> Answer
 #[no_mangle]
 pub extern "C" fn gurandepi_totals(interchange: &[u8], message: &[u8]) -> Loads
     ensures { λ r. ⌜ totalsFields r ≡ totalNumbers (totalsOf (now (interchange .entry)) (now (message .entry))) ⌝ }
+    ensures { λ r. ⌜ r .grams ≡ totalGrams (totalsOf (now (interchange .entry)) (now (message .entry))) ⌝ }
 {
     totals_answer(message_totals(interchange, message))
 }
@@ -308,39 +328,62 @@ pub extern "C" fn gurandepi_register_write(interchange: &[u8], out: &mut [u8]) -
     written_answer(register_write(interchange, Form::Old, out))
 }
 
-// The same in the smaller form.
+// The same in the form with signed grams.
 #[no_mangle]
-pub extern "C" fn gurandepi_register_write_small(interchange: &[u8], out: &mut [u8]) -> Written
-    ensures { λ r. ⌜ Gives (registerOf Small (now (interchange .entry))) (now (out .entry)) r (now (out .exit)) ⌝ }
+pub extern "C" fn gurandepi_register_write_signed(interchange: &[u8], out: &mut [u8]) -> Written
+    ensures { λ r. ⌜ Gives (registerOf Signed (now (interchange .entry))) (now (out .entry)) r (now (out .exit)) ⌝ }
 {
-    written_answer(register_write(interchange, Form::Small, out))
+    written_answer(register_write(interchange, Form::Signed, out))
 }
 
 // Whether `kept` is the register of the interchange in the old form.
 #[no_mangle]
 pub extern "C" fn gurandepi_register_check(interchange: &[u8], kept: &[u8]) -> Answer
-    ensures { λ r. ⌜ answerFields r ≡ checkNumbers (registerOf Old (now (interchange .entry))) (now (kept .entry)) ⌝ }
+    ensures { λ r. ⌜ answerFields r ≡ checkNumbers Old (now (interchange .entry)) (now (kept .entry)) ⌝ }
 {
     checked_answer(register_check(interchange, Form::Old, kept))
 }
 
-// The same in the smaller form.
+// The same in the smaller form, which is only read.
 #[no_mangle]
 pub extern "C" fn gurandepi_register_check_small(interchange: &[u8], kept: &[u8]) -> Answer
-    ensures { λ r. ⌜ answerFields r ≡ checkNumbers (registerOf Small (now (interchange .entry))) (now (kept .entry)) ⌝ }
+    ensures { λ r. ⌜ answerFields r ≡ checkNumbers Small (now (interchange .entry)) (now (kept .entry)) ⌝ }
 {
     checked_answer(register_check(interchange, Form::Small, kept))
 }
 
-// A stored register of the old form in the smaller one, into `out`.
+// The same in the form with signed grams.
 #[no_mangle]
-pub extern "C" fn gurandepi_register_old_to_small(stored: &[u8], out: &mut [u8]) -> Written
-    ensures { λ r. ⌜ Gives (moveOf Old Small (now (stored .entry))) (now (out .entry)) r (now (out .exit)) ⌝ }
+pub extern "C" fn gurandepi_register_check_signed(interchange: &[u8], kept: &[u8]) -> Answer
+    ensures { λ r. ⌜ answerFields r ≡ checkNumbers Signed (now (interchange .entry)) (now (kept .entry)) ⌝ }
 {
-    written_answer(register_move(stored, Form::Old, Form::Small, out))
+    checked_answer(register_check(interchange, Form::Signed, kept))
+}
+
+// A stored register of the old form in that with signed grams, into `out`.
+#[no_mangle]
+pub extern "C" fn gurandepi_register_old_to_signed(stored: &[u8], out: &mut [u8]) -> Written
+    ensures { λ r. ⌜ Gives (moveOf Old Signed (now (stored .entry))) (now (out .entry)) r (now (out .exit)) ⌝ }
+{
+    written_answer(register_move(stored, Form::Old, Form::Signed, out))
 }
 
 // And back.
+#[no_mangle]
+pub extern "C" fn gurandepi_register_signed_to_old(stored: &[u8], out: &mut [u8]) -> Written
+    ensures { λ r. ⌜ Gives (moveOf Signed Old (now (stored .entry))) (now (out .entry)) r (now (out .exit)) ⌝ }
+{
+    written_answer(register_move(stored, Form::Signed, Form::Old, out))
+}
+
+// One of the smaller form in either.
+#[no_mangle]
+pub extern "C" fn gurandepi_register_small_to_signed(stored: &[u8], out: &mut [u8]) -> Written
+    ensures { λ r. ⌜ Gives (moveOf Small Signed (now (stored .entry))) (now (out .entry)) r (now (out .exit)) ⌝ }
+{
+    written_answer(register_move(stored, Form::Small, Form::Signed, out))
+}
+
 #[no_mangle]
 pub extern "C" fn gurandepi_register_small_to_old(stored: &[u8], out: &mut [u8]) -> Written
     ensures { λ r. ⌜ Gives (moveOf Small Old (now (stored .entry))) (now (out .entry)) r (now (out .exit)) ⌝ }

@@ -1,7 +1,7 @@
-// The loads of a message, and their grams.
+// The loads of a message, and their grams: so many, and whether below zero.
 ghost use mathlib.Core.Path.{_≡_};
-ghost use Rattle.grammar.specs.Verdict.{totalsOf, totalNumbers};
-ghost use Rattle.judge.specs.Totals.{totalsAs, toldTotals, totalledBy};
+ghost use Rattle.grammar.specs.Verdict.{totalsOf, totalNumbers, totalGrams};
+ghost use Rattle.judge.specs.Totals.{totalsAs, toldTotals, toldGrams, totalledBy, Light};
 use beginning::begin;
 use finding::Found;
 use finding::find;
@@ -13,6 +13,7 @@ use syntax::repertoire::table;
 pub struct Loads {
     pub loads: usize,
     pub grams: u64,
+    pub below: bool,
 }
 
 pub enum Totals {
@@ -27,6 +28,7 @@ fn totalled(s: &[u8], f: Found) -> Totals
         Found::Message(c) => Totals::Of(Loads {
             loads: c.loads,
             grams: c.grams,
+            below: c.below,
         }),
         Found::Missing => Totals::Refused(Refusal {
             number: 13,
@@ -41,6 +43,8 @@ fn totalled(s: &[u8], f: Found) -> Totals
 pub fn message_totals(s: &[u8], reference: &[u8]) -> Totals
     ensures { λ r. ⌜ r ≡ totalsAs (totalsOf (now (s .entry)) (now (reference .entry))) ⌝ }
     ensures { λ r. ⌜ toldTotals r ≡ totalNumbers (totalsOf (now (s .entry)) (now (reference .entry))) ⌝ }
+    ensures { λ r. ⌜ toldGrams r ≡ totalGrams (totalsOf (now (s .entry)) (now (reference .entry))) ⌝ }
+    ensures { λ r. ⌜ Light r ⌝ }
 {
     match begin(s) {
         Begun::Refused(f) => Totals::Refused(refusal(s, f)),

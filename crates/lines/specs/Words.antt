@@ -1,9 +1,10 @@
 -- The lines of the report: the words of each, as "The report program reads standard input" shows them.
 use Prim.Native.Nat.{ℕ}
-use mathlib.Core.Bool.{cond}
+use mathlib.Core.Bool.{Bool, true, false, cond}
 use mathlib.Core.List.{List, [], _∷_}
 use Rattle.syntax.specs.Octets.{octets, same}
 use Rattle.syntax.specs.declared.Refusal.{Refusal}
+use Rattle.grammar.specs.Grams.{Grams, below, magnitude}
 use Rattle.writing.specs.Decimal.{decimalOf}
 use Rattle.writing.specs.Laid.{together}
 
@@ -22,11 +23,19 @@ acceptedLine reference = together (octets "accepted " ∷ reference ∷ feed ∷
 abbrev pub messageWords : List ℕ → List ℕ → List ℕ
 messageWords reference type = together (octets "message " ∷ reference ∷ octets " " ∷ type ∷ [])
 
-abbrev pub loadsWords : ℕ → ℕ → List ℕ
-loadsWords loads grams = together (octets " loads " ∷ decimalOf loads ∷ octets " grams " ∷ decimalOf grams ∷ feed ∷ [])
+-- "the report prints the sign"
+abbrev pub signWords : Bool → List ℕ
+signWords true = octets "-"
+signWords false = []
 
-abbrev pub messageLine : List ℕ → List ℕ → ℕ → ℕ → List ℕ
-messageLine reference type loads grams = together (messageWords reference type ∷ loadsWords loads grams ∷ [])
+abbrev pub loadsWords : ℕ → Bool → ℕ → List ℕ
+loadsWords loads minus grams = together (octets " loads " ∷ decimalOf loads ∷ octets " grams " ∷ signWords minus ∷ decimalOf grams ∷ feed ∷ [])
+
+abbrev pub lineWords : List ℕ → List ℕ → ℕ → Bool → ℕ → List ℕ
+lineWords reference type loads minus grams = together (messageWords reference type ∷ loadsWords loads minus grams ∷ [])
+
+abbrev pub messageLine : List ℕ → List ℕ → ℕ → Grams → List ℕ
+messageLine reference type loads grams = lineWords reference type loads (below grams) (magnitude grams)
 
 abbrev pub sealWords : List ℕ → List ℕ → List ℕ
 sealWords reference scope = together (octets "seal " ∷ reference ∷ octets " scope " ∷ scope ∷ [])

@@ -7,7 +7,7 @@ ghost use lib.ListN.{length};
 ghost use Rattle.syntax.specs.Classes.{Table};
 ghost use Rattle.groups.specs.Groups.{nameAt};
 ghost use Rattle.writing.specs.Laid.{Laid};
-ghost use Rattle.lines.specs.Words.{refusalLine, acceptedLine, messageWords, loadsWords, messageLine};
+ghost use Rattle.lines.specs.Words.{refusalLine, acceptedLine, messageWords, signWords, loadsWords, lineWords};
 use crate::words::put_name;
 use syntax::Refusal;
 use syntax::Syntax;
@@ -52,17 +52,30 @@ fn put_message(out: &mut [u8], at: usize, s: &[u8], t: &[u8; 256], y: Syntax, un
     put_name(&mut *out, c, s, unh, t, y, 2)
 }
 
+// A minus before what is below zero.
+fn put_sign(out: &mut [u8], at: usize, below: bool) -> usize
+    requires { ⌜ at + 1 < 18446744073709551616 ⌝ }
+    ensures { λ r. ⌜ Laid (now (out .entry)) at (signWords below) r (now (out .exit)) ⌝ }
+    ensures { λ r. ⌜ r ≤ at + 1 ⌝ }
+{
+    if below {
+        return put(&mut *out, at, b"-");
+    }
+    at
+}
+
 // " loads 2 grams 57340000", and the end of the line.
-fn put_loads(out: &mut [u8], at: usize, loads: usize, grams: u64) -> usize
+fn put_loads(out: &mut [u8], at: usize, loads: usize, grams: u64, below: bool) -> usize
     requires { ⌜ at + 100 < 18446744073709551616 ⌝ }
-    ensures { λ r. ⌜ Laid (now (out .entry)) at (loadsWords loads grams) r (now (out .exit)) ⌝ }
+    ensures { λ r. ⌜ Laid (now (out .entry)) at (loadsWords loads below grams) r (now (out .exit)) ⌝ }
     ensures { λ r. ⌜ r ≤ at + 100 ⌝ }
 {
     let a = put(&mut *out, at, b" loads ");
     let b = put_number(&mut *out, a, loads as u64);
     let c = put(&mut *out, b, b" grams ");
-    let d = put_number(&mut *out, c, grams);
-    put(&mut *out, d, b"\n")
+    let d = put_sign(&mut *out, c, below);
+    let e = put_number(&mut *out, d, grams);
+    put(&mut *out, e, b"\n")
 }
 
 pub fn message_line(
@@ -74,12 +87,13 @@ pub fn message_line(
     unh: usize,
     loads: usize,
     grams: u64,
+    below: bool,
 ) -> usize
     requires { ⌜ Table y (now t) ⌝ }
     requires { ⌜ (length (now s) ≤ 65535) × (at + 131200 < 18446744073709551616) ⌝ }
-    ensures { λ r. ⌜ Laid (now (out .entry)) at (messageLine (nameAt (y .service) (now (s .entry)) unh 1) (nameAt (y .service) (now (s .entry)) unh 2) loads grams) r (now (out .exit)) ⌝ }
+    ensures { λ r. ⌜ Laid (now (out .entry)) at (lineWords (nameAt (y .service) (now (s .entry)) unh 1) (nameAt (y .service) (now (s .entry)) unh 2) loads below grams) r (now (out .exit)) ⌝ }
     ensures { λ r. ⌜ r ≤ at + 131200 ⌝ }
 {
     let a = put_message(&mut *out, at, s, t, y, unh);
-    put_loads(&mut *out, a, loads, grams)
+    put_loads(&mut *out, a, loads, grams, below)
 }

@@ -16,7 +16,7 @@ use Rattle.groups.specs.Groups.{nameAt}
 use Rattle.writing.specs.Laid.{Laid}
 use Rattle.writing.specs.declared.Written.{Written}
 use Rattle.writing.specs.declared.Written.the-variants.{Length, Refused}
-use Rattle.lines.specs.Words.{messageLine}
+use Rattle.lines.specs.Words.{lineWords}
 use Rattle.lines.specs.Seals.{sealsAt}
 use Rattle.listing.specs.Listing.{messagesOf, acceptedOf}
 
@@ -24,7 +24,7 @@ use Rattle.listing.specs.Listing.{messagesOf, acceptedOf}
 abbrev pub sectionAt : Service → List ℕ → List ℕ → Layout → Bool → List ℕ
 sectionAt σ s rows c false = []
 sectionAt σ s rows c true =
-    messageLine (nameAt σ s (c .unh) 1) (nameAt σ s (c .unh) 2) (c .loads) (c .grams) ++ sealsAt σ s rows c (c .headers) (c .body)
+    lineWords (nameAt σ s (c .unh) 1) (nameAt σ s (c .unh) 2) (c .loads) (c .below) (c .grams) ++ sealsAt σ s rows c (c .headers) (c .body)
 
 -- ---- all lines of what was read so far
 

@@ -32,7 +32,7 @@ use Rattle.groups.specs.Groups.{Chosen, chosen, nameAt, refNameAt, soughtIn, ra
 use Rattle.groups.specs.GroupsLaws.{header-named, header-written, header-scope}
 use Rattle.groups.specs.Parts.{trailerNamed, scopeH}
 use Rattle.groups.specs.PartsLaws.{headers-stand, trailer-sought}
-use Rattle.lines.specs.Words.{messageLine, sealLine}
+use Rattle.lines.specs.Words.{lineWords, messageLine, sealLine}
 use Rattle.listing.specs.Listing.{writtenO, writtenH, typeO, toTrailer, sealLineOf, sealsOf, messageOf}
 use Rattle.lines.specs.Seals.{Near, upTo, oneAt, twoAt, sealAt, sealsAt}
 use Rattle.listing.specs.Laying.{sectionAt}
@@ -151,8 +151,8 @@ module _ (σ : Service) (fits : T (fit σ)) (s : List ℕ) (q : ℕ) (h : Leaf) 
 
   lines-so : sectionAt σ s rows c true ≡ messageOf σ q (message o t)
   lines-so =
-      let m : messageLine (nameAt σ s (c .unh) 1) (nameAt σ s (c .unh) 2) (c .loads) (c .grams) ≡ messageLine (writtenO o) (typeO o) (size (loadsM (message o t))) (sum (loadsM (message o t))) =
-      rw (unh-named 0, unh-named 1, l .loads, l .grams) in
+      let m : lineWords (nameAt σ s (c .unh) 1) (nameAt σ s (c .unh) 2) (c .loads) (c .below) (c .grams) ≡ messageLine (writtenO o) (typeO o) (size (loadsM (message o t))) (sum (loadsM (message o t))) =
+      rw (unh-named 0, unh-named 1, l .loads, l .below, l .grams) in
       let n : sealsAt σ s rows c (c .headers) (c .body) ≡ sealsOf σ q o hs =
       ap (λ (n : ℕ). sealsAt σ s rows c n (c .body)) (l .headers) ∙ seals-so hs (c .body) (l .starts .heads) (l .body) (headers-stand σ s q h hs b ts t w) in
       ap (λ (v : List ℕ). v ++ sealsAt σ s rows c (c .headers) (c .body)) m

@@ -43,7 +43,7 @@ use Rattle.writing.specs.Written.{refusedAs, toldWritten}
 use Rattle.writing.specs.WrittenLaws.{told-by}
 use Rattle.writing.specs.declared.Written.{Written}
 use Rattle.writing.specs.declared.Written.the-variants.{Length, Refused}
-use Rattle.lines.specs.Words.{acceptedLine, refusalLine, messageLine}
+use Rattle.lines.specs.Words.{acceptedLine, refusalLine, lineWords}
 use Rattle.listing.specs.Listing.{messageOf, acceptedOf, listingBy, listingOf, listedAs, leftIn, Lists}
 use Rattle.lines.specs.Seals.{Near, sealsAt}
 use Rattle.listing.specs.Laying.{sectionAt, messagesRead, LaysAll}
@@ -52,7 +52,7 @@ use Rattle.listing.specs.LayingLaws.{near-laid, section-lines}
 -- ---- the lines of a section
 
 module _ (σ : Service) (s rows : List ℕ) (c : Layout) {d : Bool} {out : List ℕ} {at : ℕ} where
-  pub section-closed : {p : ℕ} {out₁ : List ℕ} {r : ℕ} {out′ : List ℕ} → d ≡ true → Laid out at (messageLine (nameAt σ s (c .unh) 1) (nameAt σ s (c .unh) 2) (c .loads) (c .grams)) p out₁
+  pub section-closed : {p : ℕ} {out₁ : List ℕ} {r : ℕ} {out′ : List ℕ} → d ≡ true → Laid out at (lineWords (nameAt σ s (c .unh) 1) (nameAt σ s (c .unh) 2) (c .loads) (c .below) (c .grams)) p out₁
       → Laid out₁ p (sealsAt σ s rows c (c .headers) (c .body)) r out′ → Laid out at (sectionAt σ s rows c d) r out′
   section-closed e g h = laid-same (ap (sectionAt σ s rows c) (sym e)) (laid-more g h)
 

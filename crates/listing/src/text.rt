@@ -48,7 +48,7 @@ fn put_section(
     ensures { λ r. ⌜ r ≤ at + 1312000 ⌝ }
 {
     if closed {
-        let a = message_line(&mut *out, at, s, t, y, c.unh, c.loads, c.grams);
+        let a = message_line(&mut *out, at, s, t, y, c.unh, c.loads, c.grams, c.below);
         return seal_lines(&mut *out, a, s, t, y, rows, c);
     }
     at

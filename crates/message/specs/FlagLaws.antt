@@ -1,11 +1,13 @@
 -- Facts on what the code keeps of a list: the sums, the pairs, and the header that a trailer names.
-use Prim.Native.Nat.{ℕ, _<_}
+use Prim.Native.Nat.{ℕ, suc, _+_, _-_, _<_}
 use native.Mathlib.Omega.{arith}
 use mathlib.Core.Bool.{Bool, true, false, cond, not, _&&_, _||_, and-true, and-false, false≢true}
 use mathlib.Core.List.{List}
 use mathlib.Core.Option.{Option, none, some}
 use mathlib.Core.Path.{_≡_, refl, ap, _∙_, sym}
-use lib.Dec.{eqb, ltb, eqb→eq, eqb-refl, leb·zero, leb·suc-suc}
+use borrow.Author.Tests.{eq-eqb, ne-eqb, eqb-true, ltb-true, ltb-false}
+use lib.Dec.{eqb, ltb, eqb→eq, eqb-refl, eqb·suc-suc, leb·zero, leb·suc-suc}
+use lib.IntN.{pos, negsuc, subℕ}
 use Rattle.syntax.specs.Octets.{same}
 use Rattle.syntax.specs.TreeLaws.{off}
 use Rattle.syntax.specs.ContentLaws.{same-self}
@@ -13,7 +15,11 @@ use Rattle.grammar.specs.Lists.{Snoc, nil, _▷_, each, size, any, among, Rule,
 use Rattle.grammar.specs.TestLaws.{is-true, passes}
 use Rattle.grammar.specs.ListsLaws.{each-size}
 use Rattle.grammar.specs.Interchange.{Header, Body, plain, ack, Trailer, trailer}
-use Rattle.grammar.specs.Loads.{controls, put}
+use Rattle.grammar.specs.Grams as grams
+use Rattle.grammar.specs.Grams.{Grams, sameGrams, magnitude, sum}
+use Rattle.grammar.specs.Weighed.{forward, back}
+use Rattle.grammar.specs.WeighedLaws.{sum-is}
+use Rattle.grammar.specs.Loads.{loads, controls, put}
 use Rattle.syntax.specs.Opening.{earlier}
 use Rattle.syntax.specs.declared.Version.{Version}
 use Rattle.grammar.specs.Rules.{refH, sizeAt, counted, paired, one, total}
@@ -57,35 +63,77 @@ below f s i h = rw (each-size f s) (by (eqb i (size s)) refl)
     by true e = let k = eqb→eq i (size s) (passes (eqb i (size s)) e) in absurd (omega (arith, h, k))
     by false e = e
 
+-- ---- grams: equal in magnitude and sign
+
+pub alike-eqb : (a b c d : ℕ) → (a ≡ b → c ≡ d) → (c ≡ d → a ≡ b) → eqb a b ≡ eqb c d
+alike-eqb a b c d f g = same-bool (eqb a b) (eqb c d) (λ e. eq-eqb c d (f (eqb-true a b e))) (λ e. eq-eqb a b (g (eqb-true c d e)))
+
+same-parts : (a b : Grams) → sameGrams a b ≡ (eqb (magnitude a) (magnitude b) && cond (grams.below a) (grams.below b) (not (grams.below b)))
+same-parts (pos a) (pos b) = sym (and-true (eqb a b))
+same-parts (pos a) (negsuc b) = sym (and-false (eqb a (suc b)))
+same-parts (negsuc a) (pos b) = sym (and-false (eqb (suc a) b))
+same-parts (negsuc a) (negsuc b) = sym (eqb·suc-suc a b) ∙ sym (and-true (eqb (suc a) (suc b)))
+
+same-grams : (a : Grams) → sameGrams a a ≡ true
+same-grams (pos n) = is-true (eqb n n) (eqb-refl n)
+same-grams (negsuc n) = is-true (eqb n n) (eqb-refl n)
+
+grams-eq : (a b : Grams) → sameGrams a b ≡ true → a ≡ b
+grams-eq (pos a) (pos b) e = ap pos (eqb-true a b e)
+grams-eq (pos a) (negsuc b) e = absurd (false≢true e)
+grams-eq (negsuc a) (pos b) e = absurd (false≢true e)
+grams-eq (negsuc a) (negsuc b) e = ap negsuc (eqb-true a b e)
+
+-- z is a less b
+same-sub : (z : Grams) (a b : ℕ) → sameGrams z (subℕ a b) ≡ cond (grams.below z) (eqb b (a + magnitude z)) (eqb a (b + magnitude z))
+same-sub (pos n) a b = by (ltb a b) refl
+  where
+    by : (t : Bool) → ltb a b ≡ t → sameGrams (pos n) (cond t (negsuc (b - suc a)) (pos (a - b))) ≡ eqb a (b + n)
+    by true e = let k = ltb-true a b e in sym (ne-eqb a (b + n) (λ h. omega arith))
+    by false e = let k = ltb-false a b e in alike-eqb n (a - b) a (b + n) (λ h. omega arith) (λ h. omega arith)
+same-sub (negsuc n) a b = by (ltb a b) refl
+  where
+    by : (t : Bool) → ltb a b ≡ t → sameGrams (negsuc n) (cond t (negsuc (b - suc a)) (pos (a - b))) ≡ eqb b (a + suc n)
+    by true e = let k = ltb-true a b e in alike-eqb n (b - suc a) b (a + suc n) (λ h. omega arith) (λ h. omega arith)
+    by false e = let k = ltb-false a b e in sym (ne-eqb b (a + suc n) (λ h. omega arith))
+
+same-sum : (z : Grams) (s : Snoc Grams) → sameGrams z (sum s) ≡ cond (grams.below z) (eqb (back s) (forward s + magnitude z)) (eqb (forward s) (back s + magnitude z))
+same-sum z s = ap (sameGrams z) (sum-is s) ∙ same-sub z (forward s) (back s)
+
 -- ---- sums
 
-pub load-sums : (s c : Snoc ℕ) (o : Option ℕ) → sumsIn (put s o) c ≡ loaded (sumsIn s c) o
+pub load-sums : (s c : Snoc Grams) (o : Option Grams) → sumsIn (put s o) c ≡ loaded (sumsIn s c) o
 load-sums s c none = refl
 load-sums s c (some n) = refl
 
-pub control-sums : (s c : Snoc ℕ) (o : Option ℕ) → sumsIn s (put c o) ≡ controlled (sumsIn s c) o
+pub control-sums : (s c : Snoc Grams) (o : Option Grams) → sumsIn s (put c o) ≡ controlled (sumsIn s c) o
 control-sums s c none = refl
 control-sums s nil (some n) = first
   where
     first : sumsIn s (nil ▷ n) ≡ controlledBy false (sumsIn s nil) n
-    first = rw (is-true (eqb n n) (eqb-refl n))
-control-sums s (c ▷ m) (some n) = refl
+    first = rw (same-grams n)
+control-sums s (c ▷ m) (some n) = next
+  where
+    next : sumsIn s (c ▷ m ▷ n) ≡ controlledBy true (sumsIn s (c ▷ m)) n
+    next = rw (same-parts n (firstIn (c ▷ m)))
 
 -- all equal to s: the first is, and all are equal to it
-all-first : (s : ℕ) (c : Snoc ℕ) → check (every (λ (n : ℕ). test (eqb n s)) c) ≡ (agreeIn c && (not (any c) || eqb (firstIn c) s))
+all-first : (s : Grams) (c : Snoc Grams) → check (every (λ (n : Grams). test (sameGrams n s)) c) ≡ (agreeIn c && (not (any c) || sameGrams (firstIn c) s))
 all-first s nil = refl
-all-first s (nil ▷ n) = rw (is-true (eqb n n) (eqb-refl n))
-all-first s (c ▷ m ▷ n) = rw (all-first s (c ▷ m)) (swap (agreeIn (c ▷ m)) (firstIn (c ▷ m)) (eqb (firstIn (c ▷ m)) s) refl)
+all-first s (nil ▷ n) = rw (same-grams n)
+all-first s (c ▷ m ▷ n) = rw (all-first s (c ▷ m)) (swap (agreeIn (c ▷ m)) (firstIn (c ▷ m)) (sameGrams (firstIn (c ▷ m)) s) refl)
   where
-    swap : (a : Bool) (f : ℕ) (e : Bool) → eqb f s ≡ e → (a && eqb f s && eqb n s) ≡ ((a && eqb n f) && eqb f s)
-    swap true f true h = rw (h, eqb→eq f s (passes (eqb f s) h)) (sym (and-true (eqb n s)))
+    swap : (a : Bool) (f : Grams) (e : Bool) → sameGrams f s ≡ e → (a && sameGrams f s && sameGrams n s) ≡ ((a && sameGrams n f) && sameGrams f s)
+    swap true f true h = rw (h, grams-eq f s h) (sym (and-true (sameGrams n s)))
     swap false f true h = refl
-    swap true f false h = rw h (sym (and-false (eqb n f)))
+    swap true f false h = rw h (sym (and-false (sameGrams n f)))
     swap false f false h = refl
 
 -- the control totals are the sum of the loads
 pub totals : (b : Body) → check (total b) ≡ totalRight (sumsOf b)
-totals (plain b) = all-first (sumsOf (plain b) .grams) (controls b)
+totals (plain b) =
+    all-first (sum (loads b)) (controls b)
+    ∙ ap (λ (t : Bool). agreeIn (controls b) && (not (any (controls b)) || t)) (same-sum (firstIn (controls b)) (loads b))
 totals (ack c ls) = refl
 
 -- ---- trailers

@@ -9,6 +9,8 @@ use borrow.Author.Tests.{ne-eqb}
 use Rattle.syntax.specs.Octets.{octets, same}
 use Rattle.grammar.specs.Segments as named
 use Rattle.grammar.specs.Segments.{Asked, Named, Free, kindIn, tags}
+use Rattle.grammar.specs.Grams.{Grams, signed, below}
+use Rattle.grammar.specs.Weighed.{loadedBy, tippedBy}
 use Rattle.grammar.specs.Loads.{Shape, shape, amountRight, grams, unit, loadUnit, loadShape, loadIn, loadRight, loadBy, rightBy, controlUnit, controlIn, controlRight, controlBy, isControl, threePart}
 use Rattle.syntax.specs.Content.{content}
 use Rattle.syntax.specs.Segment.{piecesAt, atElement, components, elements, componentAt, partOf}
@@ -19,12 +21,13 @@ use Rattle.elements.specs.Amounts.{amountIs, unitIs}
 use Rattle.elements.specs.AmountsLaws.{unit-unknown, unitless, weighs, weighs-not, weighs-below}
 use Rattle.elements.specs.declared.amounts.Form.{Form}
 use Rattle.elements.specs.declared.amounts.Amount.{Amount}
-use Rattle.elements.specs.declared.amounts.Amount.the-variants.{Grams, Bad as Lacking}
+use Rattle.elements.specs.declared.amounts.Amount.the-variants.{Grams as Weighs, Bad as Lacking}
 use Rattle.elements.specs.declared.amounts.Unit as amounts
 use Rattle.elements.specs.declared.amounts.Unit.the-variants.{Of, Unknown}
 use Rattle.message.specs.Summary.{itemNext, usbNext, loaded, controlled, controlledBy, noSums}
 use Rattle.message.specs.Steps.{toM, badM, qtyM, summaryIn, Roomy, MovedIs}
 use Rattle.message.specs.Items.{grownWith}
+use Rattle.message.specs.KeptLaws.{loaded-signed, tipped-signed}
 use Rattle.elements.specs.declared.Kind.{Kind}
 use Rattle.elements.specs.declared.Kind.the-variants.{Qty, Cnt, Other}
 use Rattle.message.specs.declared.Group.{Group}
@@ -94,12 +97,16 @@ cnt-tag t e = cnt-of (kindIn tags t) t e
 
 -- ---- one segment more
 
-pub roomy-with : {m : Message} {h : List ℕ} → Roomy m h → (g : Group) (k : Sums) →
-    k .loads ≤ suc (m .segments) → k .grams ≤ suc (m .segments) * 1000000000000 → Roomy (grownWith m g k) h
-roomy-with w g k l n = record {
+-- the sums k have room in a segment more
+abbrev pub Room : Message → Sums → Type 0
+Room m k = (k .loads ≤ suc (m .segments)) × (k .grams ≤ suc (m .segments) * 1000000000000) × (k .back ≤ suc (m .segments) * 1000000000000)
+
+pub roomy-with : {m : Message} {h : List ℕ} → Roomy m h → (g : Group) (k : Sums) → Room m k → Roomy (grownWith m g k) h
+roomy-with w g k l = record {
   headers = w .headers;
-  loads = l;
-  grams = n;
+  loads = l .0;
+  grams = l .1;
+  back = l .2;
   base = let b = w .base in omega arith;
   own = let b = w .own in omega arith;
   sizes = λ i q. let b = w .sizes i q in omega arith;
@@ -107,21 +114,39 @@ roomy-with w g k l n = record {
 
 -- a group and sums in a summary: itemNext and usbNext are these
 module _ {m : Message} {r : Moved} (g : Group) (k : Sums) (e : r ≡ To (grownWith m g k)) (ρ : ℕ) (s : List ℕ) (u w : ℕ) (h : List ℕ) (f : Roomy m h)
-    (l : k .loads ≤ suc (m .segments)) (n : k .grams ≤ suc (m .segments) * 1000000000000) where
+    (l : Room m k) where
   pub moved-with : MovedIs (toM (summaryIn ρ s (grownWith m g k) u w h)) r ρ s u w h
-  moved-with = subst (λ (x : Moved). MovedIs (toM (summaryIn ρ s (grownWith m g k) u w h)) x ρ s u w h) (sym e) (refl, roomy-with f g k l n)
+  moved-with = subst (λ (x : Moved). MovedIs (toM (summaryIn ρ s (grownWith m g k) u w h)) x ρ s u w h) (sym e) (refl, roomy-with f g k l)
 
 module _ {m : Message} {r : Moved} where
   pub item-kept : r ≡ To (grownWith m Body (m .sums)) → (ρ : ℕ) (s : List ℕ) (u w : ℕ) (h : List ℕ) → Roomy m h →
       MovedIs (toM (itemNext (summaryIn ρ s m u w h) (m .sums))) r ρ s u w h
-  item-kept e ρ s u w h f = let a = f .loads in let b = f .grams in moved-with Body (m .sums) e ρ s u w h f (omega arith) (omega arith)
+  item-kept e ρ s u w h f =
+      let a = f .loads in let b = f .grams in let c = f .back in moved-with Body (m .sums) e ρ s u w h f (omega arith, omega arith, omega arith)
 
   pub usb-moved : {k : Sums} → k ≡ noSums → r ≡ To (grownWith m (Ack false false) k) → (ρ : ℕ) (s : List ℕ) (u w : ℕ) (h : List ℕ) → Roomy m h →
       MovedIs (toM (usbNext (summaryIn ρ s m u w h))) r ρ s u w h
   usb-moved d e ρ s u w h f =
-      moved-with (Ack false false) noSums (e ∙ ap (λ (x : Sums). To (grownWith m (Ack false false) x)) d) ρ s u w h f (omega arith) (omega arith)
+      moved-with (Ack false false) noSums (e ∙ ap (λ (x : Sums). To (grownWith m (Ack false false) x)) d) ρ s u w h f (omega arith, omega arith, omega arith)
 
 -- ---- QTY
+
+loaded-room : {m : Message} {h : List ℕ} {n : ℕ} (b : Bool) → Roomy m h → n < 1000000000000 → Room m (loaded (m .sums) (some (signed b n)))
+loaded-room {n = n} b f l =
+    let x = f .loads in
+    let y = f .grams in
+    let z = f .back in
+    let p = loaded-signed b n in
+    let q = tipped-signed b n in
+    (omega arith, omega (arith, y, most b p), omega (arith, z, tipped b q))
+  where
+    most : (t : Bool) {k : ℕ} → k ≡ cond t 0 n → k ≤ n
+    most true e = omega (arith, e)
+    most false e = omega (arith, e)
+
+    tipped : (t : Bool) {k : ℕ} → k ≡ cond t n 0 → k ≤ n
+    tipped true e = omega (arith, e)
+    tipped false e = omega (arith, e)
 
 module _ (ρ : ℕ) (s : List ℕ) (m : Message) {r : Moved} (a : Asked) where
   qty-none : loadShape a ≡ none → r ≡ To (grownWith m Body (m .sums)) → (u w : ℕ) (h : List ℕ) → Roomy m h →
@@ -133,14 +158,13 @@ module _ (ρ : ℕ) (s : List ℕ) (m : Message) {r : Moved} (a : Asked) where
   qty-wrong : loadRight a ≡ false → r ≡ Bad 12 → (u w : ℕ) (h : List ℕ) → Roomy m h → MovedIs (qtyM (summaryIn ρ s m u w h) a) r ρ s u w h
   qty-wrong e d u w h f = rw (e, d) refl
 
-  qty-some : {n : ℕ} {k : Sums} → loadRight a ≡ true → loadIn a ≡ some n → n < 1000000000000 → k ≡ loaded (m .sums) (some n) → r ≡ To (grownWith m Body k) →
+  qty-some : {n : ℕ} (b : Bool) {k : Sums} → loadRight a ≡ true → loadIn a ≡ some (signed b n) → n < 1000000000000 →
+      k ≡ loaded (m .sums) (some (signed b n)) → r ≡ To (grownWith m Body k) →
       (u w : ℕ) (h : List ℕ) → Roomy m h → MovedIs (qtyM (summaryIn ρ s m u w h) a) r ρ s u w h
-  qty-some {n} {k} e l b g d u w h f =
-      let x = f .loads in
-      let y = f .grams in
-      let z = moved-with Body (loaded (m .sums) (some n)) (d ∙ ap (λ (x : Sums). To (grownWith m Body x)) g) ρ s u w h f (omega arith) (omega arith) in
+  qty-some {n} b {k} e l i g d u w h f =
+      let z = moved-with Body (loaded (m .sums) (some (signed b n))) (d ∙ ap (λ (x : Sums). To (grownWith m Body x)) g) ρ s u w h f (loaded-room b f i) in
       subst (λ (b : Bool). MovedIs (cond b (toM (itemNext (summaryIn ρ s m u w h) (loaded (m .sums) (loadIn a)))) (badM 12)) r ρ s u w h) (sym e)
-      (subst (λ (o : Option ℕ). MovedIs (toM (itemNext (summaryIn ρ s m u w h) (loaded (m .sums) o))) r ρ s u w h) (sym l) z)
+      (subst (λ (o : Option Grams). MovedIs (toM (itemNext (summaryIn ρ s m u w h) (loaded (m .sums) o))) r ρ s u w h) (sym l) z)
 
 module _ (a : Asked) where
   shape-many : (a .size ≡ 1 → ⊥) → loadShape a ≡ none
@@ -200,42 +224,50 @@ module _ (σ : Service) (s : List ℕ) (at : ℕ) (m : Message) where
         MovedIs (qtyM (summaryIn (σ .release) s m u w h) (askedAt σ s at)) r (σ .release) s u w h
     qty-bad b t = qty-wrong (σ .release) s m (askedAt σ s at) (right-here ∙ weighs-not (content (σ .release) x) 9 6 d (content (σ .release) z) o v b .0) t
 
-    pub qty-load : {r : Moved} {i : ℕ} {k : Sums} → y ≡ Grams i → k ≡ loaded (m .sums) (some i) → r ≡ To (grownWith m Body k) → (u w : ℕ) (h : List ℕ) → Roomy m h →
+    pub qty-load : {r : Moved} {i : ℕ} {b : Bool} {k : Sums} → y ≡ Weighs i b → k ≡ loaded (m .sums) (some (signed b i)) → r ≡ To (grownWith m Body k) → (u w : ℕ) (h : List ℕ) → Roomy m h →
         MovedIs (qtyM (summaryIn (σ .release) s m u w h) (askedAt σ s at)) r (σ .release) s u w h
-    qty-load b l t =
+    qty-load {b = minus} b l t =
         let a = weighs (content (σ .release) x) 9 6 d (content (σ .release) z) o v (omega arith, omega arith) b in
-        qty-some (σ .release) s m (askedAt σ s at) (right-here ∙ a .0) (load-here ∙ a .2) (weighs-below (content (σ .release) x) 9 6 d (content (σ .release) z) o v (refl, refl) b) l t
+        qty-some (σ .release) s m (askedAt σ s at) minus (right-here ∙ a .0) (load-here ∙ a .2) (weighs-below (content (σ .release) x) 9 6 d (content (σ .release) z) o v (refl, refl) b) l t
 
 -- what `with_load` asks
-pub load-fits : (c z : List ℕ) (m : Message) {q : amounts.Unit} {g : Form} {y : Amount} {i : ℕ} →
-    (m .segments < 65535) × (m .sums .loads ≤ m .segments) × (m .sums .grams ≤ m .segments * 1000000000000) →
+pub load-fits : (c z : List ℕ) (m : Message) {q : amounts.Unit} {g : Form} {y : Amount} {i : ℕ} {b : Bool} →
+    (m .segments < 65535) × (m .sums .loads ≤ m .segments) × (m .sums .grams ≤ m .segments * 1000000000000) × (m .sums .back ≤ m .segments * 1000000000000) →
     q ≡ unitIs (unit c (shape 9 3) (shape 6 6)) → q ≡ Of g →
-    y ≡ amountIs (amountRight (shape (g .whole) (g .decimals)) z) (grams (shape (g .whole) (g .decimals)) z) → y ≡ Grams i →
-    (m .sums .loads < 65535) × (m .sums .grams + i < 18446744073709551616)
+    y ≡ amountIs (amountRight (shape (g .whole) (g .decimals)) z) (grams (shape (g .whole) (g .decimals)) z) → y ≡ Weighs i b →
+    (m .sums .loads < 65535) × (m .sums .grams + i < 18446744073709551616) × (m .sums .back + i < 18446744073709551616)
 load-fits c z m h d o v b =
     let n = weighs-below c 9 6 d z o v (refl, refl) b in
-    (omega (arith, h .0, h .1), omega (arith, n, h .0, h .2))
+    (omega (arith, h .0, h .1), omega (arith, n, h .0, h .2), omega (arith, n, h .0, h .3))
+
+-- what `with_control` asks: no minus zero
+pub control-signed : (c z : List ℕ) {q : amounts.Unit} {g : Form} {y : Amount} {i : ℕ} {b : Bool} →
+    q ≡ unitIs (unit c (shape 12 3) (shape 9 6)) → q ≡ Of g →
+    y ≡ amountIs (amountRight (shape (g .whole) (g .decimals)) z) (grams (shape (g .whole) (g .decimals)) z) → y ≡ Weighs i b → below (signed b i) ≡ b
+control-signed c z d o v b = weighs c 12 9 d z o v (omega arith, omega arith) b .3
 
 -- ---- CNT
 
-controlled-keeps : (u : Sums) (n : ℕ) (b : Bool) → (controlledBy b u n .loads ≡ u .loads) × (controlledBy b u n .grams ≡ u .grams)
-controlled-keeps u n true = (refl, refl)
-controlled-keeps u n false = (refl, refl)
+controlled-keeps : (u : Sums) (z : Grams) (b : Bool) →
+    (controlledBy b u z .loads ≡ u .loads) × (controlledBy b u z .grams ≡ u .grams) × (controlledBy b u z .back ≡ u .back)
+controlled-keeps u z true = (refl, refl, refl)
+controlled-keeps u z false = (refl, refl, refl)
 
 module _ (ρ : ℕ) (s : List ℕ) (m : Message) {r : Moved} (a : Asked) where
   cnt-none : isControl a ≡ false → r ≡ To (grownWith m Body (m .sums)) → (u w : ℕ) (h : List ℕ) → Roomy m h →
       MovedIs (toM (itemNext (summaryIn ρ s m u w h) (controlled (m .sums) (controlIn a)))) r ρ s u w h
   cnt-none e d u w h f = let z = item-kept d ρ s u w h f in rw e z
 
-  cnt-some : {n : ℕ} {k : Sums} → controlIn a ≡ some n → k ≡ controlled (m .sums) (some n) → r ≡ To (grownWith m Body k) → (u w : ℕ) (h : List ℕ) → Roomy m h →
+  cnt-some : {n : Grams} {k : Sums} → controlIn a ≡ some n → k ≡ controlled (m .sums) (some n) → r ≡ To (grownWith m Body k) → (u w : ℕ) (h : List ℕ) → Roomy m h →
       MovedIs (toM (itemNext (summaryIn ρ s m u w h) (controlled (m .sums) (controlIn a)))) r ρ s u w h
   cnt-some {n} {k} e g d u w h f =
       let x = f .loads in
       let y = f .grams in
+      let v = f .back in
       let q = controlled-keeps (m .sums) n (m .sums .controlled) in
       let z =
       moved-with Body (controlled (m .sums) (some n)) (d ∙ ap (λ (x : Sums). To (grownWith m Body x)) g) ρ s u w h f
-      (omega (arith, x, q .0)) (omega (arith, y, q .1)) in
+      (omega (arith, x, q .0), omega (arith, y, q .1), omega (arith, v, q .2)) in
       rw e z
 
 control-all : (a b c : Bool) → cond a (b && c) true ≡ true → a ≡ true → c ≡ true
@@ -280,7 +312,7 @@ module _ (σ : Service) (s : List ℕ) (at : ℕ) (m : Message) {b : Bool} {l : 
           let c = ap (λ (i : List ℕ). controlBy (unit (content (σ .release) x) (shape 12 3) (shape 9 6)) (content (σ .release) i)) second in
           true≢false (sym (c ∙ control-by) ∙ a)
 
-      pub cnt-control : {r : Moved} {i : ℕ} {k : Sums} → y ≡ Grams i → k ≡ controlled (m .sums) (some i) → r ≡ To (grownWith m Body k) →
+      pub cnt-control : {r : Moved} {i : ℕ} {b : Bool} {k : Sums} → y ≡ Weighs i b → k ≡ controlled (m .sums) (some (signed b i)) → r ≡ To (grownWith m Body k) →
           (u w : ℕ) (h : List ℕ) → Roomy m h →
           MovedIs (toM (itemNext (summaryIn (σ .release) s m u w h) (controlled (m .sums) (controlIn (askedAt σ s at))))) r (σ .release) s u w h
       cnt-control {r} {i} e l t =

@@ -87,6 +87,7 @@ pub record Roomy (m : Message) (h : List ℕ) : Type 0 where
   pub headers : m .headers ≤ 9
   pub loads : m .sums .loads ≤ m .segments
   pub grams : m .sums .grams ≤ m .segments * 1000000000000
+  pub back : m .sums .back ≤ m .segments * 1000000000000
   pub base : m .pair .base ≤ m .segments
   pub own : m .pair .own ≤ m .segments
   pub sizes : (i : ℕ) → i < m .headers → getD h (4 * i + 2) 0 ≤ m .segments

@@ -174,6 +174,7 @@ roomy-grown q g z = record {
   headers = g .headers;
   loads = omega (arith, g .loads);
   grams = omega (arith, g .grams);
+  back = omega (arith, g .back);
   base = omega (arith, g .base);
   own = omega (arith, g .own);
   sizes = z .each;
@@ -207,6 +208,7 @@ module _ {m : Message} {h : List ℕ} (g : Roomy m h) where
         headers = g .headers;
         loads = omega (arith, g .loads);
         grams = omega (arith, g .grams);
+        back = omega (arith, g .back);
         base = omega (arith, g .base);
         own = omega (arith, g .own);
         sizes = small-more (roomy-small g) (suc (m .segments)) (omega arith) .each;
@@ -251,6 +253,7 @@ module _ (σ : Service) (s : List ℕ) (a : ℕ) (m : Message) (h : List ℕ) wh
           headers = omega (arith, l);
           loads = omega (arith, g .loads);
           grams = omega (arith, g .grams);
+          back = omega (arith, g .back);
           base = omega (arith, g .base);
           own = omega (arith, g .own);
           sizes = λ n o. small-push (roomy-small g) p .each n (omega (arith, o));
@@ -297,6 +300,7 @@ module _ (σ : Service) (s : List ℕ) (a : ℕ) (m : Message) (h : List ℕ) wh
             headers = g .headers;
             loads = omega (arith, g .loads);
             grams = omega (arith, g .grams);
+            back = omega (arith, g .back);
             base = omega (arith, size-at h (m .headers) i l, g .sizes i l);
             own = omega arith;
             sizes = small-more (small-name (roomy-small g) p) (suc (m .segments)) (omega arith) .each;

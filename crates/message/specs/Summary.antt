@@ -11,7 +11,8 @@ use Rattle.syntax.specs.Opening.{earlier}
 use Rattle.syntax.specs.declared.Version.{Version}
 use Rattle.grammar.specs.declared.Subset.{Subset}
 use Rattle.grammar.specs.Lists.{Snoc, nil, _▷_, each, size, any, among, test, check, every}
-use Rattle.grammar.specs.Grams.{Grams, noGrams, sameGrams, sum}
+use Rattle.grammar.specs.Grams.{Grams, noGrams, sameGrams, below, magnitude}
+use Rattle.grammar.specs.Weighed.{loadedBy, tippedBy, forward, back}
 use Rattle.grammar.specs.Segments.{Asked, unb0020, unh0062, ust0534, ust0588}
 use Rattle.grammar.specs.Interchange.{Leaf, certificate, Header, header, Trailer, trailer, Link, link, Body, plain, ack, Open, msg, Reading, start, idle, busy, done, showHeader, showTrailer, showOpen}
 use Rattle.grammar.specs.Loads.{loads, controls, loadIn, controlIn, loadRight}
@@ -59,12 +60,13 @@ firstIn (s ▷ m ▷ n) = firstIn (s ▷ m)
 abbrev pub agreeIn : Snoc Grams → Bool
 agreeIn s = check (every (λ (n : Grams). test (sameGrams n (firstIn s))) s)
 
--- of the loads s and the control totals c
+-- of the loads s and the control totals c: what was loaded and what was tipped back; the first control total without its sign, and its sign
 abbrev pub sumsIn : Snoc Grams → Snoc Grams → Sums
-sumsIn s c = record { loads = size s; grams = sum s; controlled = any c; control = firstIn c; agree = agreeIn c }
+sumsIn s c =
+    record { loads = size s; grams = forward s; back = back s; controlled = any c; control = magnitude (firstIn c); below = below (firstIn c); agree = agreeIn c }
 
 abbrev pub noSums : Sums
-noSums = record { loads = 0; grams = 0; controlled = false; control = 0; agree = true }
+noSums = record { loads = 0; grams = 0; back = 0; controlled = false; control = 0; below = false; agree = true }
 
 abbrev pub sumsOf : Body → Sums
 sumsOf (plain b) = sumsIn (loads b) (controls b)
@@ -326,9 +328,13 @@ pairsRight p = p .right && eqb (p .claim) (p .base + p .own)
 abbrev pub pairsCounted : Version → Pair → Bool
 pairsCounted v p = cond (earlier v) true (pairsRight p)
 
+-- the first control total is what was loaded less what was tipped back
+abbrev pub controlTotal : Sums → Bool
+controlTotal s = cond (s .below) (eqb (s .back) (s .grams + s .control)) (eqb (s .grams) (s .back + s .control))
+
 -- the control totals are the sum of the loads
 abbrev pub totalRight : Sums → Bool
-totalRight s = s .agree && (not (s .controlled) || eqb (s .control) (s .grams))
+totalRight s = s .agree && (not (s .controlled) || controlTotal s)
 
 -- the number that the element at position p gives
 abbrev pub numberAt : Asked → ℕ → ℕ
@@ -451,18 +457,32 @@ usbNext S = record {
 }
 
 -- a load more
-abbrev pub loaded : Sums → Option ℕ → Sums
+abbrev pub loaded : Sums → Option Grams → Sums
 loaded s none = s
-loaded s (some n) = record { loads = suc (s .loads); grams = s .grams + n; controlled = s .controlled; control = s .control; agree = s .agree }
+loaded s (some z) = record {
+  loads = suc (s .loads);
+  grams = s .grams + loadedBy z;
+  back = s .back + tippedBy z;
+  controlled = s .controlled;
+  control = s .control;
+  below = s .below;
+  agree = s .agree;
+}
+
+-- the first control total has this magnitude and this sign
+abbrev pub sameControl : Sums → ℕ → Bool → Bool
+sameControl s n b = eqb n (s .control) && cond b (s .below) (not (s .below))
 
 -- a control total more
-abbrev pub controlledBy : Bool → Sums → ℕ → Sums
-controlledBy false s n = record { loads = s .loads; grams = s .grams; controlled = true; control = n; agree = true }
-controlledBy true s n = record { loads = s .loads; grams = s .grams; controlled = true; control = s .control; agree = s .agree && eqb n (s .control) }
+abbrev pub controlledBy : Bool → Sums → Grams → Sums
+controlledBy false s z =
+    record { loads = s .loads; grams = s .grams; back = s .back; controlled = true; control = magnitude z; below = below z; agree = true }
+controlledBy true s z =
+    record { loads = s .loads; grams = s .grams; back = s .back; controlled = true; control = s .control; below = s .below; agree = s .agree && sameControl s (magnitude z) (below z) }
 
-abbrev pub controlled : Sums → Option ℕ → Sums
+abbrev pub controlled : Sums → Option Grams → Sums
 controlled s none = s
-controlled s (some n) = controlledBy (s .controlled) s n
+controlled s (some z) = controlledBy (s .controlled) s z
 
 abbrev pub busyNext : Kind → List ℕ → Snoc (List ℕ) → Summary → Asked → StateS
 busyNext Unb u rs S a = busyS u rs S

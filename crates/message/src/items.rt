@@ -50,7 +50,7 @@ fn with_sums(m: Message, g: Group, u: Sums) -> Moved
 pub fn on_qty(s: &[u8], at: usize, y: Syntax, m: Message, f: Shape, marks: &[usize]) -> Moved
     requires { ⌜ Fields (y .service) (now s) at (f .size) (f .repeats) (now marks) ⌝ }
     requires { ⌜ tagKind (askedAt (y .service) (now s) at .tag) ≡ Qty ⌝ }
-    requires { ⌜ (m .segments < 65535) × (m .sums .loads ≤ m .segments) × (m .sums .grams ≤ m .segments * 1000000000000) ⌝ }
+    requires { ⌜ (m .segments < 65535) × (m .sums .loads ≤ m .segments) × (m .sums .grams ≤ m .segments * 1000000000000) × (m .sums .back ≤ m .segments * 1000000000000) ⌝ }
     ensures { λ r. ⌜
         ((u w : ℕ) (h : List ℕ) → Roomy m h →
         MovedIs (qtyM (summaryIn (y .service .release) (now (s .entry)) m u w h) (askedAt (y .service) (now (s .entry)) at)) r (y .service .release) (now (s .entry)) u w h) ⌝ }
@@ -65,7 +65,7 @@ pub fn on_qty(s: &[u8], at: usize, y: Syntax, m: Message, f: Shape, marks: &[usi
     }
     match unit_in(field(s, at, y, marks, 1, 2), v.release, 9, 6) {
         Unit::Of(u) => match amount_in(field(s, at, y, marks, 1, 1), v.release, u) {
-            Amount::Grams(w) => with_sums(m, Group::Body, with_load(k, w)),
+            Amount::Grams(w, below) => with_sums(m, Group::Body, with_load(k, w, below)),
             Amount::Bad => Moved::Bad(12),
         },
         Unit::Unknown => with_sums(m, Group::Body, k),
@@ -88,7 +88,7 @@ pub fn on_cnt(s: &[u8], at: usize, y: Syntax, m: Message, marks: &[usize]) -> Mo
     }
     match unit_in(field(s, at, y, marks, 1, 2), v.release, 12, 9) {
         Unit::Of(u) => match amount_in(field(s, at, y, marks, 1, 1), v.release, u) {
-            Amount::Grams(w) => with_sums(m, Group::Body, with_control(k, w)),
+            Amount::Grams(w, below) => with_sums(m, Group::Body, with_control(k, w, below)),
             Amount::Bad => with_sums(m, Group::Body, k),
         },
         Unit::Unknown => with_sums(m, Group::Body, k),

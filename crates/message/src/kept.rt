@@ -3,7 +3,10 @@ ghost use mathlib.Core.Path.{_≡_};
 ghost use mathlib.Core.Bool.{true};
 ghost use Prim.Native.Nat.{_+_, _≤_, _<_};
 ghost use mathlib.Core.Option.{none, some};
-ghost use Rattle.message.specs.Summary.{noSums, noPair, usaGroup, uscGroup, grown, pairsRight, totalRight, loaded, controlled, fresh, usaMay, uscMay};
+ghost use lib.Dec.{eqb};
+ghost use Rattle.grammar.specs.Grams as weighed;
+ghost use Rattle.grammar.specs.Grams.{signed};
+ghost use Rattle.message.specs.Summary.{noSums, noPair, usaGroup, uscGroup, grown, pairsRight, totalRight, loaded, sameControl, controlled, fresh, usaMay, uscMay};
 use crate::Group;
 use crate::Message;
 use crate::Pair;
@@ -16,8 +19,10 @@ pub fn no_sums() -> Sums
     Sums {
         loads: 0,
         grams: 0,
+        back: 0,
         controlled: false,
         control: 0,
+        below: false,
         agree: true,
     }
 }
@@ -108,60 +113,96 @@ pub fn pairs_right(p: Pair) -> bool
     false
 }
 
+// Whether the first is so many more than the second.
+fn is_more_by(more: u64, less: u64, by: u64) -> bool
+    ensures { λ r. ⌜ r ≡ eqb more (less + by) ⌝ }
+{
+    if more < less {
+        return false;
+    }
+    more - less == by
+}
+
 // The control totals are the sum of the loads.
 pub fn totals_right(u: Sums) -> bool
     ensures { λ r. ⌜ r ≡ totalRight u ⌝ }
 {
     if u.agree {
         if u.controlled {
-            return u.control == u.grams;
+            if u.below {
+                return is_more_by(u.back, u.grams, u.control);
+            }
+            return is_more_by(u.grams, u.back, u.control);
         }
         return true;
     }
     false
 }
 
-// A load more.
-pub fn with_load(u: Sums, grams: u64) -> Sums
-    requires { ⌜ (u .loads < 65535) × (u .grams + grams < 18446744073709551616) ⌝ }
-    ensures { λ r. ⌜ r ≡ loaded u (some grams) ⌝ }
+// A load more; below zero it was tipped back.
+pub fn with_load(u: Sums, grams: u64, below: bool) -> Sums
+    requires { ⌜ (u .loads < 65535) × (u .grams + grams < 18446744073709551616) × (u .back + grams < 18446744073709551616) ⌝ }
+    ensures { λ r. ⌜ r ≡ loaded u (some (signed below grams)) ⌝ }
 {
+    if below {
+        return Sums {
+            loads: u.loads + 1,
+            grams: u.grams,
+            back: u.back + grams,
+            controlled: u.controlled,
+            control: u.control,
+            below: u.below,
+            agree: u.agree,
+        };
+    }
     Sums {
         loads: u.loads + 1,
         grams: u.grams + grams,
+        back: u.back,
         controlled: u.controlled,
         control: u.control,
+        below: u.below,
         agree: u.agree,
     }
 }
 
-// A control total more.
-pub fn with_control(u: Sums, grams: u64) -> Sums
-    ensures { λ r. ⌜ r ≡ controlled u (some grams) ⌝ }
+// Whether the first control total is so many grams, below zero or not.
+fn same_control(u: Sums, grams: u64, below: bool) -> bool
+    ensures { λ r. ⌜ r ≡ sameControl u grams below ⌝ }
+{
+    if grams == u.control {
+        if below {
+            return u.below;
+        }
+        return !u.below;
+    }
+    false
+}
+
+// A control total more, below zero or not; 0 is not.
+pub fn with_control(u: Sums, grams: u64, below: bool) -> Sums
+    requires { ⌜ weighed.below (signed below grams) ≡ below ⌝ }
+    ensures { λ r. ⌜ r ≡ controlled u (some (signed below grams)) ⌝ }
 {
     if u.controlled {
-        if u.agree {
-            return Sums {
-                loads: u.loads,
-                grams: u.grams,
-                controlled: true,
-                control: u.control,
-                agree: grams == u.control,
-            };
-        }
+        let same = same_control(u, grams, below);
         return Sums {
             loads: u.loads,
             grams: u.grams,
+            back: u.back,
             controlled: true,
             control: u.control,
-            agree: false,
+            below: u.below,
+            agree: u.agree && same,
         };
     }
     Sums {
         loads: u.loads,
         grams: u.grams,
+        back: u.back,
         controlled: true,
         control: grams,
+        below: below,
         agree: true,
     }
 }

@@ -22,13 +22,16 @@ pub enum Group {
     Trailer(bool),
 }
 
-// A message's loads so far: how many, their grams; of its control totals whether there is one, the first, and whether the others equal it.
+// A message's loads so far: how many, the grams of those loaded and of those tipped back; of its control totals whether there is one, the grams of the
+// first and whether they are below zero, and whether the others equal it.
 pub struct Sums {
     pub grams: u64,
+    pub back: u64,
     pub control: u64,
     pub loads: u32,
     pub controlled: bool,
     pub agree: bool,
+    pub below: bool,
 }
 
 // A message's trailers so far: whether all but the last count right; of the last what it claims, the segments of its header, and its own.

@@ -1,14 +1,16 @@
 -- The code's steps: an entry and the count as they are read, and the register read and laid entry by entry.
 use Prim.Native.Nat.{ℕ, zero, suc, _+_, _-_, _*_, _≤_, _<_}
 use native.Mathlib.Omega.{arith}
-use mathlib.Core.Bool.{Bool, true, false, cond}
+use mathlib.Core.Bool.{Bool, true, false, cond, _||_}
 use mathlib.Core.List.{List, [], _∷_, _++_, append-assoc, append-nil}
 use mathlib.Core.Path.{_≡_, refl, sym, ap, subst, _∙_}
 use lib.Dec.{eqb}
 use lib.ListN.{length, length-append}
 use borrow.Author.Tests.{eq-eqb, ne-eqb}
+use Rattle.grammar.specs.Grams.{below, magnitude}
 use Rattle.seven.specs.declared.Number.{Number}
 use Rattle.seven.specs.declared.Number.the-variants.{Value, Bad}
+use Rattle.syntax.specs.Refusals.{atZero}
 use Rattle.syntax.specs.declared.Refusal.{Refusal}
 use Rattle.writing.specs.Laid.{Laid}
 use Rattle.writing.specs.LaidLaws.{laid-same, laid-length, laid-more, laid-none}
@@ -20,9 +22,10 @@ use Rattle.forms.specs.declared.Form.{Form}
 use Rattle.forms.specs.declared.Entry.{Entry}
 use Rattle.moves.specs.declared.reading.Taken.{Taken}
 use Rattle.moves.specs.declared.reading.Taken.the-variants.{One, Bad as Nothing}
-use Rattle.forms.specs.Forms.{entryText, entriesText, mark, countText, registerText}
-use Rattle.forms.specs.FormsLaws.{entries-joined}
-use Rattle.moves.specs.Stored.{numberAt, entryAt, Stored, stored, bad, before, followed, entriesAt, marked, countAt, counted, storedBy, movedTo, moveOf, Octets, Lays}
+use Rattle.forms.specs.Forms.{gramsOf, entry, entryText, entriesText, mark, countText, registerText, large, signLost, anyBelow, textIn}
+use Rattle.forms.specs.FormsLaws.{entries-joined, below-more, or-false}
+use Rattle.moves.specs.Stored.{numberAt, gramsBy, entryAt, Stored, stored, bad, before, followed, entriesAt, marked, countAt, counted, storedBy, anyLarge, movedTo, moveOf, Octets, Lays}
+use Rattle.moves.specs.GramsLaws.{large-more}
 use Rattle.moves.specs.StoredLaws.{count-back}
 
 -- ---- an entry, number by number
@@ -43,8 +46,9 @@ module _ (f : Form) (s : List ℕ) (i : ℕ) {x : Number} (h : x ≡ numberAt f 
         pub entry-stop4 : w ≡ Bad → Nothing ≡ entryAt f s i
         entry-stop4 u = rw (← h, e, ← k, d, ← m, t, ← n, u)
 
-        pub entry-read : {g q : ℕ} → w ≡ Value g q → One (record { place = p; length = l; loads = o; grams = g }) q ≡ entryAt f s i
-        entry-read u = rw (← h, e, ← k, d, ← m, t, ← n, u)
+        pub entry-read : {v q g : ℕ} {b : Bool} → w ≡ Value v q → g ≡ magnitude (gramsBy f v) → b ≡ below (gramsBy f v)
+            → One (record { place = p; length = l; loads = o; grams = g; below = b }) q ≡ entryAt f s i
+        entry-read u x y = rw (← h, e, ← k, d, ← m, t, ← n, u, x, y)
 
 -- ---- the count behind its mark
 
@@ -64,11 +68,13 @@ module _ (f g : Form) (s out : List ℕ) {r : Written} (out′ : List ℕ) (q : 
   pub count-bad : {x : Number} → x ≡ countAt f s → x ≡ Bad → Lays (moveOf f g s) out r out′
   count-bad h e = lays-bad (ap (counted f s) (sym h ∙ e))
 
--- ---- the loop: `seen` were read and laid, and so many are left from i on
+-- ---- the loop: `seen` were read and laid, one of them is below zero or not, and so many are left from i on
 
-pub record Moving (f g : Form) (s : List ℕ) (p₀ : ℕ) (out₀ : List ℕ) (n : ℕ) (out : List ℕ) (p i left : ℕ) : Type 0 where
+pub record Moving (f g : Form) (s : List ℕ) (p₀ : ℕ) (out₀ : List ℕ) (n : ℕ) (out : List ℕ) (p i left : ℕ) (any : Bool) : Type 0 where
   pub seen : List Entry
   pub going : storedBy f s ≡ before seen (entriesAt f left s i)
+  pub fits : anyLarge g seen ≡ false
+  pub signs : any ≡ anyBelow seen
   pub sum : length seen + left ≡ n
   pub few : n ≤ 65535
   pub near : p ≤ 11 + 40 * length seen
@@ -97,10 +103,12 @@ entries-last f zero s i h = refl
 entries-last f (suc n) s i h = absurd (omega arith)
 
 module _ (f g : Form) (s : List ℕ) where
-  pub moving-start : Octets s → {x : Number} {n a p : ℕ} {out : List ℕ} → x ≡ countAt f s → x ≡ Value n a → p ≤ 11 → Moving f g s p out n out p a n
+  pub moving-start : Octets s → {x : Number} {n a p : ℕ} {out : List ℕ} → x ≡ countAt f s → x ≡ Value n a → p ≤ 11 → Moving f g s p out n out p a n false
   moving-start o {x} {n} {a} {p} h e l = record {
     seen = [];
     going = ap (counted f s) (sym h ∙ e) ∙ sym (before-none (entriesAt f n s a));
+    fits = refl;
+    signs = refl;
     sum = omega arith;
     few = count-back f s o (sym h ∙ e) .1;
     near = omega (arith, l);
@@ -108,18 +116,20 @@ module _ (f g : Form) (s : List ℕ) where
     same = refl;
   }
 
-module _ {f g : Form} {s : List ℕ} {p₀ : ℕ} {out₀ : List ℕ} {n : ℕ} {out : List ℕ} {p i left : ℕ} (m : Moving f g s p₀ out₀ n out p i left) where
+module _ {f g : Form} {s : List ℕ} {p₀ : ℕ} {out₀ : List ℕ} {n : ℕ} {out : List ℕ} {p i left : ℕ} {any : Bool} (m : Moving f g s p₀ out₀ n out p i left any) where
   pub moving-room : 0 < left → p + 40 < 18446744073709551616
   moving-room h = omega (arith, m .near, m .sum, m .few)
 
   next : {y z : Taken} → 0 < left → y ≡ entryAt f s i → y ≡ z → storedBy f s ≡ before (m .seen) (followed z (entriesAt f (left - 1) s))
   next h d e = m .going ∙ ap (before (m .seen)) (entries-next f left s i h ∙ ap (λ (t : Taken). followed t (entriesAt f (left - 1) s)) (sym d ∙ e))
 
-  pub moving-on : {y : Taken} {e : Entry} {q r : ℕ} {out′ : List ℕ} → 0 < left → y ≡ entryAt f s i → y ≡ One e q → Laid out p (entryText g e) r out′ × (r ≤ p + 40)
-      → Moving f g s p₀ out₀ n out′ r q (left - 1)
-  moving-on {e = e} {q = q} h d k l = record {
+  pub moving-on : {y : Taken} {e : Entry} {q r : ℕ} {out′ : List ℕ} {t u : Bool} → 0 < left → y ≡ entryAt f s i → y ≡ One e q → t ≡ large g (gramsOf e) → t ≡ false
+      → u ≡ (any || below (gramsOf e)) → Laid out p (entryText g e) r out′ × (r ≤ p + 40) → Moving f g s p₀ out₀ n out′ r q (left - 1) u
+  moving-on {e = e} {q = q} h d k v w u l = record {
     seen = m .seen ++ (e ∷ []);
     going = next h d k ∙ before-more (m .seen) e (entriesAt f (left - 1) s q);
+    fits = large-more g (m .seen) (e ∷ []) ∙ rw (m .fits, ← v, w);
+    signs = u ∙ ap (λ (b : Bool). b || below (gramsOf e)) (m .signs) ∙ sym (below-more (m .seen) (e ∷ []) ∙ ap (λ (b : Bool). anyBelow (m .seen) || b) (or-false (below (gramsOf e))));
     sum = omega (arith, m .sum, length-append (m .seen) (e ∷ []));
     few = m .few;
     near = omega (arith, m .near, l .1, length-append (m .seen) (e ∷ []));
@@ -130,20 +140,48 @@ module _ {f g : Form} {s : List ℕ} {p₀ : ℕ} {out₀ : List ℕ} {n : ℕ} 
   pub moving-bad : (w : List ℕ) {y : Taken} {r : Written} → 0 < left → y ≡ entryAt f s i → y ≡ Nothing → r ≡ refusedAs 17 → Lays (moveOf f g s) w r out
   moving-bad w h d k q = lays-bad f g s w out q (next h d k)
 
+  -- grams that are too large are 17, whatever comes behind them
+  pub moving-large : (w : List ℕ) {y : Taken} {e : Entry} {q : ℕ} {t : Bool} {r : Written} → 0 < left → y ≡ entryAt f s i → y ≡ One e q → t ≡ large g (gramsOf e) → t ≡ true → r ≡ refusedAs 17
+      → Lays (moveOf f g s) w r out
+  moving-large w {e = e} {q = q} {r = r} h d k v u z = subst (λ (x : Stored). Lays (movedTo g x) w r out) (sym (next h d k ∙ before-more (m .seen) e (entriesAt f (left - 1) s q))) (by (entriesAt f (left - 1) s q))
+    where
+      large-here : (fs : List Entry) → anyLarge g (m .seen ++ (e ∷ []) ++ fs) ≡ true
+      large-here fs =
+          let k : anyLarge g (m .seen ++ (e ∷ [])) ≡ true = large-more g (m .seen) (e ∷ []) ∙ rw (m .fits, ← v, u) in
+          large-more g (m .seen ++ (e ∷ [])) fs ∙ ap (λ (b : Bool). b || anyLarge g fs) k
+
+      by : (x : Stored) → Lays (movedTo g (before (m .seen ++ (e ∷ [])) x)) w r out
+      by bad = z
+      by (stored fs) = rw (large-here fs) z
+
   last : left ≤ 0 → {b : Bool} → eqb i (length s) ≡ b → storedBy f s ≡ before (m .seen) (cond b (stored []) bad)
   last h e = m .going ∙ ap (before (m .seen)) (entries-last f left s i h ∙ ap (λ (b : Bool). cond b (stored []) bad) e)
 
   pub moving-over : (w : List ℕ) {r : Written} → left ≤ 0 → (i ≡ length s → ⊥) → r ≡ refusedAs 17 → Lays (moveOf f g s) w r out
   moving-over w h d q = lays-bad f g s w out q (last h (ne-eqb i (length s) d))
 
-  pub moving-end : {w : List ℕ} → left ≤ 0 → i ≡ length s → Laid w 0 (countText g n) p₀ out₀ → Lays (moveOf f g s) w (Length p) out
-  moving-end {w} h d l = subst (λ (x : Stored). Lays (movedTo g x) w (Length p) out) (sym (last h (eq-eqb i (length s) d) ∙ ap stored (append-nil (m .seen)))) (told (omega (arith, m .sum)) (laid-more l (m .laid)))
-    where
-      told : n ≡ length (m .seen) → Laid w 0 (countText g n ++ entriesText g (m .seen)) p out → (Length p ≡ Length (length (registerText g (m .seen)))) × Laid w 0 (registerText g (m .seen)) (length (registerText g (m .seen))) out
-      told e l =
-          let v : Laid w 0 (registerText g (m .seen)) p out = laid-same (ap (λ (c : ℕ). countText g c ++ entriesText g (m .seen)) e) l in
-          let z : p ≡ length (registerText g (m .seen)) = omega (arith, v .place) in
-          (ap Length z, subst (λ (j : ℕ). Laid w 0 (registerText g (m .seen)) j out) z v)
+  -- all were read
+  done : left ≤ 0 → i ≡ length s → moveOf f g s ≡ textIn g (m .seen)
+  done h d = ap (movedTo g) (last h (eq-eqb i (length s) d) ∙ ap stored (append-nil (m .seen))) ∙ rw (m .fits)
+
+  module _ {t : Bool} (v : t ≡ signLost g any) where
+    pub moving-sign : (w : List ℕ) {r : Written} → left ≤ 0 → i ≡ length s → t ≡ true → r ≡ refusedAs 19 → Lays (moveOf f g s) w r out
+    moving-sign w {r} h d e q =
+        let k : signLost g (anyBelow (m .seen)) ≡ true = sym (v ∙ ap (signLost g) (m .signs)) ∙ e in
+        let z : moveOf f g s ≡ noText (atZero 19) = done h d ∙ rw k in
+        subst (λ (x : Text). Lays x w r out) (sym z) q
+
+    pub moving-end : {w : List ℕ} → left ≤ 0 → i ≡ length s → t ≡ false → Laid w 0 (countText g n) p₀ out₀ → Lays (moveOf f g s) w (Length p) out
+    moving-end {w} h d e l =
+        let k : signLost g (anyBelow (m .seen)) ≡ false = sym (v ∙ ap (signLost g) (m .signs)) ∙ e in
+        let z : moveOf f g s ≡ text (registerText g (m .seen)) = done h d ∙ rw k in
+        subst (λ (x : Text). Lays x w (Length p) out) (sym z) (told (omega (arith, m .sum)) (laid-more l (m .laid)))
+      where
+        told : n ≡ length (m .seen) → Laid w 0 (countText g n ++ entriesText g (m .seen)) p out → (Length p ≡ Length (length (registerText g (m .seen)))) × Laid w 0 (registerText g (m .seen)) (length (registerText g (m .seen))) out
+        told e l =
+            let v : Laid w 0 (registerText g (m .seen)) p out = laid-same (ap (λ (c : ℕ). countText g c ++ entriesText g (m .seen)) e) l in
+            let z : p ≡ length (registerText g (m .seen)) = omega (arith, v .place) in
+            (ap Length z, subst (λ (j : ℕ). Laid w 0 (registerText g (m .seen)) j out) z v)
 
 -- ---- measured in no room, and then laid
 

@@ -9,13 +9,13 @@ use mathlib.Core.Path.{_≡_, refl, sym, ap, _∙_}
 use lib.Dec.{leb, eqb}
 use lib.ListN.{length, getD, drop, drop-of-length-le, length-append}
 use lib.Seq.{drop-drop, drop-at, getD-drop, drop-cons}
-use borrow.Author.Tests.{le-leb, lt-leb, leb-true}
+use borrow.Author.Tests.{le-leb, lt-leb, leb-true, ne-eqb}
 use Rattle.seven.specs.Groups.{readFrom}
 use Rattle.seven.specs.TripLaws.{read-written, read-sound}
 use Rattle.seven.specs.declared.Number.{Number}
 use Rattle.seven.specs.declared.Number.the-variants.{Value, Bad}
 use Rattle.forms.specs.declared.Form.{Form}
-use Rattle.forms.specs.declared.Form.the-variants.{Old, Small}
+use Rattle.forms.specs.declared.Form.the-variants.{Old, Small, Signed}
 use Rattle.forms.specs.Forms.{power, highest, numberText}
 use Rattle.forms.specs.FormsLaws.{highest-length}
 use Rattle.moves.specs.Stored.{highFrom, numberAt, marked, Octets}
@@ -123,6 +123,8 @@ module _ (k most : ℕ) (m : Holds k most) (s : List ℕ) where
       ∙ ap (Value n) (omega (arith, g .after, highest-length k n))
   number-there Small {n} {i} {q} h g =
       ap (λ (u : List ℕ). readFrom 10 most u i) (g .spelled) ∙ read-written 9 most n i (g .rest) h (omega (arith, m .1, h)) ∙ ap (Value n) (sym (g .after))
+  number-there Signed {n} {i} {q} h g =
+      ap (λ (u : List ℕ). readFrom 10 most u i) (g .spelled) ∙ read-written 9 most n i (g .rest) h (omega (arith, m .1, h)) ∙ ap (Value n) (sym (g .after))
 
 pub number-back : (k most : ℕ) (s : List ℕ) → Octets s → (f : Form) (i : ℕ) {n q : ℕ} → numberAt f k most s i ≡ Value n q → Spell s i (numberText f k n) q × (n ≤ most)
 unfolding numberText numberAt
@@ -130,6 +132,9 @@ number-back k most s o Old i {n} {q} e =
     let h = high-back k most 0 (drop i s) i n q (octets-from s i o) e in
     (record { rest = h .rest; spelled = h .spelled; after = omega (arith, h .after, highest-length k n) }, h .within)
 number-back k most s o Small i {n} {q} e =
+    let h = read-sound 10 most (drop i s) i n q (octets-from s i o) e in
+    (record { rest = h .rest; spelled = h .spelled; after = h .after }, h .within)
+number-back k most s o Signed i {n} {q} e =
     let h = read-sound 10 most (drop i s) i n q (octets-from s i o) e in
     (record { rest = h .rest; spelled = h .spelled; after = h .after }, h .within)
 
@@ -208,13 +213,20 @@ module _ (f : Form) (k : ℕ) where
   unfolding numberAt
   number-small most s i e h = rw e h
 
+  pub number-signed : (most : ℕ) (s : List ℕ) (i : ℕ) {r : Number} → f ≡ Signed → r ≡ readFrom 10 most (drop i s) i → r ≡ numberAt f k most s i
+  unfolding numberAt
+  number-signed most s i e h = rw e h
+
 -- ---- the mark by its form
 
 pub marked-old : (f : Form) (s : List ℕ) → f ≡ Old → true ≡ marked f s
 marked-old f s e = rw e
 
-pub marked-none : (f : Form) (s : List ℕ) → f ≡ Small → length s ≡ 0 → false ≡ marked f s
-marked-none f s e z = let d : s ≡ [] = no-more s z in rw (e, d)
+pub first-none : (s : List ℕ) (b : ℕ) → length s ≡ 0 → 0 < b → false ≡ eqb (getD s 0 0) b
+first-none s b z h = let d : s ≡ [] = no-more s z in rw d (sym (ne-eqb 0 b (λ e. omega (arith, e))))
 
-pub marked-small : (f : Form) (s : List ℕ) → f ≡ Small → eqb (getD s 0 0) 2 ≡ marked f s
-marked-small f s e = rw e
+pub marked-small : (f : Form) (s : List ℕ) {b : Bool} → f ≡ Small → b ≡ eqb (getD s 0 0) 2 → b ≡ marked f s
+marked-small f s e h = rw e h
+
+pub marked-signed : (f : Form) (s : List ℕ) {b : Bool} → f ≡ Signed → b ≡ eqb (getD s 0 0) 3 → b ≡ marked f s
+marked-signed f s e h = rw e h

@@ -1,9 +1,11 @@
 // A stored register as it is read: its count and its entries, in each form. Places and lengths in it are compared with nothing.
 ghost use mathlib.Core.Path.{_≡_};
-ghost use Prim.Native.Nat.{_≤_};
-ghost use lib.ListN.{length, drop};
+ghost use Prim.Native.Nat.{_≤_, _<_};
+ghost use lib.Dec.{eqb};
+ghost use lib.ListN.{length, getD, drop};
+ghost use Rattle.grammar.specs.Grams.{magnitude, below};
 ghost use Rattle.forms.specs.Forms.{mark};
-ghost use Rattle.moves.specs.Stored.{highFrom, numberAt, entryAt, marked, countAt};
+ghost use Rattle.moves.specs.Stored.{highFrom, numberAt, gramsBy, entryAt, marked, countAt};
 use forms::Entry;
 use forms::Form;
 use seven::Number;
@@ -45,6 +47,28 @@ fn read_number(s: &[u8], at: usize, form: Form, k: usize, most: u64) -> Number
     match form {
         Form::Old => read_octets(s, at, k, most),
         Form::Small => seven::read(s, at, 10, most),
+        Form::Signed => seven::read(s, at, 10, most),
+    }
+}
+
+// The grams that a number stands for, without their sign; and whether they are below zero.
+fn read_magnitude(form: Form, n: u64) -> u64
+    ensures { λ r. ⌜ r ≡ magnitude (gramsBy form n) ⌝ }
+{
+    match form {
+        Form::Old => n,
+        Form::Small => n,
+        Form::Signed => n / 2 + n % 2,
+    }
+}
+
+fn read_below(form: Form, n: u64) -> bool
+    ensures { λ r. ⌜ r ≡ below (gramsBy form n) ⌝ }
+{
+    match form {
+        Form::Old => false,
+        Form::Small => false,
+        Form::Signed => n % 2 == 1,
     }
 }
 
@@ -61,18 +85,31 @@ pub fn read_entry(s: &[u8], at: usize, form: Form) -> Taken
     let Number::Value(loads, c) = read_number(s, b, form, 4, 4294967295) else {
         return Taken::Bad;
     };
-    let Number::Value(grams, d) = read_number(s, c, form, 8, 18446744073709551615) else {
+    let Number::Value(n, d) = read_number(s, c, form, 8, 18446744073709551615) else {
         return Taken::Bad;
     };
+    let grams = read_magnitude(form, n);
+    let below = read_below(form, n);
     Taken::One(
         Entry {
             place,
             length,
             loads,
             grams,
+            below,
         },
         d,
     )
+}
+
+fn first_is(s: &[u8], octet: u8) -> bool
+    requires { ⌜ 0 < octet ⌝ }
+    ensures { λ r. ⌜ r ≡ eqb (getD (now (s .entry)) 0 0) octet ⌝ }
+{
+    if s.len() == 0 {
+        return false;
+    }
+    s[0] == octet
 }
 
 // Whether a stored register begins as the form does.
@@ -81,12 +118,8 @@ fn begins(s: &[u8], form: Form) -> bool
 {
     match form {
         Form::Old => true,
-        Form::Small => {
-            if s.len() == 0 {
-                return false;
-            }
-            s[0] == 2
-        }
+        Form::Small => first_is(s, 2),
+        Form::Signed => first_is(s, 3),
     }
 }
 
@@ -96,6 +129,7 @@ fn mark_size(form: Form) -> usize
     match form {
         Form::Old => 0,
         Form::Small => 1,
+        Form::Signed => 1,
     }
 }
 

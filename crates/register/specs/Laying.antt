@@ -1,6 +1,6 @@
 -- The register as the code lays it: its entries section by section, behind room for the count; then all of it, once it is measured.
 use Prim.Native.Nat.{ℕ, _+_, _-_, _≤_}
-use mathlib.Core.Bool.{Bool, true, false}
+use mathlib.Core.Bool.{Bool, true, false, _||_}
 use mathlib.Core.List.{List, [], _∷_}
 use mathlib.Core.Path.{_≡_}
 use lib.ListN.{length}
@@ -16,7 +16,7 @@ use Rattle.writing.specs.Laid.{Laid}
 use Rattle.writing.specs.Written.{Text, text}
 use Rattle.writing.specs.declared.Written.{Written}
 use Rattle.writing.specs.declared.Written.the-variants.{Length}
-use Rattle.forms.specs.Forms.{entriesText, registerText}
+use Rattle.forms.specs.Forms.{entriesText, registerText, anyBelow}
 use Rattle.forms.specs.declared.Form.{Form}
 use Rattle.forms.specs.declared.Entry.{Entry}
 use Rattle.register.specs.Register.{entriesOf, entriesIn}
@@ -31,7 +31,7 @@ BeginsAt y s p = begunOf s ≡ Begins (record { syntax = y; at = p })
 -- ---- entries
 
 abbrev pub entryAt : Layout → Entry
-entryAt c = record { place = c .unh; length = c .end - c .unh; loads = c .loads; grams = c .grams }
+entryAt c = record { place = c .unh; length = c .end - c .unh; loads = c .loads; grams = c .grams; below = c .below }
 
 -- of a section: of a message that it closed
 abbrev pub sectionAt : Layout → Bool → List Entry
@@ -46,11 +46,12 @@ entriesRead σ p (busy u ms o) = entriesOf σ p u ms
 entriesRead σ p (done u ms z) = entriesOf σ p u ms
 
 abbrev pub noneFrom : ℕ → Extent
-noneFrom p = record { count = 0; end = p }
+noneFrom p = record { count = 0; end = p; below = false }
 
 -- behind those of x the entries es are laid, as far as there is room
 pub record Adds (f : Form) (out : List ℕ) (x : Extent) (es : List Entry) (r : Extent) (out′ : List ℕ) : Type 0 where
   pub count : r .count ≡ x .count + length es
+  pub below : r .below ≡ (x .below || anyBelow es)
   pub laid : Laid out (x .end) (entriesText f es) (r .end) out′
 
 -- all entries of the interchange s are laid from p on
@@ -67,11 +68,12 @@ LaysAll f p s out (Refused w) out′ = verdictOf s ≡ refusedWith w
 
 -- ---- the register
 
--- how many messages the interchange s has, and how long its register is
+-- how many messages the interchange s has, how long its register is, and whether a total is below zero
 pub record Measured (f : Form) (s : List ℕ) (r : Extent) : Type 0 where
   pub whole : Interchange
   pub accepts : verdictOf s ≡ accepted whole
   pub count : r .count ≡ length (entriesIn whole)
+  pub below : r .below ≡ anyBelow (entriesIn whole)
   pub long : r .end ≡ length (registerText f (entriesIn whole))
 
 abbrev pub MeasuredAs : Form → List ℕ → Entries → Type 0

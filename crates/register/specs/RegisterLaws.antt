@@ -1,7 +1,7 @@
 -- What the walk lays is the register of the reading.
 use Prim.Native.Nat.{ℕ, _+_, _-_, _*_, _≤_, _<_}
 use native.Mathlib.Omega.{arith}
-use mathlib.Core.Bool.{Bool, true, false, cond}
+use mathlib.Core.Bool.{Bool, true, false, cond, _||_}
 use mathlib.Core.List.{List, [], _∷_, _++_, append-nil}
 use mathlib.Core.Path.{_≡_, refl, ap, sym, _∙_, subst}
 use lib.ListN.{length, length-append, replicate}
@@ -22,7 +22,8 @@ use Rattle.syntax.specs.declared.opening.Begun.the-variants.{Refused as Refuses
 use Rattle.grammar.specs.Interchange.{Leaf, Open, message, Reading, idle, shown, showMessage}
 use Rattle.grammar.specs.Places.{wide}
 use Rattle.grammar.specs.Valid.{Interchange, interchange, openingIn}
-use Rattle.grammar.specs.Verdict.{read, refused, accepted, refusedWith, verdictOf, verdictBy, unaAt}
+use Rattle.grammar.specs.Grams.{below}
+use Rattle.grammar.specs.Verdict.{Verdict, read, refused, accepted, refusedWith, verdictOf, verdictBy, unaAt}
 use Rattle.turns.specs.declared.state.State.{State}
 use Rattle.walk.specs.RunLaws.{ReadAll, verdict-by, begun-fits, fresh-tables}
 use Rattle.walk.specs.Runs.{Fresh, answerFrom, Walking, unreadAs}
@@ -37,11 +38,11 @@ use Rattle.writing.specs.Written.{Text, text, noText, refusedAs, Writes, tooLon
 use Rattle.writing.specs.WrittenLaws.{writes-as, writes-none, writes-over, writes-fit}
 use Rattle.writing.specs.declared.Written.{Written}
 use Rattle.writing.specs.declared.Written.the-variants.{Length, Refused}
-use Rattle.forms.specs.Forms.{countText, entryText, entriesText, registerText}
-use Rattle.forms.specs.FormsLaws.{count-short, entries-short, entries-joined}
+use Rattle.forms.specs.Forms.{gramsOf, countText, entryText, entriesText, registerText, large, signLost, anyBelow, textIn}
+use Rattle.forms.specs.FormsLaws.{count-short, entries-short, entries-joined, light-fits, below-more, or-false}
 use Rattle.forms.specs.declared.Form.{Form}
 use Rattle.forms.specs.declared.Entry.{Entry}
-use Rattle.register.specs.Register.{entryOf, entriesOf, entriesIn, registerBy, registerOf, checkedAs}
+use Rattle.register.specs.Register.{entryOf, entriesOf, entriesIn, registerBy, registerOf, equalTo, checkedBy, checkOf}
 use Rattle.register.specs.Laying.{BeginsAt, entryAt, sectionAt, entriesRead, noneFrom, Adds, LaysEntries, LaysAll, Measured, MeasuredAs, Lays}
 use Rattle.register.specs.declared.entries.Extent.{Extent}
 use Rattle.register.specs.declared.register.Entries.{Entries}
@@ -54,21 +55,36 @@ adds-same : {f : Form} {out out′ : List ℕ} {x r : Extent} {es gs : List Entr
 adds-same e a = rw e at a
 
 adds-none : {f : Form} {out : List ℕ} {x : Extent} → Adds f out x [] x out
-adds-none = record { count = omega arith; laid = laid-none }
+adds-none {x = x} = record { count = omega arith; below = sym (or-false (x .below)); laid = laid-none }
 
 adds-more : {f : Form} {out out₁ out′ : List ℕ} {x z r : Extent} {es gs : List Entry} → Adds f out x es z out₁ → Adds f out₁ z gs r out′ → Adds f out x (es ++ gs) r out′
-adds-more {f} {es = es} {gs = gs} a b =
-    record { count = omega (arith, a .count, b .count, length-append es gs); laid = laid-same (sym (entries-joined f es gs)) (laid-more (a .laid) (b .laid)) }
+adds-more {f} {x = x} {es = es} {gs = gs} a b = record {
+  count = omega (arith, a .count, b .count, length-append es gs);
+  below = b .below ∙ ap (λ (t : Bool). t || anyBelow gs) (a .below) ∙ or-or (x .below) (anyBelow es) (anyBelow gs) ∙ ap (λ (t : Bool). x .below || t) (sym (below-more es gs));
+  laid = laid-same (sym (entries-joined f es gs)) (laid-more (a .laid) (b .laid));
+}
+  where
+    or-or : (a b c : Bool) → ((a || b) || c) ≡ (a || (b || c))
+    or-or true b c = refl
+    or-or false b c = refl
 
 -- so many messages, and at most 40 octets for each
 adds-short : {f : Form} {out out′ : List ℕ} {x r : Extent} {es : List Entry} → Adds f out x es r out′ → r .end + 40 * x .count ≤ x .end + 40 * r .count
 adds-short {f} {es = es} a = omega (arith, a .count, a .laid .place, entries-short f es)
 
-pub section-entry : {f : Form} {b : Bool} (c : Layout) {out out′ : List ℕ} {x r : Extent} {e : Entry} → b ≡ true → e ≡ entryAt c → r .count ≡ x .count + 1 → Laid out (x .end) (entryText f e) (r .end) out′
-    → Adds f out x (sectionAt c b) r out′
-section-entry {f} {b} c {out} {out′} {x} {r} {e} d q n l =
+pub section-entry : {f : Form} {b : Bool} (c : Layout) {out out′ : List ℕ} {x r : Extent} {e : Entry} → b ≡ true → e ≡ entryAt c → r .count ≡ x .count + 1
+    → r .below ≡ (x .below || below (gramsOf e)) → Laid out (x .end) (entryText f e) (r .end) out′ → Adds f out x (sectionAt c b) r out′
+section-entry {f} {b} c {out} {out′} {x} {r} {e} d q n v l =
     subst (λ (k : Bool). Adds f out x (sectionAt c k) r out′) (sym d)
-    (adds-same (ap (λ (e : Entry). e ∷ []) q) (record { count = n; laid = laid-same (sym (append-nil (entryText f e))) l }))
+    (adds-same (ap (λ (e : Entry). e ∷ []) q) (record {
+      count = n;
+      below = v ∙ ap (λ (t : Bool). x .below || t) (sym (or-false (below (gramsOf e))));
+      laid = laid-same (sym (append-nil (entryText f e))) l;
+    }))
+
+-- the total of a message is in every form
+pub section-light : (f : Form) (c : Layout) {e : Entry} → e ≡ entryAt c → c .grams < 9223372036854775808 → large f (gramsOf e) ≡ false
+section-light f c d h = subst (λ (e : Entry). large f (gramsOf e) ≡ false) (sym d) (light-fits f (entryAt c) h)
 
 pub section-none : {f : Form} {b : Bool} (c : Layout) {out : List ℕ} {x : Extent} → b ≡ false → Adds f out x (sectionAt c b) x out
 section-none {f} c {out} {x} d = subst (λ (k : Bool). Adds f out x (sectionAt c k) x out) (sym d) adds-none
@@ -78,14 +94,14 @@ section-none {f} c {out} {x} d = subst (λ (k : Bool). Adds f out x (sectionAt c
 entry-so : (σ : Service) (s : List ℕ) (q : ℕ) (o : Open) (t : Leaf) (c : Layout) (rows : List ℕ) → PartsLie σ s q o t c rows → entryAt c ≡ entryOf σ q (message o t)
 entry-so σ s q o t c rows l =
     let e : c .end - c .unh ≡ wide σ (showMessage (message o t)) = omega (arith, l .unh, l .unt, l .end) in
-    entry-one (l .unh) e (l .loads) (l .grams)
+    entry-one (l .unh) e (l .loads) (l .grams) (l .below)
   where
-    entry-one : {a b d e a′ b′ d′ e′ : ℕ} → a ≡ a′ → b ≡ b′ → d ≡ d′ → e ≡ e′
-        → _≡_ {A = Entry} (record { place = a; length = b; loads = d; grams = e }) (record { place = a′; length = b′; loads = d′; grams = e′ })
-    entry-one p q r s = rw (p, q, r, s)
+    entry-one : {a b d e a′ b′ d′ e′ : ℕ} {v v′ : Bool} → a ≡ a′ → b ≡ b′ → d ≡ d′ → e ≡ e′ → v ≡ v′
+        → _≡_ {A = Entry} (record { place = a; length = b; loads = d; grams = e; below = v }) (record { place = a′; length = b′; loads = d′; grams = e′; below = v′ })
+    entry-one p q r s t = rw (p, q, r, s, t)
 
-laid-forward : {σ : Service} {s : List ℕ} {q : ℕ} {o : Open} {t : Leaf} {c : Layout} {rows : List ℕ} → PartsLie σ s q o t c rows → c .unh ≤ c .end
-laid-forward l = omega (arith, l .unh, l .unt, l .end)
+laid-forward : {σ : Service} {s : List ℕ} {q : ℕ} {o : Open} {t : Leaf} {c : Layout} {rows : List ℕ} → PartsLie σ s q o t c rows → (c .unh ≤ c .end) × (c .grams < 9223372036854775808)
+laid-forward l = (omega (arith, l .unh, l .unt, l .end), l .light)
 
 -- ---- the walk: what it starts with, and what holds at its head
 
@@ -115,10 +131,10 @@ stays-read σ p (breaks u ms o) = refl
 
 module _ {y : Syntax} {s : List ℕ} {from : ℕ} {x : State} {h l b : List ℕ} {i : ℕ} (w : Walking y s from x h l b i) {c : Section} {h′ l′ b′ rows : List ℕ} (g : Passing w c h′ l′ b′ rows)
   where
-    pub passed-forward : c .closed ≡ true → c .layout .unh ≤ c .layout .end
+    pub passed-forward : c .closed ≡ true → (c .layout .unh ≤ c .layout .end) × (c .layout .grams < 9223372036854775808)
     passed-forward e = by (subst (λ (f : Bool). SectionBy f y s i (w .tree) (g .walks .tree) (c .layout) rows) e (g .by))
       where
-        by : SectionBy true y s i (w .tree) (g .walks .tree) (c .layout) rows → c .layout .unh ≤ c .layout .end
+        by : SectionBy true y s i (w .tree) (g .walks .tree) (c .layout) rows → (c .layout .unh ≤ c .layout .end) × (c .layout .grams < 9223372036854775808)
         by v = laid-forward (v .4 .2)
 
     -- a section brings its entries
@@ -193,7 +209,7 @@ module _ {f : Form} {s out out′ : List ℕ} {x : Extent} (g : LaysEntries f 0 
   pub measured-fits : q + x .end < 18446744073709551616
   measured-fits = omega (arith, l .place, count-short f (x .count), g .few, adds-short (g .adds))
 
-  pub measured-so : Measured f s (record { count = x .count; end = q + x .end })
+  pub measured-so : Measured f s (record { count = x .count; end = q + x .end; below = x .below })
   measured-so =
       let es = entriesIn (g .whole) in
       let n : x .count ≡ length es = omega (arith, g .adds .count) in
@@ -202,32 +218,32 @@ module _ {f : Form} {s out out′ : List ℕ} {x : Extent} (g : LaysEntries f 0 
         whole = g .whole;
         accepts = g .accepts;
         count = n;
+        below = g .adds .below;
         long = omega (arith, l .place, c, g .adds .laid .place, length-append (countText f (length es)) (entriesText f es));
       }
 
 -- the count, and the entries behind it
-pub filled : {f : Form} {s : List ℕ} {p : ℕ} {out₀ out out′ : List ℕ} {x z : Extent} → Measured f s x → Laid out₀ 0 (countText f (x .count)) p out → LaysEntries f p s out z out′
-    → Lays (registerOf f s) out₀ (Length (z .end)) out′
-filled {f} {out₀ = out₀} {out′ = out′} {x = x} {z = z} w l g =
+pub filled : {f : Form} {s : List ℕ} {p : ℕ} {out₀ out out′ : List ℕ} {x z : Extent} → Measured f s x → signLost f (x .below) ≡ false → Laid out₀ 0 (countText f (x .count)) p out
+    → LaysEntries f p s out z out′ → Lays (registerOf f s) out₀ (Length (z .end)) out′
+filled {f} {s} {out₀ = out₀} {out′ = out′} {x = x} {z = z} w v l g =
     let es = entriesIn (g .whole) in
     let i : w .whole ≡ g .whole = accepted-one (sym (w .accepts) ∙ g .accepts) in
     let n : x .count ≡ length es = w .count ∙ ap (λ (i : Interchange). length (entriesIn i)) i in
     let d : Laid out₀ 0 (registerText f es) (z .end) out′ = laid-more (laid-same (ap (countText f) n) l) (g .adds .laid) in
     let k : z .end ≡ length (registerText f es) = omega (arith, d .place) in
-    record { octets = registerText f es; is = ap (registerBy f) (g .accepts); answer = ap Length k; laid = rw k at d }
+    let u : signLost f (anyBelow es) ≡ false = sym (ap (signLost f) (w .below ∙ ap (λ (i : Interchange). anyBelow (entriesIn i)) i)) ∙ v in
+    let t : registerOf f s ≡ text (registerText f es) = ap (registerBy f) (g .accepts) ∙ rw u in
+    record { octets = registerText f es; is = t; answer = ap Length k; laid = rw k at d }
   where
     accepted-one : {i j : Interchange} → accepted i ≡ accepted j → i ≡ j
     accepted-one e = cc
 
 module _ (f : Form) (s : List ℕ) (w : Refusal) (e : MeasuredAs f s (Unread w)) where
-  unwritten : registerOf f s ≡ noText w
-  unwritten = ap (registerBy f) e
-
   pub write-refused : (out : List ℕ) → Writes (registerOf f s) out (Refused w) out
-  write-refused out = writes-as (sym unwritten) (writes-none refl)
+  write-refused out = writes-as (sym (ap (registerBy f) e)) (writes-none refl)
 
-  pub check-refused : (r : List ℕ) → Differs w ≡ checkedAs (registerOf f s) r
-  check-refused r = sym (ap (λ (t : Text). checkedAs t r) unwritten)
+  pub check-refused : (r : List ℕ) → Differs w ≡ checkOf f s r
+  check-refused r = sym (ap (λ (v : Verdict). checkedBy f v r) e)
 
 module _ {f : Form} {s : List ℕ} {x : Extent} (w : Measured f s x) where
   -- what is measured is not refused
@@ -240,43 +256,68 @@ module _ {f : Form} {s : List ℕ} {x : Extent} (w : Measured f s x) where
   abbrev octets : List ℕ
   octets = registerText f (entriesIn (w .whole))
 
-  register-so : registerOf f s ≡ text octets
-  register-so = ap (registerBy f) (w .accepts)
+  check-is : (r : List ℕ) → checkOf f s r ≡ equalTo (textIn f (entriesIn (w .whole))) r
+  check-is r = ap (λ (v : Verdict). checkedBy f v r) (w .accepts)
 
-  lays-so : {out out′ : List ℕ} {a : Written} → Lays (registerOf f s) out a out′ → (a ≡ Length (x .end)) × Laid out 0 octets (x .end) out′
-  lays-so q =
-      let e : text (q .octets) ≡ text octets = sym (q .is) ∙ register-so in
-      let d : q .octets ≡ octets = cc in
-      (q .answer ∙ ap (λ (t : List ℕ). Length (length t)) d ∙ sym (ap Length (w .long)), rw (d, ← w .long) at (q .laid))
+  sign-is : {t b : Bool} → t ≡ signLost f (x .below) → t ≡ b → signLost f (anyBelow (entriesIn (w .whole))) ≡ b
+  sign-is v e = sym (v ∙ ap (signLost f) (w .below)) ∙ e
 
-  -- by what `too_long` answers
-  module _ {out : List ℕ} {b : Bool} (d : b ≡ tooLong (length out) (x .end)) where
-    pub write-over : {r : Written} → b ≡ true → r ≡ refusedAs 15 → Writes (registerOf f s) out r out
-    write-over h q = writes-as (sym register-so) (writes-over (w .long) d h q)
+  -- by what `sign_lost` answers: a minus that is lost
+  module _ {t : Bool} (v : t ≡ signLost f (x .below)) (h : t ≡ true) where
+    no-text : textIn f (entriesIn (w .whole)) ≡ noText (atZero 19)
+    no-text = rw (sign-is v h)
 
-    pub write-fit : {r : Written} {out′ : List ℕ} → b ≡ false → Lays (registerOf f s) out r out′ → Writes (registerOf f s) out r out′
-    write-fit {r} {out′} h q =
-        let g = lays-so q in
-        writes-as (sym register-so) (subst (λ (r : Written). Writes (text octets) out r out′) (sym (g .0)) (writes-fit (w .long) d h (g .1)))
+    pub write-negative : {out : List ℕ} {r : Written} → r ≡ refusedAs 19 → Writes (registerOf f s) out r out
+    write-negative q = writes-as (sym (ap (registerBy f) (w .accepts) ∙ no-text)) (writes-none q)
 
-  -- the check: it is compared with what would be written
-  pub check-long : (r : List ℕ) → 65535 < x .end → Differs (atZero 13) ≡ checkedAs (registerOf f s) r
-  check-long r h = sym (ap (λ (t : Text). checkedAs t r) register-so ∙ rw (← w .long, lt-ltb _ _ h))
+    pub check-negative : (r : List ℕ) → Differs (atZero 13) ≡ checkOf f s r
+    check-negative r = sym (check-is r ∙ ap (λ (t : Text). equalTo t r) no-text)
 
-  module _ (r : List ℕ) {out : List ℕ} {a : Written} {out′ z : List ℕ} {b : Bool} (l : x .end ≤ 65535) (h : x .end ≤ length out) (q : Lays (registerOf f s) out a out′)
-      (d : z ≡ slice 0 (x .end) out′) (e : b ≡ same (content 32 z) r) where
-    check-laid : cond b Same (Differs (atZero 13)) ≡ checkedAs (registerOf f s) r
-    check-laid =
-        let k : length octets ≤ length out = omega (arith, w .long, h) in
-        let v : slice 0 (x .end) out′ ≡ octets = slice-take 0 (x .end) out′ ∙ laid-part (lays-so q .1) k in
-        let g : b ≡ same octets r = e ∙ ap (λ (y : List ℕ). same y r) (plain-content z ∙ d ∙ v) in
-        ap (λ (c : Bool). cond c Same (Differs (atZero 13))) g ∙ sym (ap (λ (t : Text). checkedAs t r) register-so ∙ rw (← w .long, le-ltb _ _ l))
+  -- .. or none
+  module _ (v : signLost f (x .below) ≡ false) where
+    text-so : textIn f (entriesIn (w .whole)) ≡ text octets
+    text-so = rw (sign-is refl v)
 
-    pub check-same : b ≡ true → Same ≡ checkedAs (registerOf f s) r
-    check-same k = sym (ap (λ (c : Bool). cond c Same (Differs (atZero 13))) k) ∙ check-laid
+    register-so : registerOf f s ≡ text octets
+    register-so = ap (registerBy f) (w .accepts) ∙ text-so
 
-    pub check-other : b ≡ false → Differs (atZero 13) ≡ checkedAs (registerOf f s) r
-    check-other k = sym (ap (λ (c : Bool). cond c Same (Differs (atZero 13))) k) ∙ check-laid
+    check-so : (r : List ℕ) → checkOf f s r ≡ equalTo (text octets) r
+    check-so r = check-is r ∙ ap (λ (t : Text). equalTo t r) text-so
+
+    lays-so : {out out′ : List ℕ} {a : Written} → Lays (registerOf f s) out a out′ → (a ≡ Length (x .end)) × Laid out 0 octets (x .end) out′
+    lays-so q =
+        let e : text (q .octets) ≡ text octets = sym (q .is) ∙ register-so in
+        let d : q .octets ≡ octets = cc in
+        (q .answer ∙ ap (λ (t : List ℕ). Length (length t)) d ∙ sym (ap Length (w .long)), rw (d, ← w .long) at (q .laid))
+
+    -- by what `too_long` answers
+    module _ {out : List ℕ} {b : Bool} (d : b ≡ tooLong (length out) (x .end)) where
+      pub write-over : {r : Written} → b ≡ true → r ≡ refusedAs 15 → Writes (registerOf f s) out r out
+      write-over h q = writes-as (sym register-so) (writes-over (w .long) d h q)
+
+      pub write-fit : {r : Written} {out′ : List ℕ} → b ≡ false → Lays (registerOf f s) out r out′ → Writes (registerOf f s) out r out′
+      write-fit {r} {out′} h q =
+          let g = lays-so q in
+          writes-as (sym register-so) (subst (λ (r : Written). Writes (text octets) out r out′) (sym (g .0)) (writes-fit (w .long) d h (g .1)))
+
+    -- the check: it is compared with what would be written
+    pub check-long : (r : List ℕ) → 65535 < x .end → Differs (atZero 13) ≡ checkOf f s r
+    check-long r h = sym (check-so r ∙ rw (← w .long, lt-ltb _ _ h))
+
+    module _ (r : List ℕ) {out : List ℕ} {a : Written} {out′ z : List ℕ} {b : Bool} (l : x .end ≤ 65535) (h : x .end ≤ length out) (q : Lays (registerOf f s) out a out′)
+        (d : z ≡ slice 0 (x .end) out′) (e : b ≡ same (content 32 z) r) where
+      check-laid : cond b Same (Differs (atZero 13)) ≡ checkOf f s r
+      check-laid =
+          let k : length octets ≤ length out = omega (arith, w .long, h) in
+          let v : slice 0 (x .end) out′ ≡ octets = slice-take 0 (x .end) out′ ∙ laid-part (lays-so q .1) k in
+          let g : b ≡ same octets r = e ∙ ap (λ (y : List ℕ). same y r) (plain-content z ∙ d ∙ v) in
+          ap (λ (c : Bool). cond c Same (Differs (atZero 13))) g ∙ sym (check-so r ∙ rw (← w .long, le-ltb _ _ l))
+
+      pub check-same : b ≡ true → Same ≡ checkOf f s r
+      check-same k = sym (ap (λ (c : Bool). cond c Same (Differs (atZero 13))) k) ∙ check-laid
+
+      pub check-other : b ≡ false → Differs (atZero 13) ≡ checkOf f s r
+      check-other k = sym (ap (λ (c : Bool). cond c Same (Differs (atZero 13))) k) ∙ check-laid
 
 module _ (f : Form) (s : List ℕ) {g : Begun} {b : Breach} {w : Refusal} (e : g ≡ begunOf s) (d : g ≡ Refuses b) (k : w ≡ refusalAt s (b .number) (b .place)) where
   pub unbegun : MeasuredAs f s (Unread w)

@@ -1,4 +1,5 @@
 // Writing the register of an interchange, and checking one against it.
+ghost use mathlib.Core.Bool.{false};
 ghost use mathlib.Core.Path.{_≡_};
 ghost use Prim.Native.Nat.{_≤_};
 ghost use lib.ListN.{length};
@@ -6,7 +7,8 @@ ghost use Rattle.syntax.specs.Refusals.{atZero};
 ghost use Rattle.syntax.specs.Classes.{Table};
 ghost use Rattle.walk.specs.Runs.{Fresh};
 ghost use Rattle.writing.specs.Written.{Writes};
-ghost use Rattle.register.specs.Register.{registerOf, checkedAs, toldCheck, checkNumbers};
+ghost use Rattle.forms.specs.Forms.{signLost};
+ghost use Rattle.register.specs.Register.{registerOf, checkOf, toldCheck, checkNumbers};
 ghost use Rattle.register.specs.Laying.{BeginsAt, LaysAll, Measured, MeasuredAs, Lays};
 use crate::entries::Extent;
 use crate::entries::none_from;
@@ -14,6 +16,7 @@ use crate::entries::put_section;
 use beginning::begin;
 use forms::Form;
 use forms::put_count;
+use forms::sign_lost;
 use refusals::refusal;
 use syntax::Refusal;
 use syntax::Syntax;
@@ -180,6 +183,7 @@ fn measure(s: &[u8], from: usize, t: &[u8; 256], y: Syntax, form: Form) -> Entri
             Entries::Of(Extent {
                 count: x.count,
                 end: start + x.end,
+                below: x.below,
             })
         }
     }
@@ -197,7 +201,7 @@ fn fill(
 ) -> Written
     requires { ⌜ Table y (now t) ⌝ }
     requires { ⌜ BeginsAt y (now s) from ⌝ }
-    requires { ⌜ Measured form (now s) x ⌝ }
+    requires { ⌜ Measured form (now s) x × (signLost form (x .below) ≡ false) ⌝ }
     ensures { λ r. ⌜ Lays (registerOf form (now (s .entry))) (now (out .entry)) r (now (out .exit)) ⌝ }
 {
     let start = put_count(&mut *out, form, x.count as u64);
@@ -207,7 +211,7 @@ fn fill(
     }
 }
 
-// Measured, and then laid.
+// Measured, and then laid: 19 before 15.
 fn write_from(
     s: &[u8],
     from: usize,
@@ -223,6 +227,9 @@ fn write_from(
     match measure(s, from, t, y, form) {
         Entries::Refused(f) => Written::Refused(f),
         Entries::Of(x) => {
+            if sign_lost(form, x.below) {
+                return refused(19);
+            }
             if too_long(out.len(), x.end) {
                 return refused(15);
             }
@@ -256,7 +263,7 @@ fn differs() -> Checked
     })
 }
 
-// Compared with what is written for the interchange. A register too long to be written is none.
+// Compared with what is written for the interchange. A register too long to be written, or without place for a minus, is none.
 fn check_from(
     s: &[u8],
     from: usize,
@@ -267,12 +274,15 @@ fn check_from(
 ) -> Checked
     requires { ⌜ Table y (now t) ⌝ }
     requires { ⌜ BeginsAt y (now s) from ⌝ }
-    ensures { λ r. ⌜ r ≡ checkedAs (registerOf form (now (s .entry))) (now (register .entry)) ⌝ }
+    ensures { λ r. ⌜ r ≡ checkOf form (now (s .entry)) (now (register .entry)) ⌝ }
 {
     match measure(s, from, t, y, form) {
         Entries::Refused(f) => Checked::Refused(f),
         Entries::Of(x) => {
             let m = x.end;
+            if sign_lost(form, x.below) {
+                return differs();
+            }
             if 65535 < m {
                 return differs();
             }
@@ -288,8 +298,8 @@ fn check_from(
 
 // Whether `register` is the register of the interchange in this form: equal octets, or 13.
 pub fn register_check(s: &[u8], form: Form, register: &[u8]) -> Checked
-    ensures { λ r. ⌜ r ≡ checkedAs (registerOf form (now (s .entry))) (now (register .entry)) ⌝ }
-    ensures { λ r. ⌜ toldCheck r ≡ checkNumbers (registerOf form (now (s .entry))) (now (register .entry)) ⌝ }
+    ensures { λ r. ⌜ r ≡ checkOf form (now (s .entry)) (now (register .entry)) ⌝ }
+    ensures { λ r. ⌜ toldCheck r ≡ checkNumbers form (now (s .entry)) (now (register .entry)) ⌝ }
 {
     match begin(s) {
         Begun::Refused(f) => Checked::Refused(refusal(s, f)),

@@ -184,6 +184,7 @@ roomy-fresh b h = record {
   headers = least 9;
   loads = least 1;
   grams = least (1 * 1000000000000);
+  back = least (1 * 1000000000000);
   base = least 1;
   own = least 1;
   sizes = λ i u. let w : i < 0 = u in absurd (omega arith);

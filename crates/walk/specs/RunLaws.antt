@@ -106,6 +106,7 @@ walking-start {y} {s} {h} {l} {b} {x} {i} f n e =
           headers = omega arith;
           loads = omega arith;
           grams = omega arith;
+          back = omega arith;
           base = omega arith;
           own = omega arith;
           sizes = λ i a. let z : ⊥ = omega arith in absurd z;

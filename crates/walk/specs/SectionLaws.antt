@@ -1,11 +1,11 @@
 -- Laws of the walk by sections: the header that a trailer names, a segment further in a message, and its end.
-use Prim.Native.Nat.{ℕ, suc, _+_, _-_, _≤_, _<_}
+use Prim.Native.Nat.{ℕ, suc, _+_, _*_, _-_, _≤_, _<_}
 use native.Mathlib.Omega.{arith}
 use mathlib.Core.Path.{_≡_, refl, ap, sym, _∙_, subst}
 use mathlib.Core.Bool.{Bool, true, false, cond, false≢true}
 use mathlib.Core.List.{List, [], _∷_}
 use mathlib.Core.Option.{some}
-use lib.Dec.{T, eqb}
+use lib.Dec.{T, eqb, ltb}
 use borrow.Author.Tests.{ne-eqb}
 use lib.ListN.{length, take, drop, getD}
 use lib.Seq.{slice, drop-cons}
@@ -19,7 +19,9 @@ use Rattle.syntax.specs.declared.Service.{Service}
 use Rattle.syntax.specs.declared.Syntax.{Syntax}
 use Rattle.syntax.specs.declared.Breach.{Breach}
 use Rattle.grammar.specs.Lists.{Snoc, nil, _▷_, _+++_, size, joined}
-use Rattle.grammar.specs.Grams.{sum}
+use Rattle.grammar.specs.Grams.{sum, magnitude, below}
+use Rattle.grammar.specs.Weighed.{forward, back, apart}
+use Rattle.grammar.specs.WeighedLaws.{apart-most, sum-below, sum-magnitude}
 use Rattle.grammar.specs.ListsLaws.{each-size}
 use Rattle.grammar.specs.Segments as segments
 use Rattle.grammar.specs.Segments.{Named, Free, kindIn, tags, seg, elementsOf}
@@ -44,7 +46,7 @@ use Rattle.message.specs.Steps.{Sought}
 use Rattle.message.specs.declared.Group.{Group}
 use Rattle.message.specs.declared.Group.the-variants.{Opened as Fresh}
 use Rattle.message.specs.declared.Message.{Message as Kept}
-use Rattle.turns.specs.Held.{phased, stateIn}
+use Rattle.turns.specs.Held.{phased, stateIn, openSize}
 use Rattle.walk.specs.Layout.{spotsOf, spotStep, rowStep, RowRoom, Rows}
 use Rattle.walk.specs.LayoutLaws.{place-on, spots-on, spots-open, rows-on, rows-open, room-on}
 use Rattle.walk.specs.RunLaws.{ReadAll, long-print, walking-start, unread-idle}
@@ -159,15 +161,23 @@ sums-loads : (b : Body) → sumsOf b .loads ≡ size (loadsB b)
 sums-loads (plain b) = refl
 sums-loads (ack c ls) = refl
 
-sums-grams : (b : Body) → sumsOf b .grams ≡ sum (loadsB b)
-sums-grams (plain b) = refl
-sums-grams (ack c ls) = refl
+sums-grams : (b : Body) → (sumsOf b .grams ≡ forward (loadsB b)) × (sumsOf b .back ≡ back (loadsB b))
+sums-grams (plain b) = (refl, refl)
+sums-grams (ack c ls) = (refl, refl)
 
 kept-loads : (o : Open) (t : Leaf) → keptOf o .sums .loads ≡ size (loadsM (message o t))
 kept-loads (msg h hs b ts) t = sums-loads b
 
-kept-grams : (o : Open) (t : Leaf) → keptOf o .sums .grams ≡ sum (loadsM (message o t))
+kept-grams : (o : Open) (t : Leaf) → (keptOf o .sums .grams ≡ forward (loadsM (message o t))) × (keptOf o .sums .back ≡ back (loadsM (message o t)))
 kept-grams (msg h hs b ts) t = sums-grams b
+
+-- the two counters of what is kept give the sum's magnitude and its sign
+module _ {m : Kept} (o : Open) (t : Leaf) (n : keptOf o ≡ m) where
+  kept-magnitude : apart (m .sums .grams) (m .sums .back) ≡ magnitude (sum (loadsM (message o t)))
+  kept-magnitude = rw (← n, kept-grams o t .0, kept-grams o t .1) (sym (sum-magnitude (loadsM (message o t))))
+
+  kept-below : ltb (m .sums .grams) (m .sums .back) ≡ below (sum (loadsM (message o t)))
+  kept-below = rw (← n, kept-grams o t .0, kept-grams o t .1) (sym (sum-below (loadsM (message o t))))
 
 summary-kept : (o : Open) → summaryOf o .m ≡ keptOf o
 summary-kept (msg h hs b ts) = refl
@@ -210,6 +220,17 @@ module _ {y : Syntax} {s : List ℕ} {from p : ℕ} {u : Leaf} {ms : Snoc Messag
   busy-now = now-open .phase
 
   module _ {a : Ahead} {h′ l′ b′ : List ℕ} (f : Onward (w .walks) a h′ l′ b′) where
+    -- a message has at most 65,535 octets, so that its loads have less than 2^63 grams either way
+    weighs-light : apart (x .message .sums .grams) (x .message .sums .back) < 9223372036854775808
+    weighs-light =
+        let t : 8 * x .count + 4 * x .message .segments ≤ i = subst (λ (p : Phase). 8 * x .count + 4 * openSize p (x .message) ≤ i) busy-now (w .walks .held .taken) in
+        let n = f .inside in
+        let e = f .size in
+        let o = w .walks .short in
+        let j = w .walks .held .roomy .grams in
+        let k = w .walks .held .roomy .back in
+        apart-most (x .message .sums .grams) (x .message .sums .back) 9223372036854775808 (omega arith) (omega arith)
+
     goes-to : place (busy u ms (w .o)) (f .g) ≡ some (f .walks .tree)
     goes-to = ap (λ (z : Reading). place z (f .g)) (sym (w .tree)) ∙ f .passed .placed
 
@@ -304,7 +325,9 @@ module _ {y : Syntax} {s : List ℕ} {from p : ℕ} {u : Leaf} {ms : Snoc Messag
                   starts = w .starts;
                   autack = rw k (sym (ap (λ (m : Kept). isAutack (m .autack)) n) ∙ kept-autack (w .o));
                   loads = rw k (sym (ap (λ (m : Kept). m .sums .loads) n) ∙ kept-loads (w .o) (elementsOf (f .g)));
-                  grams = rw k (sym (ap (λ (m : Kept). m .sums .grams) n) ∙ kept-grams (w .o) (elementsOf (f .g)));
+                  grams = rw k (kept-magnitude (w .o) (elementsOf (f .g)) n);
+                  below = rw k (kept-below (w .o) (elementsOf (f .g)) n);
+                  light = rw k weighs-light;
                   reference = rw k (now-open .ref);
                 },
               ),

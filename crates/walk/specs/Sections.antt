@@ -3,7 +3,7 @@ use Prim.Native.Nat.{ℕ, _+_, _≤_, _<_}
 use mathlib.Core.Path.{_≡_}
 use mathlib.Core.Bool.{Bool, true, false, cond}
 use mathlib.Core.List.{List}
-use lib.Dec.{T}
+use lib.Dec.{T, ltb}
 use lib.ListN.{length}
 use lib.Seq.{slice}
 use Rattle.syntax.specs.Octets.{octets, same}
@@ -13,7 +13,8 @@ use Rattle.syntax.specs.Tree.{printS}
 use Rattle.syntax.specs.declared.Service.{Service}
 use Rattle.syntax.specs.declared.Syntax.{Syntax}
 use Rattle.grammar.specs.Lists.{Snoc, nil, _▷_, size}
-use Rattle.grammar.specs.Grams.{sum}
+use Rattle.grammar.specs.Grams.{sum, magnitude, below}
+use Rattle.grammar.specs.Weighed.{apart}
 use Rattle.grammar.specs.Segments.{Unt, seg}
 use Rattle.grammar.specs.Interchange.{Leaf, Open, msg, Message, message, Reading, start, idle, busy, done, showOpen}
 use Rattle.grammar.specs.Rules.{autack, isAutack, refO}
@@ -46,7 +47,8 @@ laidOut x q at next = record {
   trailers = q .trailers;
   autack = isAutack (x .message .autack);
   loads = x .message .sums .loads;
-  grams = x .message .sums .grams;
+  grams = apart (x .message .sums .grams) (x .message .sums .back);
+  below = ltb (x .message .sums .grams) (x .message .sums .back);
   reference = x .unh;
 }
 
@@ -87,10 +89,12 @@ pub record PartsLie (σ : Service) (s : List ℕ) (p : ℕ) (o : Open) (t : Leaf
   pub headers : c .headers ≡ size (headersIn o)
   pub trailers : c .trailers ≡ size (trailersIn o)
   pub starts : Rows σ p o rows
-  -- whether it is an AUTACK; its loads and their grams; its 0062
+  -- whether it is an AUTACK; its loads and their grams, with their sign and within an `int64_t`; its 0062
   pub autack : c .autack ≡ autackO o
   pub loads : c .loads ≡ size (loadsM (message o t))
-  pub grams : c .grams ≡ sum (loadsM (message o t))
+  pub grams : c .grams ≡ magnitude (sum (loadsM (message o t)))
+  pub below : c .below ≡ below (sum (loadsM (message o t)))
+  pub light : c .grams < 9223372036854775808
   pub reference : compared (content (σ .release) (slice (c .reference .start) (c .reference .end) s)) ≡ refO o
 
 -- ---- inside a message

@@ -8,6 +8,7 @@ ghost use Rattle.syntax.specs.Octets.{same};
 ghost use Rattle.syntax.specs.Classes.{Table};
 ghost use Rattle.elements.specs.Octets.{textAt};
 ghost use Rattle.message.specs.Heads.{headRef, headFlag};
+ghost use Rattle.grammar.specs.Weighed as weighed;
 ghost use Rattle.walk.specs.Layout.{spotStep, rowStep, RowRoom};
 ghost use Rattle.walk.specs.Runs.{unreadAs, isDone, isBusy, Walking};
 ghost use Rattle.walk.specs.Sections.{nameableIn, laidOut, passedAs, leftOpen, misplacedAs, endedAs, Starting, SectionEnds, Between, ReachedIs};
@@ -31,7 +32,7 @@ use turns::state::State;
 use turns::state::Stretch;
 
 // Where the parts of a message stand: its UNH, its header groups, its body, its trailer groups, its UNT, and what comes behind it; how many headers and
-// trailers it has; whether it is an AUTACK; its loads and their grams; its 0062.
+// trailers it has; whether it is an AUTACK; its loads and their grams, and whether they are below zero; its 0062.
 pub struct Layout {
     pub unh: usize,
     pub heads: usize,
@@ -44,6 +45,7 @@ pub struct Layout {
     pub autack: bool,
     pub loads: usize,
     pub grams: u64,
+    pub below: bool,
     pub reference: Stretch,
 }
 
@@ -135,6 +137,16 @@ pub fn names_free(
     is_free(s, v.release, heads, i, component_part(s, at, t, y, 1, 0))
 }
 
+// How far two counts are apart.
+fn apart(a: u64, b: u64) -> u64
+    ensures { λ r. ⌜ r ≡ weighed.apart a b ⌝ }
+{
+    if a < b {
+        return b - a;
+    }
+    a - b
+}
+
 // The layout of the message `st` whose UNT stands from `at` to `next`.
 fn laid_out(st: State, x: Spots, at: usize, next: usize) -> Layout
     ensures { λ r. ⌜ r ≡ laidOut st x at next ⌝ }
@@ -154,7 +166,8 @@ fn laid_out(st: State, x: Spots, at: usize, next: usize) -> Layout
         trailers: x.trailers,
         autack: is_autack(a),
         loads: u.loads as usize,
-        grams: u.grams,
+        grams: apart(u.grams, u.back),
+        below: u.grams < u.back,
         reference: w,
     }
 }

@@ -1,4 +1,4 @@
-use Rattle.lines.specs.Words.{feed}
+use Rattle.lines.specs.Words.{feed, signWords}
 use Rattle.writing.specs.Decimal.{decimalOf}
 use Rattle.syntax.specs.Octets.{octets}
 use mathlib.Core.List.{[], _∷_}
@@ -23,6 +23,9 @@ slice-aggregate-put-2 c = search needs
 put-requires-2 : tie.Need-put-requires-2
 put-requires-2 c κs = search needs
 
+put-sign-requires : tie.Need-put-sign-requires
+put-sign-requires c κs = search needs
+
 put-number-requires-2 : tie.Need-put-number-requires-2
 put-number-requires-2 c κs = search needs
 
@@ -36,7 +39,7 @@ same-length : tie.Need-same-length
 same-length c = search needs
 
 returns : tie.Need-returns
-returns c = (weaving-end (weaving-put (weaving-put (weaving-put (weaving-put (weaving-put (weaving-start (c .before .before .before .before .before .before .before .before .before .before .before .before .before .before .before .before .before .before .before .before .before .before .before .before .args .out .now) (c .before .before .before .before .before .before .before .before .before .before .before .before .before .before .before .before .before .before .before .before .before .before .before .before .args .at) (octets " loads " ∷ decimalOf (c .before .before .before .before .before .before .before .before .before .before .before .before .before .before .before .before .before .before .before .before .before .before .before .before .args .loads) ∷ octets " grams " ∷ decimalOf (c .before .before .before .before .before .before .before .before .before .before .before .before .before .before .before .before .before .before .before .before .before .before .before .before .args .grams) ∷ feed ∷ [])) (c .before .before .before .before .before .before .before .before .before .before .before .before .before .before .before .before .before .before .before .before .put .ensures)) (c .before .before .before .before .before .before .before .before .before .before .before .before .before .before .before .before .put-number .ensures .0)) (c .before .before .before .before .before .before .before .before .before .before .before .put2 .ensures)) (c .before .before .before .before .before .before .before .put-number2 .ensures .0)) (c .before .before .put3 .ensures)), omega (arith, c .before .before .before .before .before .before .before .before .before .before .before .before .before .before .before .before .before .before .before .before .put .ensures .place, c .before .before .before .before .before .before .before .before .before .before .before .before .before .before .before .before .put-number .ensures .1, c .before .before .before .before .before .before .before .before .before .before .before .put2 .ensures .place, c .before .before .before .before .before .before .before .put-number2 .ensures .1, c .before .before .put3 .ensures .place))
+returns c = (weaving-end (weaving-put (weaving-put (weaving-put (weaving-put (weaving-put (weaving-put (weaving-start (c .before .before .before .before .before .before .before .before .before .before .before .before .before .before .before .before .before .before .before .before .before .before .before .before .before .before .before .before .args .out .now) (c .before .before .before .before .before .before .before .before .before .before .before .before .before .before .before .before .before .before .before .before .before .before .before .before .before .before .before .before .args .at) (octets " loads " ∷ decimalOf (c .before .before .before .before .before .before .before .before .before .before .before .before .before .before .before .before .before .before .before .before .before .before .before .before .before .before .before .before .args .loads) ∷ octets " grams " ∷ signWords (c .before .before .before .before .before .before .before .before .before .before .before .before .before .before .before .before .before .before .before .before .before .before .before .before .before .before .before .before .args .below) ∷ decimalOf (c .before .before .before .before .before .before .before .before .before .before .before .before .before .before .before .before .before .before .before .before .before .before .before .before .before .before .before .before .args .grams) ∷ feed ∷ [])) (c .before .before .before .before .before .before .before .before .before .before .before .before .before .before .before .before .before .before .before .before .before .before .before .before .put .ensures)) (c .before .before .before .before .before .before .before .before .before .before .before .before .before .before .before .before .before .before .before .before .put-number .ensures .0)) (c .before .before .before .before .before .before .before .before .before .before .before .before .before .before .before .put2 .ensures)) (c .before .before .before .before .before .before .before .before .before .before .before .put-sign .ensures .0)) (c .before .before .before .before .before .before .before .put-number2 .ensures .0)) (c .before .before .put3 .ensures)), omega (arith, c .before .before .before .before .before .before .before .before .before .before .before .before .before .before .before .before .before .before .before .before .before .before .before .before .put .ensures .place, c .before .before .before .before .before .before .before .before .before .before .before .before .before .before .before .before .before .before .before .before .put-number .ensures .1, c .before .before .before .before .before .before .before .before .before .before .before .before .before .before .before .put2 .ensures .place, c .before .before .before .before .before .before .before .before .before .before .before .put-sign .ensures .1, c .before .before .before .before .before .before .before .put-number2 .ensures .1, c .before .before .put3 .ensures .place))
 
 pub put-loads-spec : {M : Type 1} → statement M
 put-loads-spec =
@@ -47,6 +50,7 @@ put-loads-spec =
     put-number-requires
     slice-aggregate-put-2
     put-requires-2
+    put-sign-requires
     put-number-requires-2
     slice-aggregate-put-3
     put-requires-3

@@ -1,7 +1,8 @@
-use mathlib.Core.Path.{refl, _∙_}
+use mathlib.Core.Path.{refl, sym, subst, _∙_}
 use Rattle.walk.specs.RunLaws.{begun-fits}
 use Rattle.grammar.specs.Verdict.{totalsOf}
-use Rattle.judge.specs.TotalsLaws.{totals-refused, totals-plain, totals-promised}
+use Rattle.judge.specs.Totals.{Light}
+use Rattle.judge.specs.TotalsLaws.{totals-refused, totals-plain, totals-light, totals-promised}
 use borrow.Author.Needs.{needs}
 use Rattle.judge.proofs.totals.message_totals.Statement.{statement}
 use Rattle.judge.proofs.totals.message_totals.Tie as tie
@@ -43,11 +44,11 @@ totalled-requires c κs = search needs
 
 -- src/totals.rt:40:1
 returns : tie.Need-returns
-returns c = totals-promised (totalsOf (c .before .before .before .before .before .before .before .args .s .now) (c .before .before .before .before .before .before .before .args .reference .now)) (totals-refused (c .before .before .before .before .before .before .before .args .s .now) (c .before .before .before .before .before .before .before .args .reference .now) (c .before .before .before .before .begin .ensures) (c .before .before .f .given .1) (c .refusal .ensures))
+returns c = totals-promised (totalsOf (c .before .before .before .before .before .before .before .args .s .now) (c .before .before .before .before .before .before .before .args .reference .now)) (totals-refused (c .before .before .before .before .before .before .before .args .s .now) (c .before .before .before .before .before .before .before .args .reference .now) (c .before .before .before .before .begin .ensures) (c .before .before .f .given .1) (c .refusal .ensures)) tt
 
 -- src/totals.rt:40:1
 returns-2 : tie.Need-returns-2
-returns-2 c = totals-promised (totalsOf (c .before .before .before .before .before .before .before .before .before .before .before .before .args .s .now) (c .before .before .before .before .before .before .before .before .before .before .before .before .args .reference .now)) (c .totalled .ensures ∙ totals-plain (c .before .before .before .before .before .before .before .before .before .before .before .before .args .s .now) (c .before .before .before .before .before .before .before .before .before .before .before .before .args .reference .now) (c .before .find .result) (c .before .find .last .1 .1 .1 .1 .1 .1 .0) (c .before .before .before .before .before .before .before .before .before .begin .ensures) (c .before .before .before .before .before .before .before .b .given .1) ((c .before .find .ensures)))
+returns-2 c = totals-promised (totalsOf (c .before .before .before .before .before .before .before .before .before .before .before .before .args .s .now) (c .before .before .before .before .before .before .before .before .before .before .before .before .args .reference .now)) (c .totalled .ensures ∙ totals-plain (c .before .before .before .before .before .before .before .before .before .before .before .before .args .s .now) (c .before .before .before .before .before .before .before .before .before .before .before .before .args .reference .now) (c .before .find .result) (c .before .find .last .1 .1 .1 .1 .1 .1 .0) (c .before .before .before .before .before .before .before .before .before .begin .ensures) (c .before .before .before .before .before .before .before .b .given .1) ((c .before .find .ensures))) (subst Light (sym (c .totalled .ensures)) (totals-light _ _ _ _ (c .before .find .result) (c .before .find .last .1 .1 .1 .1 .1 .1 .0) (c .before .find .ensures)))
 
 pub message-totals-spec : {M : Type 1} → statement M
 message-totals-spec =

@@ -1,7 +1,7 @@
 use Rattle.syntax.specs.Content.{content}
 use native.Mathlib.Omega.{arith}
 use Rattle.elements.specs.AmountsLaws.{unit-fits}
-use Rattle.message.specs.ItemsLaws.{cnt-plain, cnt-control, cnt-bad, cnt-unknown}
+use Rattle.message.specs.ItemsLaws.{cnt-plain, cnt-control, cnt-bad, cnt-unknown, control-signed}
 use borrow.Author.Needs.{needs}
 use Rattle.message.proofs.items.on_cnt.Statement.{statement}
 use Rattle.message.proofs.items.on_cnt.Tie as tie
@@ -44,7 +44,7 @@ enum-known-w : tie.Need-enum-known-w
 enum-known-w c = search needs
 
 with-control-requires : tie.Need-with-control-requires
-with-control-requires c κs = search needs
+with-control-requires c κs = search (control-signed, needs)
 
 with-sums-requires-2 : tie.Need-with-sums-requires-2
 with-sums-requires-2 c κs =

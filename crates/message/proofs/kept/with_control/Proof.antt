@@ -1,23 +1,19 @@
-use mathlib.Core.Path.{_≡_, refl, sym, ap, _∙_}
-use mathlib.Core.Bool.{Bool, true, false}
-use borrow.Author.Tests.{eq-eqb, ne-eqb, lt-ltb, le-ltb, ltb-true}
-use native.Mathlib.Omega.{arith}
+use Rattle.message.specs.KeptLaws.{control-more, control-parted, control-first}
+use borrow.Author.Needs.{needs}
 use Rattle.message.proofs.kept.with_control.Statement.{statement}
 use Rattle.message.proofs.kept.with_control.Tie as tie
-use Rattle.message.proofs.kept.with_control.Reads as reads
-use Rattle.message.proofs.kept.with_control.Lts as lts
 
--- src/kept.rt:145:13
+same-control-requires : tie.Need-same-control-requires
+same-control-requires c κs = search needs
+
 returns : tie.Need-returns
-returns c = rw (c .before .before .if1 .taken, c .before .if2 .taken)
+returns c = search (control-more, needs)
 
--- src/kept.rt:153:9
 returns-2 : tie.Need-returns-2
-returns-2 c = rw (c .before .if1 .taken, c .if2 .left)
+returns-2 c = search (control-parted, needs)
 
--- src/kept.rt:140:1
 returns-3 : tie.Need-returns-3
-returns-3 c = rw (c .if1 .left)
+returns-3 c = search (control-first, needs)
 
 pub with-control-spec : {M : Type 1} → statement M
-with-control-spec = tie.close (tie.spec returns returns-2 returns-3)
+with-control-spec = tie.close (tie.spec same-control-requires returns returns-2 returns-3)

@@ -1,24 +1,25 @@
-use mathlib.Core.Path.{_≡_, refl, sym, ap, _∙_}
-use mathlib.Core.Bool.{Bool, true, false}
-use native.Mathlib.Numerals.{add-one}
-use native.Mathlib.Omega.{arith}
+use Rattle.message.specs.KeptLaws.{load-back, load-forward}
 use borrow.Author.Needs.{needs}
 use Rattle.message.proofs.kept.with_load.Statement.{statement}
 use Rattle.message.proofs.kept.with_load.Tie as tie
-use Rattle.message.proofs.kept.with_load.Reads as reads
-use Rattle.message.proofs.kept.with_load.Lts as lts
 
--- src/kept.rt:131:16
-add-t3 : tie.Need-add-t3
-add-t3 c = search needs
+add-t5 : tie.Need-add-t5
+add-t5 c = search needs
 
--- src/kept.rt:132:16
-add-t4 : tie.Need-add-t4
-add-t4 c = search needs
+add-t6 : tie.Need-add-t6
+add-t6 c = search needs
 
--- src/kept.rt:126:1
 returns : tie.Need-returns
-returns c = rw add-one
+returns c = search (load-back, needs)
+
+add-t7 : tie.Need-add-t7
+add-t7 c = search needs
+
+add-t8 : tie.Need-add-t8
+add-t8 c = search needs
+
+returns-2 : tie.Need-returns-2
+returns-2 c = search (load-forward, needs)
 
 pub with-load-spec : {M : Type 1} → statement M
-with-load-spec = tie.close (tie.spec add-t3 add-t4 returns)
+with-load-spec = tie.close (tie.spec add-t5 add-t6 returns add-t7 add-t8 returns-2)

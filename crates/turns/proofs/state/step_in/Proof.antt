@@ -78,7 +78,7 @@ enum-told-9 c = search needs
 on-qty-requires : tie.Need-on-qty-requires
 on-qty-requires c κs =
     let g = c .before .before .before .before in
-    (g .pre .1 .0 (rw (c .enum-told9 .given .1)), (sym (g .pre .0) ∙ c .enum-told9 .given .1, (g .pre .1 .1 .1 .0 .0, g .pre .1 .1 .0 .loads, g .pre .1 .1 .0 .grams)))
+    (g .pre .1 .0 (rw (c .enum-told9 .given .1)), (sym (g .pre .0) ∙ c .enum-told9 .given .1, (g .pre .1 .1 .1 .0 .0, g .pre .1 .1 .0 .loads, g .pre .1 .1 .0 .grams, g .pre .1 .1 .0 .back)))
 
 enum-told-10 : tie.Need-enum-told-10
 enum-told-10 c = search needs

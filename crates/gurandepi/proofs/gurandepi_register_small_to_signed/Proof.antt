@@ -1,9 +1,9 @@
 use Rattle.gurandepi.specs.AnswersLaws.{gives}
 use borrow.Author.Needs.{needs}
-use Rattle.gurandepi.proofs.gurandepi_register_old_to_small.Statement.{statement}
-use Rattle.gurandepi.proofs.gurandepi_register_old_to_small.Tie as tie
-use Rattle.gurandepi.proofs.gurandepi_register_old_to_small.Reads as reads
-use Rattle.gurandepi.proofs.gurandepi_register_old_to_small.Lts as lts
+use Rattle.gurandepi.proofs.gurandepi_register_small_to_signed.Statement.{statement}
+use Rattle.gurandepi.proofs.gurandepi_register_small_to_signed.Tie as tie
+use Rattle.gurandepi.proofs.gurandepi_register_small_to_signed.Reads as reads
+use Rattle.gurandepi.proofs.gurandepi_register_small_to_signed.Lts as lts
 use Rattle.gurandepi.proofs.written_answer.Reads as written-answer-reads
 use Rattle.moves.proofs.moving.register_move.Reads as register-move-reads
 
@@ -23,6 +23,6 @@ same-length c = search needs
 returns : tie.Need-returns
 returns c = gives (c .before .before .before .register-move .ensures) (c .written-answer .ensures)
 
-pub gurandepi-register-old-to-small-spec : {M : Type 1} → statement M
-gurandepi-register-old-to-small-spec =
+pub gurandepi-register-small-to-signed-spec : {M : Type 1} → statement M
+gurandepi-register-small-to-signed-spec =
     tie.close (tie.spec register-move-requires written-answer-requires same-length returns)

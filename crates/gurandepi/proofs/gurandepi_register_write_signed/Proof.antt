@@ -1,9 +1,9 @@
 use Rattle.gurandepi.specs.AnswersLaws.{gives}
 use borrow.Author.Needs.{needs}
-use Rattle.gurandepi.proofs.gurandepi_register_write_small.Statement.{statement}
-use Rattle.gurandepi.proofs.gurandepi_register_write_small.Tie as tie
-use Rattle.gurandepi.proofs.gurandepi_register_write_small.Reads as reads
-use Rattle.gurandepi.proofs.gurandepi_register_write_small.Lts as lts
+use Rattle.gurandepi.proofs.gurandepi_register_write_signed.Statement.{statement}
+use Rattle.gurandepi.proofs.gurandepi_register_write_signed.Tie as tie
+use Rattle.gurandepi.proofs.gurandepi_register_write_signed.Reads as reads
+use Rattle.gurandepi.proofs.gurandepi_register_write_signed.Lts as lts
 use Rattle.gurandepi.proofs.written_answer.Reads as written-answer-reads
 use Rattle.register.proofs.register.register_write.Reads as register-write-reads
 
@@ -23,6 +23,6 @@ same-length c = search needs
 returns : tie.Need-returns
 returns c = gives (c .before .before .before .register-write .ensures) (c .written-answer .ensures)
 
-pub gurandepi-register-write-small-spec : {M : Type 1} → statement M
-gurandepi-register-write-small-spec =
+pub gurandepi-register-write-signed-spec : {M : Type 1} → statement M
+gurandepi-register-write-signed-spec =
     tie.close (tie.spec register-write-requires written-answer-requires same-length returns)
