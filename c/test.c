@@ -7,8 +7,10 @@
  * an octet that was not lent. After each call every lent octet, and every guard, has to be as it was, but for the octets
  * of the result. A result is also written into a buffer of exactly its length, and refused in one that is shorter; a register
  * that was written is checked, and moved to what is written in the other form; one that was moved is moved back, or on; what was
- * sealed is judged, and its octets and value are recovered. Interchanges of 65,535 octets and of one more are made and tried,
- * and stored registers of 65,535 messages and of one more.
+ * sealed is judged, and its octets and value are recovered, and its digest is that of the octets to be signed. A digest of a
+ * range is compared with that of the octets that the range call gives, and octets are hashed by the case's parts and one by
+ * one. Interchanges of 65,535 octets and of one more are made and tried, and stored registers of 65,535 messages and of one
+ * more.
  * `report`, and lines that the desk answers `bad`, have no exported call; they are passed over and counted.
  */
 #include "gurandepi.h"
@@ -27,10 +29,11 @@ struct lent {
 
 static struct lent lent[WORDS];     /* by the place of the argument */
 static uint64_t number[WORDS];
+static const char *kind;            /* of a digest */
 static size_t written;              /* by this call, into the last argument */
 static char said[2 * MOST];
 static char commands[1 << 24], answers[1 << 24];
-static unsigned failed, compared, passed_over, checked, sealed_hex, sealed_base64;
+static unsigned failed, compared, passed_over, checked, sealed_hex, sealed_base64, hashed;
 static unsigned long line;
 
 #define OCTETS(i) (lent[i].now + GUARD), lent[i].length
@@ -65,6 +68,22 @@ static void tell_written(struct gurandepi_written r, unsigned out) {
     written = (size_t)r.length;
     snprintf(said, sizeof said, written == 0 ? "ok -" : "ok ");
     for (i = 0; i < written; i++) snprintf(said + 3 + 2 * i, 3, "%02x", (unsigned)lent[out].now[GUARD + i]);
+}
+
+static void tell_digest(struct gurandepi_digest r) {
+    unsigned i;
+    tell(r.number, r.place, r.segment, NULL, 0);
+    if (r.number == 0) said[2] = ' ';
+    for (i = 0; i < 20; i++) {
+        if (r.number == 0) snprintf(said + 3 + 2 * i, 3, "%02x", (unsigned)r.octets[i]);
+        else if (r.octets[i] != 0) fault("a refusal gives back an octet that is not 0", "");
+    }
+}
+
+/* Field by field: what lies between the fields is nobody's. */
+static int same_state(const struct gurandepi_sha1 *s, const struct gurandepi_sha1 *t) {
+    return s->a == t->a && s->b == t->b && s->c == t->c && s->d == t->d && s->e == t->e && s->count == t->count &&
+           memcmp(s->buffer, t->buffer, sizeof s->buffer) == 0;
 }
 
 /* ---- the calls */
@@ -137,6 +156,8 @@ static void make_seal(void) {
     tell_written(gurandepi_seal(OCTETS(0), OCTETS(1), OCTETS(2), number[3], OCTETS(4), OCTETS(5)), 5);
 }
 
+static struct gurandepi_digest digest_of(const uint8_t *x, size_t x_length, const uint8_t *y, size_t y_length);
+
 /* The interchange that was just sealed is accepted; under the reference it has the octets to be signed, and the value. */
 static void seal_back(void) {
     static uint8_t octets[BUFFER], value[BUFFER];
@@ -149,6 +170,8 @@ static void seal_back(void) {
     if (at.number != 0 || o.number != 0 || o.length != header + body || memcmp(octets, sealed + at.header_start, header) != 0 ||
         memcmp(octets + header, sealed + at.body_start, body) != 0)
         fault("what was sealed has other octets than those to be signed", "");
+    if (memcmp(digest_of(octets, (size_t)o.length, octets, 0).octets, gurandepi_digest_scope1(sealed, written, OCTETS(1), OCTETS(2)).octets, 20) != 0)
+        fault("what was sealed has another digest than the octets to be signed", "");
     if (number[3] == GURANDEPI_FILTER_HEX) sealed_hex++;
     if (number[3] == GURANDEPI_FILTER_BASE64) sealed_base64++;
     if (v.number != 0 || v.length != lent[4].length || memcmp(value, lent[4].now + GUARD, lent[4].length) != 0)
@@ -230,7 +253,41 @@ static void make_check(void) {
     tell(r.number, r.place, r.segment, NULL, 0);
 }
 
-/* The arguments: h octets, n a number, c the length of the lent buffer. */
+/* The digest of two parts, one after the other. */
+static struct gurandepi_digest digest_of(const uint8_t *x, size_t x_length, const uint8_t *y, size_t y_length) {
+    struct gurandepi_fed fed = gurandepi_sha1_feed(gurandepi_sha1_start(), x, x_length);
+    fed = gurandepi_sha1_feed(fed.state, y, y_length);
+    if (fed.number != 0 || fed.place != 0 || fed.segment != 0) fault("octets are not fed", "");
+    return gurandepi_sha1_finish(fed.state);
+}
+
+/* The digest is that of the octets that the range call gives; where it refuses with 18, the range call gives some. */
+static void look_digested(struct gurandepi_digest r, uint64_t refusal, const uint8_t *from, uint64_t a, uint64_t b, uint64_t c, uint64_t d) {
+    struct gurandepi_digest own = digest_of(from + a, (size_t)(b - a), from + c, (size_t)(d - c));
+    if (r.number == 0 && memcmp(r.octets, own.octets, 20) != 0) fault("a digest of other octets than the range call's", "");
+    if (r.number != (refusal == 0 && r.number != 0 ? (uint64_t)GURANDEPI_NOT_SHA1 : refusal)) fault("another refusal than the range call's", "");
+}
+
+static void make_digest(void) {
+    struct gurandepi_digest r;
+    if (strcmp(kind, "1") == 0) {
+        struct gurandepi_parts at = gurandepi_scope1(OCTETS(1), OCTETS(3), OCTETS(4));
+        r = gurandepi_digest_scope1(OCTETS(1), OCTETS(3), OCTETS(4));
+        look_digested(r, at.number, lent[1].now + GUARD, at.header_start, at.header_end, at.body_start, at.body_end);
+    } else if (strcmp(kind, "2") == 0) {
+        struct gurandepi_range at = gurandepi_scope2(OCTETS(1), OCTETS(3), OCTETS(4));
+        r = gurandepi_digest_scope2(OCTETS(1), OCTETS(3), OCTETS(4));
+        look_digested(r, at.number, lent[1].now + GUARD, at.start, at.end, at.end, at.end);
+    } else {
+        int whole = strcmp(kind, "3") == 0;
+        struct gurandepi_range at = (whole ? gurandepi_scope3 : gurandepi_f01)(OCTETS(1), OCTETS(2), OCTETS(3), OCTETS(4));
+        r = (whole ? gurandepi_digest_scope3 : gurandepi_digest_f01)(OCTETS(1), OCTETS(2), OCTETS(3), OCTETS(4));
+        look_digested(r, at.number, lent[2].now + GUARD, at.start, at.end, at.end, at.end);
+    }
+    tell_digest(r);
+}
+
+/* The arguments: h octets, n a number, c the length of the lent buffer, k the kind of a digest. */
 static struct call {
     const char *name, *form;
     void (*make)(void);
@@ -247,6 +304,7 @@ static struct call {
     {"seal", "hhhnhc", make_seal, 0, 0},
     {"regwrite", "hnc", make_register, 0, 0},
     {"regmove", "nnhc", make_move, 0, 0},
+    {"digest", "khhhh", make_digest, 0, 0},
     {"regcheck", "hnh", make_check, 0, 0},
 };
 enum { CALLS = sizeof calls / sizeof *calls, CHECK = CALLS - 1 };
@@ -282,7 +340,8 @@ static int lend_hex(struct lent *l, const char *word, unsigned turn) {
 static int lend(unsigned i, char letter, const char *word, size_t room, unsigned turn) {
     if (letter == 'h' && lend_hex(&lent[i], word, turn) != 0) return 1;
     if (letter != 'h') number[i] = strtoull(word, NULL, 10);
-    if (letter == 'n') guard(&lent[i], 0, turn);
+    if (letter == 'k') kind = word;
+    if (letter == 'n' || letter == 'k') guard(&lent[i], 0, turn);
     if (letter == 'c') guard(&lent[i], number[i] < room ? (size_t)number[i] : room, turn);
     memcpy(lent[i].before, lent[i].now, GUARD + lent[i].length + GUARD);
     return 0;
@@ -335,11 +394,50 @@ static void compare(struct call *call, char *words[], const char *answer) {
     if (said[0] == 'o' && call->form[strlen(call->form) - 1] == 'c') fit(call, words, answer);
 }
 
+/* `sha1 PART ..`: the parts, fed as they stand and octet by octet. A state that nothing is fed to stays as it was. */
+static void hash(char *text, const char *answer) {
+    struct gurandepi_fed whole, single;
+    size_t i;
+    whole.state = single.state = gurandepi_sha1_start();
+    for (text = strchr(text, ' '); text != NULL;) {
+        char *word = text + 1;
+        text = strchr(word, ' ');
+        if (text != NULL) *text = 0;
+        if (lend_hex(&lent[0], word, 0) != 0) {
+            fault("the test cannot read the part ", word);
+            return;
+        }
+        whole = gurandepi_sha1_feed(whole.state, OCTETS(0));
+        for (i = 0; i < lent[0].length; i++) single = gurandepi_sha1_feed(single.state, lent[0].now + GUARD + i, 1);
+        if (!same_state(&whole.state, &single.state)) fault("another state where octets are fed one by one", "");
+    }
+    tell_digest(gurandepi_sha1_finish(whole.state));
+    if (strcmp(said, answer) != 0) fault("another digest than ", answer);
+    compared++;
+    hashed++;
+}
+
+/* "15 where more than 2^32 - 1 octets are fed, which changes nothing" */
+static void hash_most(void) {
+    struct gurandepi_sha1 full = gurandepi_sha1_start();
+    struct gurandepi_fed fed;
+    full.count = 4294967292;
+    fed = gurandepi_sha1_feed(full, (const uint8_t *)"abcd", 4);
+    if (fed.number != GURANDEPI_NO_ROOM || fed.place != 0 || fed.segment != 0) fault("2^32 octets are fed", "");
+    if (!same_state(&fed.state, &full)) fault("a feed that is refused changes the state", "");
+    fed = gurandepi_sha1_feed(full, (const uint8_t *)"abc", 3);
+    if (fed.number != 0 || fed.state.count != 4294967295) fault("2^32 - 1 octets are not fed", "");
+}
+
 static void command(char *text, const char *answer) {
     char *words[WORDS + 1] = {text};
     unsigned i, count = 1;
     if (strcmp(answer, "bad") == 0) {
         passed_over++;
+        return;
+    }
+    if (strncmp(text, "sha1", 4) == 0) {
+        hash(text, answer);
         return;
     }
     for (; *text != 0; text++)
@@ -519,10 +617,12 @@ int main(int argc, char **argv) {
     if (told != told_end) fault("more answers than commands", "");
     long_ones();
     long_moves();
+    hash_most();
     calls[CHECK].carried_out += checked;
     for (i = 0; i < CALLS; i++)
         if (calls[i].carried_out == 0 || calls[i].refused == 0) fault("no case carried out, or none refused, of ", calls[i].name);
     if (sealed_hex == 0 || sealed_base64 == 0) fault("no case sealed with hexadecimal, or none with base 64", "");
+    if (hashed == 0) fault("no case of sha1", "");
     printf("%u cases compared, %u passed over (report, bad), %u failed\n", compared, passed_over, failed);
     return failed != 0;
 }

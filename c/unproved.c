@@ -1,5 +1,5 @@
 /* The exported calls over the module that bench/module makes of crates/gurandepi: there a slice goes by a pointer to its place and length, and a
-   struct comes back by a pointer. `rt staticlib` makes these wrappers itself, once the crate is proved. */
+   struct goes in and comes back by a pointer. `rt staticlib` makes these wrappers itself, once the crate is proved. */
 #include "gurandepi.h"
 
 struct octets {
@@ -29,6 +29,14 @@ void inner_register_old_to_signed(struct gurandepi_written *, const struct octet
 void inner_register_signed_to_old(struct gurandepi_written *, const struct octets *, const struct room *);
 void inner_register_small_to_signed(struct gurandepi_written *, const struct octets *, const struct room *);
 void inner_register_small_to_old(struct gurandepi_written *, const struct octets *, const struct room *);
+
+void inner_sha1_start(struct gurandepi_sha1 *);
+void inner_sha1_feed(struct gurandepi_fed *, const struct gurandepi_sha1 *, const struct octets *);
+void inner_sha1_finish(struct gurandepi_digest *, const struct gurandepi_sha1 *);
+void inner_digest_scope1(struct gurandepi_digest *, const struct octets *, const struct octets *, const struct octets *);
+void inner_digest_scope2(struct gurandepi_digest *, const struct octets *, const struct octets *, const struct octets *);
+void inner_digest_f01(struct gurandepi_digest *, const struct octets *, const struct octets *, const struct octets *, const struct octets *);
+void inner_digest_scope3(struct gurandepi_digest *, const struct octets *, const struct octets *, const struct octets *, const struct octets *);
 
 #define OCTETS(name) &(struct octets){name, name##_length}
 #define ROOM &(struct room){out, out_length}
@@ -151,5 +159,51 @@ struct gurandepi_written gurandepi_register_small_to_signed(const uint8_t *store
 struct gurandepi_written gurandepi_register_small_to_old(const uint8_t *stored, size_t stored_length, uint8_t *out, size_t out_length) {
     struct gurandepi_written r;
     inner_register_small_to_old(&r, OCTETS(stored), ROOM);
+    return r;
+}
+
+struct gurandepi_sha1 gurandepi_sha1_start(void) {
+    struct gurandepi_sha1 r;
+    inner_sha1_start(&r);
+    return r;
+}
+
+struct gurandepi_fed gurandepi_sha1_feed(struct gurandepi_sha1 state, const uint8_t *part, size_t part_length) {
+    struct gurandepi_fed r;
+    inner_sha1_feed(&r, &state, OCTETS(part));
+    return r;
+}
+
+struct gurandepi_digest gurandepi_sha1_finish(struct gurandepi_sha1 state) {
+    struct gurandepi_digest r;
+    inner_sha1_finish(&r, &state);
+    return r;
+}
+
+struct gurandepi_digest gurandepi_digest_scope1(const uint8_t *interchange, size_t interchange_length, const uint8_t *message,
+                                                size_t message_length, const uint8_t *header, size_t header_length) {
+    struct gurandepi_digest r;
+    inner_digest_scope1(&r, OCTETS(interchange), OCTETS(message), OCTETS(header));
+    return r;
+}
+
+struct gurandepi_digest gurandepi_digest_scope2(const uint8_t *interchange, size_t interchange_length, const uint8_t *message,
+                                                size_t message_length, const uint8_t *header, size_t header_length) {
+    struct gurandepi_digest r;
+    inner_digest_scope2(&r, OCTETS(interchange), OCTETS(message), OCTETS(header));
+    return r;
+}
+
+struct gurandepi_digest gurandepi_digest_f01(const uint8_t *autack, size_t autack_length, const uint8_t *referenced, size_t referenced_length,
+                                             const uint8_t *message, size_t message_length, const uint8_t *header, size_t header_length) {
+    struct gurandepi_digest r;
+    inner_digest_f01(&r, OCTETS(autack), OCTETS(referenced), OCTETS(message), OCTETS(header));
+    return r;
+}
+
+struct gurandepi_digest gurandepi_digest_scope3(const uint8_t *autack, size_t autack_length, const uint8_t *referenced, size_t referenced_length,
+                                                const uint8_t *message, size_t message_length, const uint8_t *header, size_t header_length) {
+    struct gurandepi_digest r;
+    inner_digest_scope3(&r, OCTETS(autack), OCTETS(referenced), OCTETS(message), OCTETS(header));
     return r;
 }

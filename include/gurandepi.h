@@ -1,6 +1,7 @@
 /*
- * Gurandepi: judges EDIFACT interchanges, hands back what is sealed in them, recovers signature values, totals loads, seals
- * a message, and writes, checks and moves a register. C11 and later, C++11 and later; link libgurandepi.a (x86-64 Linux).
+ * Gurandepi: judges EDIFACT interchanges, hands back what is sealed in them and its digest, recovers signature values, totals
+ * loads, seals a message, and writes, checks and moves a register. C11 and later, C++11 and later; link libgurandepi.a
+ * (x86-64 Linux).
  *
  * How the calls are made
  *
@@ -46,7 +47,7 @@ extern "C" {
  * both from one tree.
  */
 #define GURANDEPI_MAJOR 5
-#define GURANDEPI_MINOR 0
+#define GURANDEPI_MINOR 1
 
 /*
  * The octets of the longest interchange, and of the longest result. An `out` of so many octets has room for every result:
@@ -57,7 +58,7 @@ extern "C" {
 /*
  * The refusals. A file has one: numbers 1 and 2 are looked for first, then the segments are gone through in order, and the
  * first bad one decides. Every call on an interchange judges it in this way before all else, so that each may refuse with 1
- * to 12; 13, 16, 14, 19 and 15 are looked for after that, in this order. The moves of a register are lent no interchange:
+ * to 12; 13, 18, 16, 14, 19 and 15 are looked for after that, in this order. The moves of a register are lent no interchange:
  * they refuse with 17, then 19, then 15.
  */
 enum gurandepi_number {
@@ -80,12 +81,15 @@ enum gurandepi_number {
                                        interchange's. Place: 0 */
     GURANDEPI_BAD_VALUE = 14,       /* the filter of a value is unknown, its text is bad or empty; or a value cannot be
                                        written in this interchange. Place: 0 */
-    GURANDEPI_NO_ROOM = 15,         /* the result is longer than `out`, or than 65,535 octets. Place: 0 */
+    GURANDEPI_NO_ROOM = 15,         /* the result is longer than `out`, or than 65,535 octets; or more than 2^32 - 1 octets
+                                       are fed. Place: 0 */
     GURANDEPI_NOT_SEALABLE = 16,    /* sealing: the reference is not allowed or already used in the message; the filter or
                                        the length of the value is not allowed; nine headers already; an AUTACK. Place: 0 */
     GURANDEPI_BAD_REGISTER = 17,    /* moving: the stored register starts otherwise than its form, is cut, has a number that
                                        is overlong or too large, or octets left over; or it has grams of 2^63 or more and
                                        is moved to the form with signed grams. Place: 0 */
+    GURANDEPI_NOT_SHA1 = 18,        /* digest of a range: no USA stands directly after the header's USH, or it names another
+                                       code than 16 in 0527, or repeats. Place: 0 */
     GURANDEPI_NEGATIVE_TOTAL = 19   /* writing or moving to the old form of a register: a total is below zero. Place: 0 */
 };
 
@@ -137,6 +141,36 @@ struct gurandepi_written {
     uint64_t place;
     uint64_t segment;
     uint64_t length;
+};
+
+/*
+ * A message under way, for its digest: the caller keeps it, and looks into it or changes it at his own risk. It may be copied,
+ * and the copies fed apart.
+ */
+struct gurandepi_sha1 {
+    uint32_t a;
+    uint32_t b;
+    uint32_t c;
+    uint32_t d;
+    uint32_t e;
+    uint8_t buffer[64];
+    uint64_t count;
+};
+
+/* The message with one part more; or, where `number` is not 0, as it was. */
+struct gurandepi_fed {
+    uint64_t number;
+    uint64_t place;
+    uint64_t segment;
+    struct gurandepi_sha1 state;
+};
+
+/* A digest of SHA-1. */
+struct gurandepi_digest {
+    uint64_t number;
+    uint64_t place;
+    uint64_t segment;
+    uint8_t octets[20];
 };
 
 /* Is this an interchange without fault? Refuses with 1 to 12. */
@@ -268,6 +302,42 @@ struct gurandepi_written gurandepi_register_small_to_signed(const uint8_t *store
 
 struct gurandepi_written gurandepi_register_small_to_old(const uint8_t *stored, size_t stored_length,
                                                          uint8_t *out, size_t out_length);
+
+/*
+ * SHA-1 by FIPS 180-4, of octets that come by parts: start, feed each part, finish. However the octets are cut, the digest is
+ * that of the octets joined. A state is handed in by value and comes back; a part may be empty. A feed refuses with 15 where
+ * more than 2^32 - 1 octets would be fed in all: the state then is the one that was handed in, and may be finished. Finish
+ * refuses nothing, and the state may be fed on after it.
+ */
+struct gurandepi_sha1 gurandepi_sha1_start(void);
+
+struct gurandepi_fed gurandepi_sha1_feed(struct gurandepi_sha1 state, const uint8_t *part, size_t part_length);
+
+struct gurandepi_digest gurandepi_sha1_finish(struct gurandepi_sha1 state);
+
+/*
+ * The digest of what a header seals: of exactly the octets that gurandepi_scope1 (its two parts joined), gurandepi_scope2,
+ * gurandepi_f01 or gurandepi_scope3 gives for the same arguments. Each refuses as that call does; then with 18, if the first
+ * USA directly after the header's USH does not name SHA-1, that is code 16 in 0527, the fourth component of its first element,
+ * unrepeated.
+ */
+struct gurandepi_digest gurandepi_digest_scope1(const uint8_t *interchange, size_t interchange_length,
+                                                const uint8_t *message, size_t message_length,
+                                                const uint8_t *header, size_t header_length);
+
+struct gurandepi_digest gurandepi_digest_scope2(const uint8_t *interchange, size_t interchange_length,
+                                                const uint8_t *message, size_t message_length,
+                                                const uint8_t *header, size_t header_length);
+
+struct gurandepi_digest gurandepi_digest_f01(const uint8_t *autack, size_t autack_length,
+                                             const uint8_t *referenced, size_t referenced_length,
+                                             const uint8_t *message, size_t message_length,
+                                             const uint8_t *header, size_t header_length);
+
+struct gurandepi_digest gurandepi_digest_scope3(const uint8_t *autack, size_t autack_length,
+                                                const uint8_t *referenced, size_t referenced_length,
+                                                const uint8_t *message, size_t message_length,
+                                                const uint8_t *header, size_t header_length);
 
 #ifdef __cplusplus
 }

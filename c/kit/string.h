@@ -8,4 +8,5 @@ void *memset(void *to, int octet, size_t length);
 int strcmp(const char *a, const char *b);
 int strncmp(const char *a, const char *b, size_t length);
 size_t strlen(const char *text);
+char *strchr(const char *text, int octet);
 #endif

@@ -49,6 +49,34 @@ mod c {
         pub length: u64,
     }
 
+    #[derive(Clone, Copy)]
+    #[repr(C)]
+    pub struct Sha1 {
+        pub a: u32,
+        pub b: u32,
+        pub c: u32,
+        pub d: u32,
+        pub e: u32,
+        pub buffer: [u8; 64],
+        pub count: u64,
+    }
+
+    #[repr(C)]
+    pub struct Fed {
+        pub number: u64,
+        pub place: u64,
+        pub segment: u64,
+        pub state: Sha1,
+    }
+
+    #[repr(C)]
+    pub struct Digest {
+        pub number: u64,
+        pub place: u64,
+        pub segment: u64,
+        pub octets: [u8; 20],
+    }
+
     #[rustfmt::skip]
     extern "C" {
         pub fn gurandepi_judge(interchange: *const u8, interchange_length: usize) -> Answer;
@@ -111,6 +139,25 @@ mod c {
         pub fn gurandepi_register_small_to_old(
             stored: *const u8, stored_length: usize, out: *mut u8, out_length: usize
         ) -> Written;
+        pub fn gurandepi_sha1_start() -> Sha1;
+        pub fn gurandepi_sha1_feed(state: Sha1, part: *const u8, part_length: usize) -> Fed;
+        pub fn gurandepi_sha1_finish(state: Sha1) -> Digest;
+        pub fn gurandepi_digest_scope1(
+            interchange: *const u8, interchange_length: usize, message: *const u8, message_length: usize,
+            header: *const u8, header_length: usize
+        ) -> Digest;
+        pub fn gurandepi_digest_scope2(
+            interchange: *const u8, interchange_length: usize, message: *const u8, message_length: usize,
+            header: *const u8, header_length: usize
+        ) -> Digest;
+        pub fn gurandepi_digest_f01(
+            autack: *const u8, autack_length: usize, referenced: *const u8, referenced_length: usize,
+            message: *const u8, message_length: usize, header: *const u8, header_length: usize
+        ) -> Digest;
+        pub fn gurandepi_digest_scope3(
+            autack: *const u8, autack_length: usize, referenced: *const u8, referenced_length: usize,
+            message: *const u8, message_length: usize, header: *const u8, header_length: usize
+        ) -> Digest;
     }
 }
 
@@ -134,11 +181,9 @@ fn reason(number: u64) -> Reason {
         Room,
         NotSealable,
         Register,
+        NotSha1,
+        NegativeTotal,
     ];
-    // 18 is none of these calls'.
-    if number == 19 {
-        return NegativeTotal;
-    }
     all[number as usize - 1]
 }
 
@@ -460,4 +505,70 @@ pub fn register_small_to_old<'o>(stored: &[u8], out: &'o mut [u8]) -> Result<&'o
     let s = stored;
     let r = unsafe { c::gurandepi_register_small_to_old(s.as_ptr(), s.len(), out.as_mut_ptr(), out.len()) };
     written(r, out)
+}
+
+/// A message under way, for its digest: SHA-1 by FIPS 180-4. However the octets are cut, the digest is that of the octets joined.
+///
+#[cfg_attr(linked, doc = "```")]
+#[cfg_attr(not(linked), doc = "```no_run")]
+/// # let p7 = std::fs::read("../examples/p7.edi").unwrap();
+/// let parts = gurandepi::scope1(&p7, b"M1", b"A1").unwrap();
+/// let mut fed = gurandepi::Sha1::start();
+/// fed.feed(parts.header).unwrap();
+/// fed.feed(parts.body).unwrap();
+/// assert_eq!(Ok(fed.finish()), gurandepi::digest_scope1(&p7, b"M1", b"A1"));
+/// ```
+#[derive(Clone)]
+pub struct Sha1(c::Sha1);
+
+impl Sha1 {
+    /// No octets yet.
+    pub fn start() -> Sha1 {
+        Sha1(unsafe { c::gurandepi_sha1_start() })
+    }
+
+    /// One part more. Where more than 2^32 - 1 octets would be fed in all it is refused with [`Reason::Room`], and nothing is changed.
+    pub fn feed(&mut self, part: &[u8]) -> Result<(), Refusal> {
+        let r = unsafe { c::gurandepi_sha1_feed(self.0, part.as_ptr(), part.len()) };
+        self.0 = r.state;
+        given(r.number, r.place, r.segment, || ())
+    }
+
+    /// The digest of the octets that were fed so far.
+    pub fn finish(&self) -> [u8; 20] {
+        unsafe { c::gurandepi_sha1_finish(self.0) }.octets
+    }
+}
+
+/// The digest of what a header of scope 1 seals: of the two parts that [`scope1`] gives, one after the other. Where the header's first
+/// USA does not name SHA-1 it is refused with [`Reason::NotSha1`].
+pub fn digest_scope1(interchange: &[u8], message: &[u8], header: &[u8]) -> Result<[u8; 20], Refusal> {
+    let (i, m, h) = (interchange, message, header);
+    let r = unsafe { c::gurandepi_digest_scope1(i.as_ptr(), i.len(), m.as_ptr(), m.len(), h.as_ptr(), h.len()) };
+    given(r.number, r.place, r.segment, || r.octets)
+}
+
+/// The digest of what a header of scope 2 seals: of the part that [`scope2`] gives.
+pub fn digest_scope2(interchange: &[u8], message: &[u8], header: &[u8]) -> Result<[u8; 20], Refusal> {
+    let (i, m, h) = (interchange, message, header);
+    let r = unsafe { c::gurandepi_digest_scope2(i.as_ptr(), i.len(), m.as_ptr(), m.len(), h.as_ptr(), h.len()) };
+    given(r.number, r.place, r.segment, || r.octets)
+}
+
+/// The digest of what a header of scope F01 seals: of the part that [`f01`] gives.
+pub fn digest_f01(autack: &[u8], referenced: &[u8], message: &[u8], header: &[u8]) -> Result<[u8; 20], Refusal> {
+    let (a, i, m, h) = (autack, referenced, message, header);
+    let r = unsafe {
+        c::gurandepi_digest_f01(a.as_ptr(), a.len(), i.as_ptr(), i.len(), m.as_ptr(), m.len(), h.as_ptr(), h.len())
+    };
+    given(r.number, r.place, r.segment, || r.octets)
+}
+
+/// The digest of what a header of scope 3 seals: of the part that [`scope3`] gives.
+pub fn digest_scope3(autack: &[u8], referenced: &[u8], message: &[u8], header: &[u8]) -> Result<[u8; 20], Refusal> {
+    let (a, i, m, h) = (autack, referenced, message, header);
+    let r = unsafe {
+        c::gurandepi_digest_scope3(a.as_ptr(), a.len(), i.as_ptr(), i.len(), m.as_ptr(), m.len(), h.as_ptr(), h.len())
+    };
+    given(r.number, r.place, r.segment, || r.octets)
 }

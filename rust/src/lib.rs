@@ -68,20 +68,22 @@ pub enum Reason {
     NotFound,
     /// The filter of a value is unknown, its text is bad or empty; or a value cannot be written in this interchange.
     Value,
-    /// The result is longer than the lent buffer, or than 65,535 octets.
+    /// The result is longer than the lent buffer, or than 65,535 octets; or more than 2^32 - 1 octets are fed.
     Room,
     /// Sealing: the reference, the filter or the value's length is not allowed, the reference is already used in the message,
     /// nine headers already, or an AUTACK.
     NotSealable,
     /// A stored register that is moved starts otherwise than its form, is cut, has a number that is overlong or too large, or
     /// octets left over; or it has grams of 2^63 or more and is moved to [`Form::Signed`].
-    Register,
+    Register = 17,
+    /// The digest of a range: no USA stands directly after the header's USH, or it does not name SHA-1.
+    NotSha1 = 18,
     /// A total is below zero, and a register is written in or moved to [`Form::Old`].
     NegativeTotal = 19,
 }
 
 /// A refusal: why, and the place of the fault, counted in octets from 0: its segment's first octet if [`Reason`] says nothing
-/// else, or the end of the input; 0 for the reasons 1, 2 and from 13 on.
+/// else, or the end of the input; 0 for the reasons 1, 2 and those from 13 on.
 #[derive(Clone, Copy, Debug, PartialEq, Eq, Hash)]
 pub struct Refusal {
     /// Why.
@@ -89,7 +91,7 @@ pub struct Refusal {
     /// Where.
     pub place: usize,
     /// Which segment stands there: UNB is 1, UNA counts as none, the end of the input, or what stands after UNZ, counts as the
-    /// next one. 0 for the reasons 1, 2 and from 13 on.
+    /// next one. 0 for the reasons 1, 2 and those from 13 on.
     pub segment: usize,
 }
 

@@ -140,3 +140,24 @@ fn a_negative_total_is_not_in_the_old_form() {
     let refusal = register_signed_to_old(&minus_one, &mut []).unwrap_err();
     assert_eq!((refusal.reason, refusal.number()), (Reason::NegativeTotal, 19));
 }
+
+#[cfg_attr(linked, test)]
+fn the_digest_is_that_of_the_sealed_octets_however_they_are_cut() {
+    let file = P7.as_bytes();
+    let digest = digest_scope1(file, b"M1", b"A1").unwrap();
+    assert_eq!(digest[..4], [0xde, 0x76, 0x00, 0x81]);
+    let parts = scope1(file, b"M1", b"A1").unwrap();
+    let whole = [parts.header, parts.body].concat();
+    for cut in 0..=whole.len() {
+        let mut fed = Sha1::start();
+        fed.feed(&whole[..cut]).unwrap();
+        fed.feed(&whole[cut..]).unwrap();
+        assert_eq!(fed.finish(), digest);
+    }
+    assert_eq!(digest_scope2(file, b"M1", b"A1").unwrap_err().reason, Reason::NotFound);
+    let other = P7.replace("USA+1:::16", "USA+1:::8");
+    let refusal = digest_scope1(other.as_bytes(), b"M1", b"A1").unwrap_err();
+    assert_eq!((refusal.reason, refusal.number(), refusal.place), (Reason::NotSha1, 18, 0));
+    assert!(digest_f01(F01.as_bytes(), F01.as_bytes(), b"11", b"1").is_ok_and(|d| d[..2] == [0xf5, 0x00]));
+    assert!(digest_scope3(SCOPE3.as_bytes(), SCOPE3.as_bytes(), b"AUT00001", b"1").is_ok_and(|d| d[..2] == [0x09, 0x65]));
+}

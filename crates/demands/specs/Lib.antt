@@ -53,3 +53,5 @@ pub mod CompanionLaws
 pub mod MovedLaws
 -- a minus before an amount
 pub mod ReversedLaws
+pub mod Digested
+pub mod DigestedLaws

@@ -51,6 +51,9 @@ ghost use Rattle.demands.specs.Valued.{Valued};
 ghost use Rattle.demands.specs.Printed.{Scope1, Scope2, F01, Scope3};
 ghost use Rattle.demands.specs.Reported.{Reported};
 ghost use Rattle.demands.specs.Companion.{Companion1, CompanionRun};
+ghost use Rattle.sha.specs.Sha.{sha1};
+ghost use Rattle.sha.specs.Feeding.{started, fedAll, join, finishedOf};
+ghost use Rattle.demands.specs.Digested.{OfRanges, Digested};
 ghost use Rattle.demands.specs.Sealed.{Accepted, Signed, Kept};
 ghost use Rattle.demands.specs.Range.{Reads, Range1, scope1, Range2, scope2, f01, scope3};
 ghost use Rattle.demands.specs.Read.{syntaxOf, Read1, Alike1, Read2, Alike2, ReadF, AlikeF, Read3, Alike3};
@@ -317,4 +320,19 @@ pub fn scope3_is_read()
 
 pub fn scope3_reads_alike()
     ensures { λ _. ⌜ ((t s m r t′ s′ m′ r′ : List ℕ) (a b a′ b′ : ℕ) → scope3Of t s m r ≡ given (run a b) → scope3Of t′ s′ m′ r′ ≡ given (run a′ b′) → syntaxOf s ≡ syntaxOf s′ → slice a b s ≡ slice a′ b′ s′ → Alike3 t s m r a b t′ s′ m′ r′ a′ b′) ⌝ }
+{}
+
+// "However the octets are cut, the digest is that of the joined octets": start, feed the parts ps one after the other, finish.
+pub fn digest_however_cut()
+    ensures { λ _. ⌜ ((ps : List (List ℕ)) → length (join ps) ≤ 4294967295 → finishedOf (fedAll started ps) ≡ sha1 (join ps)) ⌝ }
+{}
+
+// "A call that gives the digest of a named range": of exactly the octets that the range call hands back, with "the two parts of scope 1 one after the other".
+pub fn digest_is_of_range()
+    ensures { λ _. ⌜ OfRanges ⌝ }
+{}
+
+// Sealing end to end: the digest of the new header's range in the sealed interchange is the digest of the octets that were handed out for signing.
+pub fn sealed_digest_is_signed()
+    ensures { λ _. ⌜ ((s m r : List ℕ) (f : ℕ) (v x : List ℕ) → sealOf s m r f v ≡ text x → length x ≤ 65535 → Digested s m r f x) ⌝ }
 {}

@@ -13,9 +13,15 @@
 //     regwrite I FORM CAP    ok HEX. FORM is 1, the old form, or 3, that with signed grams
 //     regcheck I FORM REG    ok. FORM is 1, 3, or 2, the smaller form, which is only read
 //     regmove FROM TO REG CAP    ok HEX: from each form to 1 and 3, but to itself
+//     sha1 PART ..    ok HEX: the digest of the parts, joined
+//     digest KIND A R MREF HREF    ok HEX: the digest of a range. KIND is 1, 2, f01 or 3; for 1 and 2 R is not looked at
 //     report I    ok HEX: the text that the program `report` prints, always
 //
 // Each but the last may answer `refused NUMBER PLACE SEGMENT`. The answer to every other line is `bad`.
+mod digests;
+
+use crate::digests::answer_digest;
+use crate::digests::answer_sha1;
 use commands::argument;
 use commands::arguments;
 use commands::capacity;
@@ -494,6 +500,12 @@ fn answer_sealed(
     }
     if is_word(command, b"seal") {
         return answer_seal(out, n, rest, room);
+    }
+    if is_word(command, b"sha1") {
+        return answer_sha1(out, n, rest, room);
+    }
+    if is_word(command, b"digest") {
+        return answer_digest(out, n, rest, room);
     }
     print_bad(out, n)
 }

@@ -5,8 +5,8 @@ use mathlib.Core.Path.{_≡_, ap, _∙_, sym, subst}
 use mathlib.Core.List.{List, [], _++_, append-nil}
 use mathlib.Core.Option.{none, some, Option·none-ne-some}
 use mathlib.Core.Bool.{Bool, true, false, cond}
-use lib.Dec.{T}
-use lib.ListN.{drop}
+use lib.Dec.{T, leb, leb→le}
+use lib.ListN.{length, drop}
 use Rattle.syntax.specs.ContentLaws.{plain-content}
 use Rattle.syntax.specs.Content.{content, compared}
 use Rattle.syntax.specs.Octets.{same}
@@ -14,6 +14,7 @@ use Rattle.syntax.specs.Service.{fit}
 use Rattle.syntax.specs.Opening.{begunOf}
 use Rattle.syntax.specs.Classes.{Table}
 use Rattle.syntax.specs.Tree.{print, well}
+use Rattle.syntax.specs.TreeLaws.{and-right}
 use Rattle.syntax.specs.declared.Service.{Service}
 use Rattle.syntax.specs.declared.Syntax.{Syntax}
 use Rattle.syntax.specs.Refusals.{refusalAt}
@@ -26,7 +27,7 @@ use Rattle.grammar.specs.Lists.{Snoc, nil, _▷_, _+++_, joined, size, Rule, ho
 use Rattle.grammar.specs.Segments.{Unb, Unz, seg}
 use Rattle.grammar.specs.Interchange.{Leaf, Message, idle, done, shown, showMessage}
 use Rattle.grammar.specs.Rules.{refM, okMessage, refsMessage}
-use Rattle.grammar.specs.Valid.{Interchange, interchange, Valid, syntaxIn, inForce, openingIn, unaOf, reading, segments}
+use Rattle.grammar.specs.Valid.{Interchange, interchange, Valid, syntaxIn, inForce, openingIn, unaOf, reading, segments, printInterchange}
 use Rattle.grammar.specs.Verdict.{accepted, refusedWith, verdictOf, verdictBy, unaAt, read}
 use Rattle.grammar.specs.VerdictLaws.{verdict-exact}
 use Rattle.grammar.specs.StartLaws.{start-printed, rest-printed, fit-in-force}
@@ -81,6 +82,14 @@ module _ (σ : Service) (p : ℕ) (u : Leaf) (r : List ℕ) where
       by false f e v = f e (stand-front σ s p (shown (idle u ms)) (showMessage x) v)
 
 -- ---- an interchange that was read
+
+-- an accepted interchange is short
+pub read-short : (s : List ℕ) (i : Interchange) → verdictOf s ≡ accepted i → length s ≤ 65535
+read-short s i e =
+    let v = verdict-exact s i .0 e in
+    let w : T (leb (length (printInterchange i)) 65535) = and-right (leb 1 (length (printInterchange i))) (leb (length (printInterchange i)) 65535) (v .0 .octetsRight) in
+    let l : length (printInterchange i) ≤ 65535 = leb→le (length (printInterchange i)) 65535 w in
+    omega (arith, l, ap length (v .1))
 
 -- the syntax that the octets begin with is the reading's, and its segments stand behind UNA
 pub record Begin (s : List ℕ) (i : Interchange) (x : Start) : Type 0 where

@@ -2,6 +2,7 @@
 -- `Loads`, which may be below zero, are told beside these.
 use Prim.Native.Nat.{ℕ}
 use mathlib.Core.List.{List, [], _∷_}
+use mathlib.Core.Bool.{Bool, cond}
 use mathlib.Core.Path.{_≡_}
 use Rattle.writing.specs.Written.{Text, leftIn, writtenNumbers}
 use Rattle.gurandepi.specs.declared.Answer.{Answer}
@@ -9,6 +10,11 @@ use Rattle.gurandepi.specs.declared.Loads.{Loads}
 use Rattle.gurandepi.specs.declared.Parts.{Parts}
 use Rattle.gurandepi.specs.declared.Range.{Range}
 use Rattle.gurandepi.specs.declared.Written.{Written}
+use Rattle.gurandepi.specs.declared.Digest.{Digest}
+use Rattle.gurandepi.specs.declared.Sha1.{Sha1}
+use Rattle.gurandepi.specs.declared.Fed.{Fed}
+use Rattle.sha.specs.Feeding.{fedOf}
+use Rattle.sha.specs.declared.Sha.{Sha}
 
 abbrev pub answerFields : Answer → List ℕ
 answerFields r = r .number ∷ r .place ∷ r .segment ∷ []
@@ -29,3 +35,17 @@ writtenFields r = r .number ∷ r .place ∷ r .segment ∷ r .length ∷ []
 pub record Gives (x : Text) (out : List ℕ) (r : Written) (out′ : List ℕ) : Type 0 where
   pub answer : writtenFields r ≡ writtenNumbers x out
   pub octets : out′ ≡ leftIn x out
+
+-- ---- digests
+
+abbrev pub digestFields : Digest → List ℕ
+digestFields r = r .number ∷ r .place ∷ r .segment ∷ r .octets
+
+-- the state that a struct holds
+abbrev pub stateIn : Sha1 → Sha
+stateIn s = record { chain = record { a = s .a; b = s .b; c = s .c; d = s .d; e = s .e }; buffer = s .buffer; count = s .count }
+
+-- "15 where more than 2^32 - 1 octets are fed, which changes nothing": the answer, and the state that is handed back
+pub record Feeds (st : Sha1) (part : List ℕ) (r : Fed) : Type 0 where
+  pub answer : r .number ∷ r .place ∷ r .segment ∷ [] ≡ cond (fedOf (stateIn st) part .taken) 0 15 ∷ 0 ∷ 0 ∷ []
+  pub state : stateIn (r .state) ≡ fedOf (stateIn st) part .state

@@ -3,6 +3,7 @@
 // the refusal, 0 for none, its place, the ordinal of the segment there, then the call's own. Any octets of any length are allowed everywhere; no call keeps
 // anything.
 ghost use mathlib.Core.Path.{_≡_};
+ghost use mathlib.Core.List.{_∷_};
 ghost use Prim.Native.Nat.{_<_};
 ghost use Rattle.grammar.specs.Grams.{signed};
 ghost use Rattle.grammar.specs.Verdict.{verdictOf, numbers, totalsOf, totalNumbers, totalGrams};
@@ -18,7 +19,13 @@ ghost use Rattle.sealing.specs.Sealing.{sealOctetsOf, sealOf};
 ghost use Rattle.register.specs.Register.{registerOf, checkNumbers, toldCheck};
 ghost use Rattle.forms.specs.declared.Form.the-variants.{Old, Small, Signed};
 ghost use Rattle.moves.specs.Stored.{moveOf};
-ghost use Rattle.gurandepi.specs.Answers.{answerFields, totalsFields, partsFields, rangeFields, Gives, writtenFields};
+ghost use Rattle.sha.specs.Feeding.{started, finishedOf};
+ghost use Rattle.digest.specs.Digests.{digest1Of, digest2Of, digestF01Of, digest3Of, digestNumbers, toldDigest};
+ghost use Rattle.gurandepi.specs.Answers.{answerFields, totalsFields, partsFields, rangeFields, Gives, writtenFields, digestFields, stateIn, Feeds};
+use digest::digest_f01;
+use digest::digest_scope1;
+use digest::digest_scope2;
+use digest::digest_scope3;
 use f01::f01_places;
 use forms::Form;
 use judge::run::Verdict;
@@ -389,4 +396,176 @@ pub extern "C" fn gurandepi_register_small_to_old(stored: &[u8], out: &mut [u8])
     ensures { λ r. ⌜ Gives (moveOf Small Old (now (stored .entry))) (now (out .entry)) r (now (out .exit)) ⌝ }
 {
     written_answer(register_move(stored, Form::Small, Form::Old, out))
+}
+
+// A message under way, for its digest.
+#[repr(C)]
+pub struct Sha1 {
+    pub a: u32,
+    pub b: u32,
+    pub c: u32,
+    pub d: u32,
+    pub e: u32,
+    pub buffer: [u8; 64],
+    pub count: u64,
+}
+
+// A state that was fed; or 15, and the state as it was.
+#[repr(C)]
+pub struct Fed {
+    pub number: u64,
+    pub place: u64,
+    pub segment: u64,
+    pub state: Sha1,
+}
+
+// The twenty octets of a digest.
+#[repr(C)]
+pub struct Digest {
+    pub number: u64,
+    pub place: u64,
+    pub segment: u64,
+    pub octets: [u8; 20],
+}
+
+fn inner_state(s: Sha1) -> sha::Sha
+    ensures { λ r. ⌜ r ≡ stateIn s ⌝ }
+{
+    let b = s.buffer;
+    sha::Sha {
+        chain: sha::Chain {
+            a: s.a,
+            b: s.b,
+            c: s.c,
+            d: s.d,
+            e: s.e,
+        },
+        buffer: b,
+        count: s.count,
+    }
+}
+
+fn outer_state(s: sha::Sha) -> Sha1
+    ensures { λ r. ⌜ stateIn r ≡ s ⌝ }
+{
+    let h = s.chain;
+    let b = s.buffer;
+    Sha1 {
+        a: h.a,
+        b: h.b,
+        c: h.c,
+        d: h.d,
+        e: h.e,
+        buffer: b,
+        count: s.count,
+    }
+}
+
+fn digest_answer(d: digest::Digest) -> Digest
+    ensures { λ r. ⌜ digestFields r ≡ toldDigest d ⌝ }
+{
+    let f = d.refusal;
+    let o = d.octets;
+    Digest {
+        number: f.number as u64,
+        place: f.place as u64,
+        segment: f.segment as u64,
+        octets: o,
+    }
+}
+
+// No octets yet.
+#[no_mangle]
+pub extern "C" fn gurandepi_sha1_start() -> Sha1
+    ensures { λ r. ⌜ stateIn r ≡ started ⌝ }
+{
+    outer_state(sha::start())
+}
+
+// The state with the octets of `part` behind those that were there.
+#[no_mangle]
+pub extern "C" fn gurandepi_sha1_feed(state: Sha1, part: &[u8]) -> Fed
+    ensures { λ r. ⌜ Feeds state (now (part .entry)) r ⌝ }
+{
+    let f = sha::feed(inner_state(state), part);
+    let t = f.state;
+    let s = outer_state(t);
+    if f.taken {
+        return Fed {
+            number: 0,
+            place: 0,
+            segment: 0,
+            state: s,
+        };
+    }
+    Fed {
+        number: 15,
+        place: 0,
+        segment: 0,
+        state: s,
+    }
+}
+
+// The digest of the octets that were fed.
+#[no_mangle]
+pub extern "C" fn gurandepi_sha1_finish(state: Sha1) -> Digest
+    ensures { λ r. ⌜ digestFields r ≡ 0 ∷ 0 ∷ 0 ∷ finishedOf (stateIn state) ⌝ }
+{
+    let d = sha::finish(inner_state(state));
+    Digest {
+        number: 0,
+        place: 0,
+        segment: 0,
+        octets: d,
+    }
+}
+
+// The digest of what a header of scope 1 seals.
+#[no_mangle]
+pub extern "C" fn gurandepi_digest_scope1(
+    interchange: &[u8],
+    message: &[u8],
+    header: &[u8],
+) -> Digest
+    ensures { λ r. ⌜ digestFields r ≡ digestNumbers (digest1Of (now (interchange .entry)) (now (message .entry)) (now (header .entry))) ⌝ }
+{
+    digest_answer(digest_scope1(interchange, message, header))
+}
+
+// The digest of what a header of scope 2 seals.
+#[no_mangle]
+pub extern "C" fn gurandepi_digest_scope2(
+    interchange: &[u8],
+    message: &[u8],
+    header: &[u8],
+) -> Digest
+    ensures { λ r. ⌜ digestFields r ≡ digestNumbers (digest2Of (now (interchange .entry)) (now (message .entry)) (now (header .entry))) ⌝ }
+{
+    digest_answer(digest_scope2(interchange, message, header))
+}
+
+// The digest of what a header of scope F01 seals, in the referenced interchange. `message` is the AUTACK's 0062.
+#[no_mangle]
+pub extern "C" fn gurandepi_digest_f01(
+    autack: &[u8],
+    referenced: &[u8],
+    message: &[u8],
+    header: &[u8],
+) -> Digest
+    ensures { λ r. ⌜ digestFields r ≡ digestNumbers (digestF01Of (now (autack .entry)) (now (referenced .entry)) (now (message .entry)) (now (header .entry))) ⌝ }
+{
+    digest_answer(digest_f01(autack, referenced, message, header))
+}
+
+// The digest of what a header of scope 3 seals, in the referenced interchange. `message` is the AUTACK's 0062.
+#[no_mangle]
+pub extern "C" fn gurandepi_digest_scope3(
+    autack: &[u8],
+    referenced: &[u8],
+    message: &[u8],
+    header: &[u8],
+) -> Digest
+    ensures { λ r. ⌜ digestFields r ≡ digestNumbers (digest3Of (now (autack .entry)) (now (referenced .entry)) (now (message .entry)) (now (header .entry))) ⌝ }
+{
+    digest_answer(digest_scope3(autack, referenced, message, header))
 }

@@ -31,11 +31,11 @@ use Rattle.filters.specs.Six.{sixText}
 use Rattle.filters.specs.SixLaws.{six-length}
 use Rattle.groups.specs.PartsLaws.{call-refused, call-missing, call-holds}
 use Rattle.groups.specs.Calls.{serviceIn, versionIn, messageIn, Holds}
-use Rattle.groups.specs.CallsLaws.{version-so}
+use Rattle.groups.specs.CallsLaws.{read-short, version-so}
 use Rattle.values.specs.Values.{answered}
 use Rattle.weaving.specs.Seals.{maySeal, lengthRight, textBy, mayWrite, writable, signedText, sealedText}
 use Rattle.weaving.specs.Woven.{octetsPieces, sealedPieces, wovenOr, sizedOr}
-use Rattle.weaving.specs.WovenLaws.{woven, signed, read-short}
+use Rattle.weaving.specs.WovenLaws.{woven, signed}
 use Rattle.writing.specs.WrittenLaws.{writes-as}
 use Rattle.sealing.specs.Sealing.{octetsAt, sealOctetsOf, orUnwritten, sealAt, sealOf}
 

@@ -6,7 +6,7 @@ use mathlib.Core.Bool.{Bool, true, false, cond, not, _&&_, false≢true}
 use mathlib.Core.List.{List, [], _∷_, _++_, append-assoc, append-nil}
 use mathlib.Core.Option.{Option, none, some}
 use mathlib.Core.Path.{_≡_, refl, ap, _∙_, sym, subst}
-use lib.Dec.{T, leb, leb→le}
+use lib.Dec.{T}
 use lib.ListN.{length, take, drop, length-append}
 use lib.Seq.{slice, take-append-seam, drop-append-seam, drop-append-add, drop-drop}
 use Rattle.syntax.specs.Octets.{same, within}
@@ -31,7 +31,6 @@ use Rattle.grammar.specs.Segments.{Unb, Unh, Unt, Unz, seg, elementContent, num
 use Rattle.grammar.specs.Elements.{digits, inRange, formed}
 use Rattle.grammar.specs.Interchange.{Leaf, Header, Trailer, Body, Open, msg, Message, message, idle, done, shown, showHeader, showTrailer, showBody, showOpen, showMessage}
 use Rattle.grammar.specs.Rules.{refM, formedS}
-use Rattle.grammar.specs.Valid as valid
 use Rattle.grammar.specs.Valid.{Una, una, Interchange, interchange, inForce, syntaxIn, openingIn, printUna, unaOf, segments, Valid}
 use Rattle.grammar.specs.Verdict.{accepted, verdictOf}
 use Rattle.grammar.specs.VerdictLaws.{verdict-exact}
@@ -249,14 +248,6 @@ old-parts P I W B U E R D = simp append-assoc
 
 pub new-parts : (P I W H B T U N R D : List ℕ) → P ++ (I ++ (W ++ (H ++ (B ++ (T ++ (U ++ (N ++ R))))) ++ D)) ≡ P ++ (I ++ W) ++ (H ++ (B ++ (T ++ (U ++ (N ++ (R ++ D))))))
 new-parts P I W H B T U N R D = simp append-assoc
-
--- an accepted interchange is short
-pub read-short : (s : List ℕ) (i : Interchange) → verdictOf s ≡ accepted i → length s ≤ 65535
-read-short s i e =
-    let v = verdict-exact s i .0 e in
-    let w : T (leb (length (valid.printInterchange i)) 65535) = and-right (leb 1 (length (valid.printInterchange i))) (leb (length (valid.printInterchange i)) 65535) (v .0 .octetsRight) in
-    let l : length (valid.printInterchange i) ≤ 65535 = leb→le (length (valid.printInterchange i)) 65535 w in
-    omega (arith, l, ap length (v .1))
 
 -- UNT of the message that is named has a count
 pub unt-digits : (s m : List ℕ) (i : Interchange) (o : Open) (k : Leaf) (q : ℕ) → verdictOf s ≡ accepted i → messageIn i m ≡ some (placed (message o k) q) → inRange (digits 1 6) (elementContent k 1 0) ≡ true
