@@ -287,6 +287,39 @@ static void make_digest(void) {
     tell_digest(r);
 }
 
+/* ---- the old sum: its 32 bits come as octets, the first one highest */
+
+static uint32_t bits_lent(void) {
+    const uint8_t *b = lent[0].now + GUARD;
+    return (uint32_t)b[0] << 24 | (uint32_t)b[1] << 16 | (uint32_t)b[2] << 8 | b[3];
+}
+
+/* Handed in by its bits and as a float it gives the same, and so it does in whole kilograms, as a float and by its bits. */
+static void tell_sum(struct gurandepi_oldsum r, struct gurandepi_oldsum by_float) {
+    uint64_t own[] = {r.sum, r.bits, r.loads, r.kilograms};
+    uint32_t bits;
+    memcpy(&bits, &r.single, sizeof bits);
+    if (memcmp(&r, &by_float, sizeof r) != 0) fault("another old sum by the float than by its bits", "");
+    if (bits != r.bits || (uint64_t)r.single != r.sum) fault("the old sum differs from its bits or its float", "");
+    if (r.sum > 1073741824) fault("the old sum passes the limit", "");
+    if (r.number != 0) tell(r.number, r.place, r.segment, own, 4);
+    else snprintf(said, sizeof said, "ok %08lx", (unsigned long)r.bits);
+}
+
+static void make_old_sum(void) {
+    uint32_t bits = bits_lent();
+    float before;
+    memcpy(&before, &bits, sizeof before);
+    tell_sum(gurandepi_old_sum_bits(OCTETS(1), bits), gurandepi_old_sum(OCTETS(1), before));
+}
+
+static void make_message_old_sum(void) {
+    uint32_t bits = bits_lent();
+    float before;
+    memcpy(&before, &bits, sizeof before);
+    tell_sum(gurandepi_message_old_sum_bits(OCTETS(1), OCTETS(2), bits), gurandepi_message_old_sum(OCTETS(1), OCTETS(2), before));
+}
+
 /* The arguments: h octets, n a number, c the length of the lent buffer, k the kind of a digest. */
 static struct call {
     const char *name, *form;
@@ -305,6 +338,8 @@ static struct call {
     {"regwrite", "hnc", make_register, 0, 0},
     {"regmove", "nnhc", make_move, 0, 0},
     {"digest", "khhhh", make_digest, 0, 0},
+    {"oldsum", "hh", make_old_sum, 0, 0},
+    {"oldsum", "hhh", make_message_old_sum, 0, 0},
     {"regcheck", "hnh", make_check, 0, 0},
 };
 enum { CALLS = sizeof calls / sizeof *calls, CHECK = CALLS - 1 };
@@ -446,7 +481,7 @@ static void command(char *text, const char *answer) {
             words[count++] = text + 1;
         }
     for (i = 0; i < CALLS; i++)
-        if (strcmp(words[0], calls[i].name) == 0) {
+        if (strcmp(words[0], calls[i].name) == 0 && (strcmp(words[0], "oldsum") != 0 || strlen(calls[i].form) + 1 == count)) {
             compare(&calls[i], words, answer);
             return;
         }

@@ -37,6 +37,10 @@ void inner_digest_scope1(struct gurandepi_digest *, const struct octets *, const
 void inner_digest_scope2(struct gurandepi_digest *, const struct octets *, const struct octets *, const struct octets *);
 void inner_digest_f01(struct gurandepi_digest *, const struct octets *, const struct octets *, const struct octets *, const struct octets *);
 void inner_digest_scope3(struct gurandepi_digest *, const struct octets *, const struct octets *, const struct octets *, const struct octets *);
+void inner_old_sum(struct gurandepi_oldsum *, const struct octets *, float);
+void inner_old_sum_bits(struct gurandepi_oldsum *, const struct octets *, uint32_t);
+void inner_message_old_sum(struct gurandepi_oldsum *, const struct octets *, const struct octets *, float);
+void inner_message_old_sum_bits(struct gurandepi_oldsum *, const struct octets *, const struct octets *, uint32_t);
 
 #define OCTETS(name) &(struct octets){name, name##_length}
 #define ROOM &(struct room){out, out_length}
@@ -205,5 +209,31 @@ struct gurandepi_digest gurandepi_digest_scope3(const uint8_t *autack, size_t au
                                                 const uint8_t *message, size_t message_length, const uint8_t *header, size_t header_length) {
     struct gurandepi_digest r;
     inner_digest_scope3(&r, OCTETS(autack), OCTETS(referenced), OCTETS(message), OCTETS(header));
+    return r;
+}
+
+struct gurandepi_oldsum gurandepi_old_sum(const uint8_t *interchange, size_t interchange_length, float before) {
+    struct gurandepi_oldsum r;
+    inner_old_sum(&r, OCTETS(interchange), before);
+    return r;
+}
+
+struct gurandepi_oldsum gurandepi_old_sum_bits(const uint8_t *interchange, size_t interchange_length, uint32_t before) {
+    struct gurandepi_oldsum r;
+    inner_old_sum_bits(&r, OCTETS(interchange), before);
+    return r;
+}
+
+struct gurandepi_oldsum gurandepi_message_old_sum(const uint8_t *interchange, size_t interchange_length,
+                                                  const uint8_t *message, size_t message_length, float before) {
+    struct gurandepi_oldsum r;
+    inner_message_old_sum(&r, OCTETS(interchange), OCTETS(message), before);
+    return r;
+}
+
+struct gurandepi_oldsum gurandepi_message_old_sum_bits(const uint8_t *interchange, size_t interchange_length,
+                                                       const uint8_t *message, size_t message_length, uint32_t before) {
+    struct gurandepi_oldsum r;
+    inner_message_old_sum_bits(&r, OCTETS(interchange), OCTETS(message), before);
     return r;
 }

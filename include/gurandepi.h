@@ -1,7 +1,7 @@
 /*
  * Gurandepi: judges EDIFACT interchanges, hands back what is sealed in them and its digest, recovers signature values, totals
- * loads, seals a message, and writes, checks and moves a register. C11 and later, C++11 and later; link libgurandepi.a
- * (x86-64 Linux).
+ * loads, seals a message, writes, checks and moves a register, and adds up the old sum of the returns. C11 and later, C++11
+ * and later; link libgurandepi.a (x86-64 Linux).
  *
  * How the calls are made
  *
@@ -47,7 +47,7 @@ extern "C" {
  * both from one tree.
  */
 #define GURANDEPI_MAJOR 5
-#define GURANDEPI_MINOR 1
+#define GURANDEPI_MINOR 2
 
 /*
  * The octets of the longest interchange, and of the longest result. An `out` of so many octets has room for every result:
@@ -90,7 +90,10 @@ enum gurandepi_number {
                                        is moved to the form with signed grams. Place: 0 */
     GURANDEPI_NOT_SHA1 = 18,        /* digest of a range: no USA stands directly after the header's USH, or it names another
                                        code than 16 in 0527, or repeats. Place: 0 */
-    GURANDEPI_NEGATIVE_TOTAL = 19   /* writing or moving to the old form of a register: a total is below zero. Place: 0 */
+    GURANDEPI_NEGATIVE_TOTAL = 19,  /* writing or moving to the old form of a register: a total is below zero. Place: 0 */
+    GURANDEPI_BAD_LOAD = 23,        /* the old sum: a load that is not whole kilograms from 0 to 100,000. Place: 0 */
+    GURANDEPI_BAD_SUM = 24          /* the old sum: the sum handed in is no whole number from 0 to 1,073,741,824 (minus zero is
+                                       none); or a running sum passes that limit before it is rounded. Place: 0 */
 };
 
 /* How the value of a seal is written (0505): the `filter` of the sealing calls, which refuse every other with 16. */
@@ -171,6 +174,22 @@ struct gurandepi_digest {
     uint64_t place;
     uint64_t segment;
     uint8_t octets[20];
+};
+
+/*
+ * The old sum that is left: kilograms in single precision, in file order, one rounding for each addition. It is a whole
+ * number, at most 1,073,741,824: `sum` in whole kilograms, `bits` the 32 bits of the single precision number, `single` that
+ * number itself. How many loads were added, and their exact kilograms.
+ */
+struct gurandepi_oldsum {
+    uint64_t number;
+    uint64_t place;
+    uint64_t segment;
+    uint64_t sum;
+    uint32_t bits;
+    float single;
+    uint64_t loads;
+    uint64_t kilograms;
 };
 
 /* Is this an interchange without fault? Refuses with 1 to 12. */
@@ -338,6 +357,24 @@ struct gurandepi_digest gurandepi_digest_scope3(const uint8_t *autack, size_t au
                                                 const uint8_t *referenced, size_t referenced_length,
                                                 const uint8_t *message, size_t message_length,
                                                 const uint8_t *header, size_t header_length);
+
+/*
+ * The old sum with the loads of all messages of the file, in order. `before` is the sum that the last file left, 0 with the
+ * year. What the file adds differs from its exact kilograms by at most 32 for each load. Refuses with 1 to 12; then 24 for
+ * `before`; then by load in order 23 or 24.
+ */
+struct gurandepi_oldsum gurandepi_old_sum(const uint8_t *interchange, size_t interchange_length, float before);
+
+/* The same, with `before` as the 32 bits of its single precision pattern. */
+struct gurandepi_oldsum gurandepi_old_sum_bits(const uint8_t *interchange, size_t interchange_length, uint32_t before);
+
+/* The old sum with the loads of one message. Refuses with 1 to 12; 13: no such message; then as the calls above. */
+struct gurandepi_oldsum gurandepi_message_old_sum(const uint8_t *interchange, size_t interchange_length,
+                                                   const uint8_t *message, size_t message_length, float before);
+
+/* The same, with `before` as the 32 bits of its single precision pattern. */
+struct gurandepi_oldsum gurandepi_message_old_sum_bits(const uint8_t *interchange, size_t interchange_length,
+                                                        const uint8_t *message, size_t message_length, uint32_t before);
 
 #ifdef __cplusplus
 }

@@ -1,6 +1,6 @@
 //! The calls. All `unsafe` is here, and one thing makes it sound: each slice is lent with its own pointer and length, `out` as
 //! the only unique one.
-use crate::{Filter, Form, Parts, Places, Reason, Refusal, Totals};
+use crate::{Filter, Form, OldSum, Parts, Places, Reason, Refusal, Totals};
 use core::ops::Range;
 
 /// As include/gurandepi.h declares it: c/interface compares them.
@@ -75,6 +75,18 @@ mod c {
         pub place: u64,
         pub segment: u64,
         pub octets: [u8; 20],
+    }
+
+    #[repr(C)]
+    pub struct OldSum {
+        pub number: u64,
+        pub place: u64,
+        pub segment: u64,
+        pub sum: u64,
+        pub bits: u32,
+        pub single: f32,
+        pub loads: u64,
+        pub kilograms: u64,
     }
 
     #[rustfmt::skip]
@@ -158,6 +170,14 @@ mod c {
             autack: *const u8, autack_length: usize, referenced: *const u8, referenced_length: usize,
             message: *const u8, message_length: usize, header: *const u8, header_length: usize
         ) -> Digest;
+        pub fn gurandepi_old_sum(interchange: *const u8, interchange_length: usize, before: f32) -> OldSum;
+        pub fn gurandepi_old_sum_bits(interchange: *const u8, interchange_length: usize, before: u32) -> OldSum;
+        pub fn gurandepi_message_old_sum(
+            interchange: *const u8, interchange_length: usize, message: *const u8, message_length: usize, before: f32
+        ) -> OldSum;
+        pub fn gurandepi_message_old_sum_bits(
+            interchange: *const u8, interchange_length: usize, message: *const u8, message_length: usize, before: u32
+        ) -> OldSum;
     }
 }
 
@@ -184,7 +204,11 @@ fn reason(number: u64) -> Reason {
         NotSha1,
         NegativeTotal,
     ];
-    all[number as usize - 1]
+    match number {
+        23 => Load,
+        24 => Sum,
+        _ => all[number as usize - 1],
+    }
 }
 
 fn given<T>(number: u64, place: u64, segment: u64, answer: impl FnOnce() -> T) -> Result<T, Refusal> {
@@ -571,4 +595,47 @@ pub fn digest_scope3(autack: &[u8], referenced: &[u8], message: &[u8], header: &
         c::gurandepi_digest_scope3(a.as_ptr(), a.len(), i.as_ptr(), i.len(), m.as_ptr(), m.len(), h.as_ptr(), h.len())
     };
     given(r.number, r.place, r.segment, || r.octets)
+}
+
+fn summed(r: c::OldSum) -> Result<OldSum, Refusal> {
+    given(r.number, r.place, r.segment, || OldSum {
+        sum: r.sum,
+        bits: r.bits,
+        single: r.single,
+        loads: r.loads,
+        kilograms: r.kilograms,
+    })
+}
+
+/// The old sum with the loads of all messages of a file, in order: kilograms in single precision, one rounding for each
+/// addition. `before` is the sum that the last file left, 0 with the year. What a file adds differs from its exact kilograms
+/// by at most 32 for each load.
+///
+#[cfg_attr(linked, doc = "```")]
+#[cfg_attr(not(linked), doc = "```no_run")]
+/// # let p = std::fs::read("../examples/p.edi").unwrap();
+/// let first = gurandepi::old_sum(&p, 0.0).unwrap();
+/// assert_eq!((first.loads, first.kilograms, first.sum), (2, 57_340, 57_340));
+/// let next = gurandepi::old_sum(&p, first.single).unwrap();
+/// assert_eq!(next, gurandepi::old_sum_bits(&p, first.bits).unwrap());
+/// ```
+pub fn old_sum(interchange: &[u8], before: f32) -> Result<OldSum, Refusal> {
+    summed(unsafe { c::gurandepi_old_sum(interchange.as_ptr(), interchange.len(), before) })
+}
+
+/// The same as [`old_sum`], with `before` as the 32 bits of its single precision pattern.
+pub fn old_sum_bits(interchange: &[u8], before: u32) -> Result<OldSum, Refusal> {
+    summed(unsafe { c::gurandepi_old_sum_bits(interchange.as_ptr(), interchange.len(), before) })
+}
+
+/// The old sum with the loads of one message.
+pub fn message_old_sum(interchange: &[u8], message: &[u8], before: f32) -> Result<OldSum, Refusal> {
+    let (i, m) = (interchange, message);
+    summed(unsafe { c::gurandepi_message_old_sum(i.as_ptr(), i.len(), m.as_ptr(), m.len(), before) })
+}
+
+/// The same as [`message_old_sum`], with `before` as the 32 bits of its single precision pattern.
+pub fn message_old_sum_bits(interchange: &[u8], message: &[u8], before: u32) -> Result<OldSum, Refusal> {
+    let (i, m) = (interchange, message);
+    summed(unsafe { c::gurandepi_message_old_sum_bits(i.as_ptr(), i.len(), m.as_ptr(), m.len(), before) })
 }

@@ -80,6 +80,11 @@ pub enum Reason {
     NotSha1 = 18,
     /// A total is below zero, and a register is written in or moved to [`Form::Old`].
     NegativeTotal = 19,
+    /// The old sum: a load that is not whole kilograms from 0 to 100,000.
+    Load = 23,
+    /// The old sum: the sum handed in is no whole number from 0 to 1,073,741,824, or a running sum passes that limit before it
+    /// is rounded.
+    Sum = 24,
 }
 
 /// A refusal: why, and the place of the fault, counted in octets from 0: its segment's first octet if [`Reason`] says nothing
@@ -117,6 +122,21 @@ pub struct Totals {
     pub loads: u64,
     /// Their sum: below zero where more was tipped back than loaded.
     pub grams: i64,
+}
+
+/// The old sum that is left: a whole number, at most 1,073,741,824.
+#[derive(Clone, Copy, Debug, PartialEq)]
+pub struct OldSum {
+    /// In whole kilograms.
+    pub sum: u64,
+    /// The 32 bits of its single precision pattern.
+    pub bits: u32,
+    /// In single precision.
+    pub single: f32,
+    /// How many loads were added.
+    pub loads: u64,
+    /// Their exact kilograms.
+    pub kilograms: u64,
 }
 
 /// What a header of scope 1 seals: two parts of the lent interchange, as if joined.

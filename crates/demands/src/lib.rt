@@ -4,6 +4,8 @@
 // of `ranges` `scope1Of`, `scope2Of` (Ranges.antt), of `f01` `f01Of` (F01.antt), of `scope3` `scope3Of` (Scope3.antt); of `values` `valueOf` (Values.antt); of `sealing` `sealOf`,
 // `sealOctetsOf` and `sealed` (Sealing.antt); of `register` `registerOf`, `checkNumbers`, `toldCheck` (Register.antt), of `forms` `registerText`
 // (Forms.antt), of `moves` `moveOf` (Stored.antt); of `writing` `Writes` (Written.antt); and here `Printed.antt`, `Companion.antt`, `Reported.antt`, `Sealed.antt`, `Range.antt` (the grammars of what is sealed) and `Read.antt`.
+pub mod years;
+
 ghost use Prim.Native.Nat.{ℕ, _+_, _-_, _≤_};
 ghost use mathlib.Core.Bool.{false};
 ghost use mathlib.Core.Path.{_≡_};

@@ -15,6 +15,8 @@
 //     regmove FROM TO REG CAP    ok HEX: from each form to 1 and 3, but to itself
 //     sha1 PART ..    ok HEX: the digest of the parts, joined
 //     digest KIND A R MREF HREF    ok HEX: the digest of a range. KIND is 1, 2, f01 or 3; for 1 and 2 R is not looked at
+//     oldsum BITS I    ok BITS: the sum handed in and the sum left, as 8 hex digits of the single precision pattern; of the whole file
+//     oldsum BITS I MREF    ok BITS: of one message
 //     report I    ok HEX: the text that the program `report` prints, always
 //
 // Each but the last may answer `refused NUMBER PLACE SEGMENT`. The answer to every other line is `bad`.
@@ -49,11 +51,15 @@ use ranges::scopes::scope2_places;
 use register::register::Checked;
 use register::register::register_check;
 use register::register::register_write;
+use returns::sums::OldSum;
+use returns::sums::message_old_sum_bits;
+use returns::sums::old_sum_bits;
 use scope3::scope3_places;
 use sealing::seal::seal;
 use sealing::seal::seal_octets;
 use syntax::content::content_is;
 use syntax::content::part;
+use syntax::content::wide;
 use values::value;
 use writing::Written;
 
@@ -431,6 +437,66 @@ fn answer_regcheck(out: &mut [u8; 4096], n: usize, s: &[u8], room: &mut [u8; 150
     print_bad(out, n)
 }
 
+// Four octets as a number, the first one highest.
+fn bits_given(b: &[u8]) -> u32 {
+    let mut v: u64 = 0;
+    let mut i: usize = 0;
+    while i < b.len() {
+        v = v % 16777216 * 256 + wide(b[i]);
+        i += 1;
+    }
+    (v % 4294967296) as u32
+}
+
+fn print_old_sum(out: &mut [u8; 4096], n: usize, r: OldSum) -> usize {
+    match r {
+        OldSum::Of(x) => {
+            let v = x.bits;
+            let octets = [
+                (v / 16777216) as u8,
+                (v / 65536 % 256) as u8,
+                (v / 256 % 256) as u8,
+                (v % 256) as u8,
+            ];
+            let mut k = text(out, n, b"ok ");
+            k = print_hex(out, k, &octets);
+            put(out, k, b'\n')
+        }
+        OldSum::Refused(f) => print_refusal(out, n, f),
+    }
+}
+
+// Of one message, where a third argument names it; else of the whole file.
+fn answer_oldsum(out: &mut [u8; 4096], n: usize, s: &[u8], room: &mut [u8; 150000]) -> usize {
+    let mut bounds = [0usize; 7];
+    if arguments(s, b"hh", room, &mut bounds) {
+        let bits = argument(room, &bounds, 0);
+        if bits.len() == 4 {
+            let interchange = argument(room, &bounds, 1);
+            return print_old_sum(out, n, old_sum_bits(interchange, bits_given(bits)));
+        }
+        return print_bad(out, n);
+    }
+    answer_oldsum_of(out, n, s, room)
+}
+
+fn answer_oldsum_of(out: &mut [u8; 4096], n: usize, s: &[u8], room: &mut [u8; 150000]) -> usize {
+    let mut bounds = [0usize; 7];
+    if arguments(s, b"hhh", room, &mut bounds) {
+        let bits = argument(room, &bounds, 0);
+        if bits.len() == 4 {
+            let interchange = argument(room, &bounds, 1);
+            let message = argument(room, &bounds, 2);
+            return print_old_sum(
+                out,
+                n,
+                message_old_sum_bits(interchange, message, bits_given(bits)),
+            );
+        }
+    }
+    print_bad(out, n)
+}
+
 // The buffer has room for every report.
 fn answer_report(out: &mut [u8; 4096], n: usize, s: &[u8], room: &mut [u8; 150000]) -> usize {
     let mut bounds = [0usize; 7];
@@ -465,6 +531,9 @@ fn answer(out: &mut [u8; 4096], n: usize, s: &[u8], room: &mut [u8; 150000]) -> 
     }
     if is_word(command, b"regmove") {
         return answer_regmove(out, n, rest, room);
+    }
+    if is_word(command, b"oldsum") {
+        return answer_oldsum(out, n, rest, room);
     }
     if is_word(command, b"report") {
         return answer_report(out, n, rest, room);

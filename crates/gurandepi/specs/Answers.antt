@@ -7,6 +7,7 @@ use mathlib.Core.Path.{_≡_}
 use Rattle.writing.specs.Written.{Text, leftIn, writtenNumbers}
 use Rattle.gurandepi.specs.declared.Answer.{Answer}
 use Rattle.gurandepi.specs.declared.Loads.{Loads}
+use Rattle.gurandepi.specs.declared.OldSum.{OldSum}
 use Rattle.gurandepi.specs.declared.Parts.{Parts}
 use Rattle.gurandepi.specs.declared.Range.{Range}
 use Rattle.gurandepi.specs.declared.Written.{Written}
@@ -21,6 +22,10 @@ answerFields r = r .number ∷ r .place ∷ r .segment ∷ []
 
 abbrev pub totalsFields : Loads → List ℕ
 totalsFields r = r .number ∷ r .place ∷ r .segment ∷ r .loads ∷ []
+
+-- but for the sum in single precision, which is no whole number's field
+abbrev pub oldSumFields : OldSum → List ℕ
+oldSumFields r = r .number ∷ r .place ∷ r .segment ∷ r .sum ∷ r .bits ∷ r .loads ∷ r .kilograms ∷ []
 
 abbrev pub partsFields : Parts → List ℕ
 partsFields r = r .number ∷ r .place ∷ r .segment ∷ r .«header_start» ∷ r .«header_end» ∷ r .«body_start» ∷ r .«body_end» ∷ []

@@ -21,7 +21,8 @@ ghost use Rattle.forms.specs.declared.Form.the-variants.{Old, Small, Signed};
 ghost use Rattle.moves.specs.Stored.{moveOf};
 ghost use Rattle.sha.specs.Feeding.{started, finishedOf};
 ghost use Rattle.digest.specs.Digests.{digest1Of, digest2Of, digestF01Of, digest3Of, digestNumbers, toldDigest};
-ghost use Rattle.gurandepi.specs.Answers.{answerFields, totalsFields, partsFields, rangeFields, Gives, writtenFields, digestFields, stateIn, Feeds};
+ghost use Rattle.returns.specs.Returns.{oldSumOf, oldSumBitsOf, messageOldSumOf, messageOldSumBitsOf, toldSum, singleIn, singleOf, sumNumbers};
+ghost use Rattle.gurandepi.specs.Answers.{oldSumFields, answerFields, totalsFields, partsFields, rangeFields, Gives, writtenFields, digestFields, stateIn, Feeds};
 use digest::digest_f01;
 use digest::digest_scope1;
 use digest::digest_scope2;
@@ -39,6 +40,10 @@ use ranges::scopes::scope2_places;
 use register::register::Checked;
 use register::register::register_check;
 use register::register::register_write;
+use returns::sums::message_old_sum;
+use returns::sums::message_old_sum_bits;
+use returns::sums::old_sum;
+use returns::sums::old_sum_bits;
 use scope3::scope3_places;
 use sealing::seal::seal;
 use sealing::seal::seal_octets;
@@ -87,6 +92,19 @@ pub struct Written {
     pub place: u64,
     pub segment: u64,
     pub length: u64,
+}
+
+// The old sum that is left: in whole kilograms, as its 32 bits and in single precision; how many loads were added, and their exact kilograms.
+#[repr(C)]
+pub struct OldSum {
+    pub number: u64,
+    pub place: u64,
+    pub segment: u64,
+    pub sum: u64,
+    pub bits: u32,
+    pub single: f32,
+    pub loads: u64,
+    pub kilograms: u64,
 }
 
 fn verdict_answer(v: Verdict) -> Answer
@@ -568,4 +586,75 @@ pub extern "C" fn gurandepi_digest_scope3(
     ensures { λ r. ⌜ digestFields r ≡ digestNumbers (digest3Of (now (autack .entry)) (now (referenced .entry)) (now (message .entry)) (now (header .entry))) ⌝ }
 {
     digest_answer(digest_scope3(autack, referenced, message, header))
+}
+
+fn old_sum_answer(x: returns::sums::OldSum) -> OldSum
+    ensures { λ r. ⌜ oldSumFields r ≡ toldSum x ⌝ }
+    ensures { λ r. ⌜ r .single ≡ singleIn x ⌝ }
+{
+    match x {
+        returns::sums::OldSum::Of(l) => OldSum {
+            number: 0,
+            place: 0,
+            segment: 0,
+            sum: l.sum,
+            bits: l.bits,
+            single: l.single,
+            loads: l.loads,
+            kilograms: l.kilograms,
+        },
+        returns::sums::OldSum::Refused(f) => OldSum {
+            number: f.number as u64,
+            place: f.place as u64,
+            segment: f.segment as u64,
+            sum: 0,
+            bits: 0,
+            single: 0.0,
+            loads: 0,
+            kilograms: 0,
+        },
+    }
+}
+
+// The old sum with the loads of all messages of a file: `before` is the sum that the last file left, in single precision.
+#[no_mangle]
+pub extern "C" fn gurandepi_old_sum(interchange: &[u8], before: f32) -> OldSum
+    ensures { λ r. ⌜ oldSumFields r ≡ sumNumbers (oldSumOf (now (interchange .entry)) before) ⌝ }
+    ensures { λ r. ⌜ r .single ≡ singleOf (oldSumOf (now (interchange .entry)) before) ⌝ }
+{
+    old_sum_answer(old_sum(interchange, before))
+}
+
+// The same, with the sum that the last file left as its 32 bits.
+#[no_mangle]
+pub extern "C" fn gurandepi_old_sum_bits(interchange: &[u8], before: u32) -> OldSum
+    ensures { λ r. ⌜ oldSumFields r ≡ sumNumbers (oldSumBitsOf (now (interchange .entry)) before) ⌝ }
+    ensures { λ r. ⌜ r .single ≡ singleOf (oldSumBitsOf (now (interchange .entry)) before) ⌝ }
+{
+    old_sum_answer(old_sum_bits(interchange, before))
+}
+
+// The old sum with the loads of one message.
+#[no_mangle]
+pub extern "C" fn gurandepi_message_old_sum(
+    interchange: &[u8],
+    message: &[u8],
+    before: f32,
+) -> OldSum
+    ensures { λ r. ⌜ oldSumFields r ≡ sumNumbers (messageOldSumOf (now (interchange .entry)) (now (message .entry)) before) ⌝ }
+    ensures { λ r. ⌜ r .single ≡ singleOf (messageOldSumOf (now (interchange .entry)) (now (message .entry)) before) ⌝ }
+{
+    old_sum_answer(message_old_sum(interchange, message, before))
+}
+
+#[no_mangle]
+pub extern "C" fn gurandepi_message_old_sum_bits(
+    interchange: &[u8],
+    message: &[u8],
+    before: u32,
+) -> OldSum
+    ensures { λ r. ⌜ oldSumFields r ≡ sumNumbers (messageOldSumBitsOf (now (interchange .entry)) (now (message .entry)) before) ⌝ }
+    ensures { λ r. ⌜ r .single ≡ singleOf (messageOldSumBitsOf (now (interchange .entry)) (now (message .entry)) before) ⌝ }
+{
+    old_sum_answer(message_old_sum_bits(interchange, message, before))
 }

@@ -1,0 +1,9 @@
+pub mod OldSum
+pub mod RoundingLaws
+pub mod SingleLaws
+pub mod Running
+pub mod RunningLaws
+pub mod Bounds
+pub mod BoundLaws
+pub mod BatchLaws
+pub mod Example
