@@ -1,4 +1,5 @@
-// calls DELIVERIES AUTACK GS1    times every exported call on the delivery file, against the plain judge on the same octets, in this one process
+// calls DELIVERIES AUTACK GS1 YEAR    times every exported call on the delivery file, the old sum on a file of the example year, against the plain judge
+// on the same octets, in this one process
 #include <stdint.h>
 #include <stdio.h>
 #include <stdlib.h>
@@ -9,8 +10,8 @@
 uint64_t plain_judge(const uint8_t *s, size_t n);
 
 enum { ROUNDS = 21, ROOM = 1 << 17 };
-static uint8_t octets[ROOM], autack[ROOM], gs1[ROOM], out[ROOM], reg[ROOM], form3[ROOM];
-static size_t size, autack_size, gs1_size, reg_size, form3_size;
+static uint8_t octets[ROOM], autack[ROOM], gs1[ROOM], year[ROOM], out[ROOM], reg[ROOM], form3[ROOM];
+static size_t size, autack_size, gs1_size, year_size, reg_size, form3_size;
 static uint64_t sink;
 
 #define TEXT(t) (const uint8_t *)(t), sizeof(t) - 1
@@ -31,6 +32,10 @@ static uint64_t write_signed(void) { return gurandepi_register_write_signed(octe
 static uint64_t check_signed(void) { return gurandepi_register_check_signed(octets, size, form3, form3_size).number; }
 static uint64_t old_to_signed(void) { return gurandepi_register_old_to_signed(reg, reg_size, out, ROOM).number; }
 static uint64_t signed_to_old(void) { return gurandepi_register_signed_to_old(form3, form3_size, out, ROOM).number; }
+static uint64_t plain_year(void) { return plain_judge(year, year_size); }
+static uint64_t judge_year(void) { return gurandepi_judge(year, year_size).number; }
+static uint64_t old_sum(void) { return gurandepi_old_sum(year, year_size, 0).number; }
+static uint64_t message_old_sum(void) { return gurandepi_message_old_sum(year, year_size, TEXT("M25"), 0).number; }
 
 static double now(void) {
     struct timespec t;
@@ -61,23 +66,32 @@ static size_t read_file(const char *path, uint8_t *into) {
     return n;
 }
 
+struct row { const char *name; uint64_t (*call)(void); };
+
+static void rows(const struct row *row, size_t count, uint64_t (*beside)(void), size_t octets) {
+    printf("%-16s %10s %10s %8s   on %zu octets\n", "call", "ns/octet", "plain", "ratio", octets);
+    for (size_t k = 0; k < count; k++) {
+        uint64_t number = row[k].call();
+        double other, t = best(row[k].call, beside, &other);
+        printf("%-16s %10.3f %10.3f %8.2f%s\n", row[k].name, t / octets, other / octets, t / other, number ? "   REFUSED" : "");
+        if (number) exit(1);
+    }
+}
+
 int main(int argc, char **argv) {
-    if (argc != 4) return 2;
+    if (argc != 5) return 2;
     size = read_file(argv[1], octets);
     autack_size = read_file(argv[2], autack);
     gs1_size = read_file(argv[3], gs1);
+    year_size = read_file(argv[4], year);
     reg_size = gurandepi_register_write(octets, size, reg, ROOM).length;
     form3_size = gurandepi_register_write_signed(octets, size, form3, ROOM).length;
-    static const struct { const char *name; uint64_t (*call)(void); } calls[] = {
+    static const struct row calls[] = {
         {"judge", judge}, {"totals", totals}, {"scope1", scope1}, {"scope2", scope2}, {"f01", f01}, {"scope3", scope3}, {"value", value},
         {"seal_octets", seal_octets}, {"seal", seal}, {"register_write", register_write}, {"register_check", register_check},
         {"write_signed", write_signed}, {"check_signed", check_signed}, {"old_to_signed", old_to_signed}, {"signed_to_old", signed_to_old}};
-    printf("%-16s %10s %10s %8s   on %zu octets\n", "call", "ns/octet", "plain", "ratio", size);
-    for (size_t k = 0; k < sizeof calls / sizeof *calls; k++) {
-        uint64_t number = calls[k].call();
-        double other, t = best(calls[k].call, plain, &other);
-        printf("%-16s %10.3f %10.3f %8.2f%s\n", calls[k].name, t / size, other / size, t / other, number ? "   REFUSED" : "");
-        if (number) return 1;
-    }
+    static const struct row sums[] = {{"judge", judge_year}, {"old_sum", old_sum}, {"message_old_sum", message_old_sum}};
+    rows(calls, sizeof calls / sizeof *calls, plain, size);
+    rows(sums, sizeof sums / sizeof *sums, plain_year, year_size);
     return 0;
 }

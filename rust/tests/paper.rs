@@ -161,3 +161,20 @@ fn the_digest_is_that_of_the_sealed_octets_however_they_are_cut() {
     assert!(digest_f01(F01.as_bytes(), F01.as_bytes(), b"11", b"1").is_ok_and(|d| d[..2] == [0xf5, 0x00]));
     assert!(digest_scope3(SCOPE3.as_bytes(), SCOPE3.as_bytes(), b"AUT00001", b"1").is_ok_and(|d| d[..2] == [0x09, 0x65]));
 }
+
+#[cfg_attr(linked, test)]
+fn the_old_sum_is_rounded_once_for_each_load() {
+    let file = P.replace("QTY+12:27.34:TNE'CNT+1:57.34:TNE'UNT+5", "UNT+3");
+    let file = file.as_bytes();
+    let left = old_sum(file, 300_000_000.0).unwrap();
+    assert_eq!((left.sum, left.bits, left.single), (300_030_016, 0x4d8f_10c2, 300_030_016.0));
+    assert_eq!((left.loads, left.kilograms), (1, 30_000));
+    assert_eq!(message_old_sum(file, b"M1", 300_000_000.0), Ok(left));
+    assert_eq!(message_old_sum_bits(file, b"M1", 0x4d8f_0d18), Ok(left));
+    for before in [-0.0, 0.5, -1.0, f32::INFINITY, f32::NAN, 1_073_741_952.0] {
+        assert_eq!(old_sum(file, before).unwrap_err().reason, Reason::Sum);
+        assert_eq!(message_old_sum(file, b"M2", before).unwrap_err().reason, Reason::NotFound);
+    }
+    let refusal = old_sum_bits(P.replace("30000", "-30000").replace("57.34:", "-2.66:").as_bytes(), 0).unwrap_err();
+    assert_eq!((refusal.reason, refusal.number(), refusal.place), (Reason::Load, 23, 0));
+}

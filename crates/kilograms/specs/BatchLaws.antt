@@ -10,7 +10,7 @@ use lib.Dec.{ltb}
 use borrow.Author.Tests.{lt-ltb, le-ltb, ltb-true, ltb-false}
 use Rattle.kilograms.specs.OldSum.{Old, tally, refused, limit, stepAt, timesNearest, rounded, added, addedAll}
 use Rattle.kilograms.specs.BoundLaws.{added-parts}
-use Rattle.kilograms.specs.Bounds.{loadsOf}
+use Rattle.kilograms.specs.Bounds.{batchOf}
 
 -- ---- the nearest multiple, by the rest
 
@@ -117,59 +117,63 @@ module _ (t : ℕ) (most : t < 268435456) (even : t % 16 ≡ 0) where
       pick true x y p q = p
       pick false x y p q = q
 
+-- so a load of 30,000 kg is booked as it is
+pub booked-exact : (v n e : ℕ) → v + 30000 < 268435456 → v % 16 ≡ 0 → (added (tally v n e) (some 30000) ≡ tally (v + 30000) (suc n) (e + 30000)) × ((v + 30000) % 16 ≡ 0)
+booked-exact v n e h z =
+    let s : rounded (v + 30000) ≡ v + 30000 = lost-none (v + 30000) h (omega (arith, z)) in
+    (within v 30000 n e (omega (arith, h)) ∙ ap (λ (x : ℕ). tally x (suc n) (e + 30000)) s, omega (arith, z))
+
 -- ---- many loads
 
-pub batches-exact : (k v n e : ℕ) → v % 16 ≡ 0 → v + k * 30000 < 268435456 → addedAll (tally v n e) (loadsOf k 30000) ≡ tally (v + k * 30000) (n + k) (e + k * 30000)
-unfolding loadsOf
-batches-exact zero v n e z h =
-    let a : v ≡ v + 0 * 30000 = omega arith in
-    let b : n ≡ n + 0 = omega arith in
-    let c : e ≡ e + 0 * 30000 = omega arith in
-    ap (λ (x : ℕ). tally x n e) a ∙ ap (λ (x : ℕ). tally (v + 0 * 30000) x e) b ∙ ap (λ (x : ℕ). tally (v + 0 * 30000) (n + 0) x) c
-batches-exact (suc k) v n e z h =
-    let s : rounded (v + 30000) ≡ v + 30000 = lost-none (v + 30000) (omega (arith, h)) (omega (arith, z)) in
-    let i = batches-exact k (v + 30000) (suc n) (e + 30000) (omega (arith, z)) (omega (arith, h)) in
-    let a : v + 30000 + k * 30000 ≡ v + suc k * 30000 = omega arith in
-    let b : suc n + k ≡ n + suc k = omega arith in
-    let c : e + 30000 + k * 30000 ≡ e + suc k * 30000 = omega arith in
-    ap (λ (o : Old). addedAll o (loadsOf k 30000)) (within v 30000 n e (omega (arith, h)) ∙ ap (λ (x : ℕ). tally x (suc n) (e + 30000)) s)
-    ∙ i ∙ ap (λ (x : ℕ). tally x (suc n + k) (e + 30000 + k * 30000)) a ∙ ap (λ (x : ℕ). tally (v + suc k * 30000) x (e + 30000 + k * 30000)) b
-    ∙ ap (λ (x : ℕ). tally (v + suc k * 30000) (n + suc k) x) c
+-- where each of the next k loads is booked as y from v on, and that holds of what is left
+module _ (y : ℕ) (Holds : ℕ → ℕ → Type 0) (booked : (k v n e : ℕ) → Holds (suc k) v → (added (tally v n e) (some 30000) ≡ tally (v + y) (suc n) (e + 30000)) × Holds k (v + y)) where
+  batches : (k v n e : ℕ) → Holds k v → addedAll (tally v n e) (batchOf k 30000) ≡ tally (v + k * y) (n + k) (e + k * 30000)
+  unfolding batchOf
+  batches zero v n e h =
+      let a : v ≡ v + 0 * y = omega arith in
+      let b : n ≡ n + 0 = omega arith in
+      let c : e ≡ e + 0 * 30000 = omega arith in
+      ap (λ (x : ℕ). tally x n e) a ∙ ap (λ (x : ℕ). tally (v + 0 * y) x e) b ∙ ap (λ (x : ℕ). tally (v + 0 * y) (n + 0) x) c
+  batches (suc k) v n e h =
+      let g = booked k v n e h in
+      let a : v + y + k * y ≡ v + suc k * y = omega arith in
+      let b : suc n + k ≡ n + suc k = omega arith in
+      let c : e + 30000 + k * 30000 ≡ e + suc k * 30000 = omega arith in
+      ap (λ (o : Old). addedAll o (batchOf k 30000)) (g .0)
+      ∙ batches k (v + y) (suc n) (e + 30000) (g .1) ∙ ap (λ (x : ℕ). tally x (suc n + k) (e + 30000 + k * 30000)) a ∙ ap (λ (x : ℕ). tally (v + suc k * y) x (e + 30000 + k * 30000)) b
+      ∙ ap (λ (x : ℕ). tally (v + suc k * y) (n + suc k) x) c
 
-pub batches-heavy : (k v n e : ℕ) → 268435456 ≤ v → v % 64 ≡ 0 → v + k * 30016 ≤ limit → addedAll (tally v n e) (loadsOf k 30000) ≡ tally (v + k * 30016) (n + k) (e + k * 30000)
-unfolding loadsOf
-batches-heavy zero v n e l z h =
-    let a : v ≡ v + 0 * 30016 = omega arith in
-    let b : n ≡ n + 0 = omega arith in
-    let c : e ≡ e + 0 * 30000 = omega arith in
-    ap (λ (x : ℕ). tally x n e) a ∙ ap (λ (x : ℕ). tally (v + 0 * 30016) x e) b ∙ ap (λ (x : ℕ). tally (v + 0 * 30016) (n + 0) x) c
-batches-heavy (suc k) v n e l z h =
-    let g = booked-heavy v n e l (omega (arith, h)) z in
-    let i = batches-heavy k (v + 30016) (suc n) (e + 30000) (omega (arith, l)) (g .1) (omega (arith, h)) in
-    let a : v + 30016 + k * 30016 ≡ v + suc k * 30016 = omega arith in
-    let b : suc n + k ≡ n + suc k = omega arith in
-    let c : e + 30000 + k * 30000 ≡ e + suc k * 30000 = omega arith in
-    ap (λ (o : Old). addedAll o (loadsOf k 30000)) (g .0)
-    ∙ i ∙ ap (λ (x : ℕ). tally x (suc n + k) (e + 30000 + k * 30000)) a ∙ ap (λ (x : ℕ). tally (v + suc k * 30016) x (e + 30000 + k * 30000)) b
-    ∙ ap (λ (x : ℕ). tally (v + suc k * 30016) (n + suc k) x) c
+batches-exact : (k v n e : ℕ) → (v + k * 30000 < 268435456) × (v % 16 ≡ 0) → addedAll (tally v n e) (batchOf k 30000) ≡ tally (v + k * 30000) (n + k) (e + k * 30000)
+batches-exact =
+    batches 30000 (λ (k v : ℕ). (v + k * 30000 < 268435456) × (v % 16 ≡ 0))
+    (λ (k v n e : ℕ) (h : (v + suc k * 30000 < 268435456) × (v % 16 ≡ 0)). let a = h .0 in let g = booked-exact v n e (omega (arith, a)) (h .1) in (g .0, (omega (arith, a), g .1)))
+
+batches-heavy : (k v n e : ℕ) → (268435456 ≤ v) × ((v + k * 30016 ≤ limit) × (v % 64 ≡ 0)) → addedAll (tally v n e) (batchOf k 30000) ≡ tally (v + k * 30016) (n + k) (e + k * 30000)
+batches-heavy =
+    batches 30016 (λ (k v : ℕ). (268435456 ≤ v) × ((v + k * 30016 ≤ limit) × (v % 64 ≡ 0)))
+    (λ (k v n e : ℕ) (h : (268435456 ≤ v) × ((v + suc k * 30016 ≤ limit) × (v % 64 ≡ 0))).
+    let l = h .0 in
+    let a = h .1 .0 in
+    let g = booked-heavy v n e l (omega (arith, a)) (h .1 .1) in
+    (g .0, (omega (arith, l), (omega (arith, a), g .1))))
 
 -- ---- the year: 33,300 loads of 30,000 kg
 
-loads-more : (k m x : ℕ) → loadsOf (k + m) x ≡ loadsOf k x ++ loadsOf m x
-unfolding loadsOf
-loads-more zero m x = let a : zero + m ≡ m = omega arith in ap (λ (i : ℕ). loadsOf i x) a
-loads-more (suc k) m x = let a : suc k + m ≡ suc (k + m) = omega arith in ap (λ (i : ℕ). loadsOf i x) a ∙ ap (λ (l : List (Option ℕ)). some x ∷ l) (loads-more k m x)
+loads-more : (k m x : ℕ) → batchOf (k + m) x ≡ batchOf k x ++ batchOf m x
+unfolding batchOf
+loads-more zero m x = let a : zero + m ≡ m = omega arith in ap (λ (i : ℕ). batchOf i x) a
+loads-more (suc k) m x = let a : suc k + m ≡ suc (k + m) = omega arith in ap (λ (i : ℕ). batchOf i x) a ∙ ap (λ (l : List (Option ℕ)). some x ∷ l) (loads-more k m x)
 
-crossing : addedAll (tally 268410000 8947 268410000) (loadsOf 1 30000) ≡ tally 268440000 8948 268440000
-unfolding loadsOf
+crossing : addedAll (tally 268410000 8947 268410000) (batchOf 1 30000) ≡ tally 268440000 8948 268440000
+unfolding batchOf
 crossing = refl
 
 -- the 8,947th leaves 268,410,000 exactly, the next 268,440,000 exactly, which is a multiple of 64; each of the other 24,352 is booked 16 kg heavy
-pub the-year : addedAll (tally 0 0 0) (loadsOf (8947 + (1 + 24352)) 30000) ≡ tally 999389632 33300 999000000
+pub the-year : addedAll (tally 0 0 0) (batchOf (8947 + (1 + 24352)) 30000) ≡ tally 999389632 33300 999000000
 the-year =
-    ap (addedAll (tally 0 0 0)) (loads-more 8947 (1 + 24352) 30000 ∙ ap (λ (l : List (Option ℕ)). loadsOf 8947 30000 ++ l) (loads-more 1 24352 30000))
-    ∙ added-parts (tally 0 0 0) (loadsOf 8947 30000) (loadsOf 1 30000 ++ loadsOf 24352 30000)
-    ∙ ap (λ (o : Old). addedAll o (loadsOf 1 30000 ++ loadsOf 24352 30000)) (batches-exact 8947 0 0 0 refl (omega arith))
-    ∙ added-parts (tally 268410000 8947 268410000) (loadsOf 1 30000) (loadsOf 24352 30000)
-    ∙ ap (λ (o : Old). addedAll o (loadsOf 24352 30000)) crossing
-    ∙ batches-heavy 24352 268440000 8948 268440000 (omega arith) refl (omega arith)
+    ap (addedAll (tally 0 0 0)) (loads-more 8947 (1 + 24352) 30000 ∙ ap (λ (l : List (Option ℕ)). batchOf 8947 30000 ++ l) (loads-more 1 24352 30000))
+    ∙ added-parts (tally 0 0 0) (batchOf 8947 30000) (batchOf 1 30000 ++ batchOf 24352 30000)
+    ∙ ap (λ (o : Old). addedAll o (batchOf 1 30000 ++ batchOf 24352 30000)) (batches-exact 8947 0 0 0 (omega arith, refl))
+    ∙ added-parts (tally 268410000 8947 268410000) (batchOf 1 30000) (batchOf 24352 30000)
+    ∙ ap (λ (o : Old). addedAll o (batchOf 24352 30000)) crossing
+    ∙ batches-heavy 24352 268440000 8948 268440000 (omega arith, (omega arith, refl))

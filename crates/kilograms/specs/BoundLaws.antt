@@ -10,7 +10,7 @@ use lib.ListN.{length}
 use borrow.Author.Tests.{ltb-false}
 use Rattle.kilograms.specs.OldSum.{Old, tally, refused, limit, rounded, added, addedAll}
 use Rattle.kilograms.specs.RoundingLaws.{rounded-near, rounded-within}
-use Rattle.kilograms.specs.Bounds.{weight, exactly, Bounded, Files, none-yet, file-more}
+use Rattle.kilograms.specs.Bounds.{weight, exactly, Bounded}
 
 -- what was refused stays refused
 pub stays : (n : ℕ) (l : List (Option ℕ)) → addedAll (refused n) l ≡ refused n
@@ -68,10 +68,6 @@ chained a b =
     let r = b .above in
     let s = b .below in
     record { above = omega (arith, p, r); below = omega (arith, q, s); within = b .within }
-
-pub files-bounded : {v w n e : ℕ} → v ≤ limit → Files v w n e → Bounded v w n e
-files-bounded h none-yet = record { above = omega arith; below = omega arith; within = h }
-files-bounded h (file-more w n e l x m f k q) = let a = files-bounded h k in chained a (bounded l (a .within) q .1 .1)
 
 -- loads in two parts, one after the other
 pub added-parts : (k : Old) (l m : List (Option ℕ)) → addedAll k (l ++ m) ≡ addedAll (addedAll k l) m

@@ -1,9 +1,8 @@
 -- How far the old sum is off: at most 32 kg for each load, and 16 kg for each load of 30,000 kg from 268,435,456 kg on.
 use Prim.Native.Nat.{ℕ, zero, suc, _+_, _*_, _≤_}
-use mathlib.Core.Path.{_≡_}
 use mathlib.Core.List.{List, [], _∷_}
 use mathlib.Core.Option.{Option, none, some}
-use Rattle.kilograms.specs.OldSum.{tally, addedAll, limit}
+use Rattle.kilograms.specs.OldSum.{limit}
 
 -- the exact kilograms of loads
 abbrev pub weight : Option ℕ → ℕ
@@ -21,12 +20,7 @@ pub record Bounded (v w n e : ℕ) : Type 0 where
   -- "each running sum .. is a whole number from 0 to 1,073,741,824"
   pub within : w ≤ limit
 
--- "over a chain of files": from the sum v, files of n loads and e kilograms together gave w, each adding to the sum that the last one left
-pub data Files (v : ℕ) : ℕ → ℕ → ℕ → Type 0 where
-  none-yet : Files v v 0 0
-  file-more : (w n e : ℕ) (l : List (Option ℕ)) (x m f : ℕ) → Files v w n e → addedAll (tally w 0 0) l ≡ tally x m f → Files v x (n + m) (e + f)
-
--- n loads of x kilograms each
-unfoldable pub loadsOf : ℕ → ℕ → List (Option ℕ)
-loadsOf zero x = []
-loadsOf (suc n) x = some x ∷ loadsOf n x
+-- a batch: n loads of x kilograms each
+unfoldable pub batchOf : ℕ → ℕ → List (Option ℕ)
+batchOf zero x = []
+batchOf (suc n) x = some x ∷ batchOf n x

@@ -1,10 +1,11 @@
 // The old sum, just as it ran: kilograms in single precision, one rounding for each addition.
 ghost use mathlib.Core.Path.{_≡_};
-ghost use mathlib.Core.Bool.{not};
+ghost use mathlib.Core.Bool.{not, true, false};
 ghost use mathlib.Core.Option.{Option, some};
 ghost use Prim.Native.Nat.{ℕ, _+_, _≤_};
 ghost use lib.Dec.{T};
-ghost use lib.Ieee.{binary32, toBits, isNan};
+ghost use lib.IntN.{pos};
+ghost use lib.Ieee.{binary32, fin, lt, toBits, isNan};
 ghost use Rattle.kilograms.specs.OldSum.{Old, tally, limit, rounded, single, kilogramsIn, added, handedIn, handedBits};
 ghost use Rattle.kilograms.specs.SingleLaws.{Whole};
 ghost use Rattle.kilograms.specs.Running.{runningAs, loadAs, Held, Runs, Weighs, Kilos};
@@ -93,23 +94,32 @@ pub fn add(k: Running, x: Load) -> Running
     }
 }
 
+// The same of a sum above -1 and below 2^64. The whole number that it is cut to has its very bits, unless it is a fraction or minus zero.
+fn handed_whole(sum: f32) -> Running
+    requires { ⌜ T (lt (fin true 1 (pos 0)) sum) × T (lt sum (fin false 1 (pos 64))) ⌝ }
+    ensures { λ r. ⌜ r ≡ runningAs (handedIn sum) ⌝ }
+{
+    let v = std::num::truncating_f32_to_u64(sum);
+    if v <= 1073741824 {
+        let x = std::num::nearest_u32_to_f32(v as u32);
+        if f32::to_bits(x) == f32::to_bits(sum) {
+            return Running::Of(Tally {
+                sum: sum,
+                loads: 0,
+                kilograms: 0,
+            });
+        }
+    }
+    Running::Refused(24)
+}
+
 // A sum that is handed in, and no load yet: a whole number from 0 to 1,073,741,824; any other is refused, minus zero too.
 pub fn handed_in(sum: f32) -> Running
     ensures { λ r. ⌜ r ≡ runningAs (handedIn sum) ⌝ }
 {
     if sum > -1.0 {
         if sum < 18446744073709551616.0 {
-            let v = std::num::truncating_f32_to_u64(sum);
-            if v <= 1073741824 {
-                let x = std::num::nearest_u32_to_f32(v as u32);
-                if f32::to_bits(x) == f32::to_bits(sum) {
-                    return Running::Of(Tally {
-                        sum: sum,
-                        loads: 0,
-                        kilograms: 0,
-                    });
-                }
-            }
+            return handed_whole(sum);
         }
     }
     Running::Refused(24)

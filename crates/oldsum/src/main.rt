@@ -1,11 +1,12 @@
 // How far the old returns were off. For each file of a year, in order: its loads, their exact kilograms, the old sum that it leaves, what it added to
 // that, and the difference so far; and then the difference of the year, in kilograms.
 //
-//     file loads 2775 kilograms 83250000 oldsum 83250000 added 83250000 difference 0
+//     file 1 loads 2775 kilograms 83250000 oldsum 83250000 added 83250000 difference 0
 //     year loads 33300 kilograms 999000000 oldsum 999389632 difference 389632
 //
-// The arguments are the names of the files. Without an argument their octets are read from standard input, one file behind the other. A file that is
-// refused ends it: `refused 23 at 0 segment 0`.
+// The arguments are the names of the files. An argument `-` stands for the files on standard input, one behind the other; so does no argument at all.
+// A file that is refused ends it: `file 2 refused 23 at 0 segment 0`.
+use input::drain;
 use judge::run::Verdict;
 use judge::run::judge;
 use libc::STDIN_FILENO;
@@ -17,10 +18,12 @@ use printing::text;
 use returns::sums::Left;
 use returns::sums::OldSum;
 use returns::sums::old_sum;
+use syntax::content::content_is;
 use syntax::content::part;
 
-// The year so far.
+// The year so far. Its last file may be refused.
 struct Year {
+    files: u64,
     single: f32,
     sum: u64,
     loads: u64,
@@ -31,6 +34,7 @@ struct Year {
 // "It starts at zero with the year."
 fn new_year() -> Year {
     Year {
+        files: 0,
         single: 0.0,
         sum: 0,
         loads: 0,
@@ -39,9 +43,10 @@ fn new_year() -> Year {
     }
 }
 
-// Loads and kilograms stay far below 2^64: the sum is refused long before.
+// Loads and kilograms stay far below 2^64: no run has so many files.
 fn with_file(y: Year, x: Left) -> Year {
     Year {
+        files: std::num::wrapping_add_u64(y.files, 1),
         single: x.single,
         sum: x.sum,
         loads: std::num::wrapping_add_u64(y.loads, x.loads),
@@ -67,9 +72,15 @@ fn print_loads(out: &mut [u8; 4096], n: usize, loads: u64, kilograms: u64, sum: 
     number(out, k, sum)
 }
 
+// The number of the file that comes next.
+fn print_ordinal(out: &mut [u8; 4096], n: usize, y: Year) -> usize {
+    let k = text(out, n, b"file ");
+    number(out, k, std::num::wrapping_add_u64(y.files, 1))
+}
+
 // What a file added, and the difference up to it; `z` is the year with it.
 fn print_file(out: &mut [u8; 4096], n: usize, y: Year, x: Left, z: Year) -> usize {
-    let mut k = text(out, n, b"file");
+    let mut k = print_ordinal(out, n, y);
     k = print_loads(out, k, x.loads, x.kilograms, x.sum);
     k = text(out, k, b" added ");
     k = print_difference(out, k, x.sum, y.sum);
@@ -88,6 +99,17 @@ fn print_year(y: Year) {
     flush(&out, k);
 }
 
+fn ended(y: Year) -> Year {
+    Year {
+        files: y.files,
+        single: y.single,
+        sum: y.sum,
+        loads: y.loads,
+        kilograms: y.kilograms,
+        refused: true,
+    }
+}
+
 // One file more.
 fn after_file(y: Year, s: &[u8]) -> Year {
     let mut out = [0u8; 4096];
@@ -99,28 +121,18 @@ fn after_file(y: Year, s: &[u8]) -> Year {
             z
         }
         OldSum::Refused(f) => {
-            let n = print_refusal_at(&mut out, 0, f);
+            let mut n = print_ordinal(&mut out, 0, y);
+            n = put(&mut out, n, b' ');
+            n = print_refusal_at(&mut out, n, f);
             flush(&out, n);
-            Year {
-                single: y.single,
-                sum: y.sum,
-                loads: y.loads,
-                kilograms: y.kilograms,
-                refused: true,
-            }
+            ended(y)
         }
     }
 }
 
 fn unread(y: Year, path: &[u8]) -> Year {
     os::fail(path);
-    Year {
-        single: y.single,
-        sum: y.sum,
-        loads: y.loads,
-        kilograms: y.kilograms,
-        refused: true,
-    }
+    ended(y)
 }
 
 // The file of this name. The buffer has one octet more than an interchange may have, so one that is too long is told.
@@ -135,28 +147,6 @@ fn after_path(y: Year, path: &[u8]) -> Year {
     after_file(y, &space[..n])
 }
 
-fn after_argument(y: Year, i: usize) -> Year {
-    let mut path = io::buffer();
-    let length = os::arg(i, &mut path);
-    if os::errno() != 0 {
-        return unread(y, b"argument");
-    }
-    after_path(y, &path[..length])
-}
-
-fn after_arguments(count: usize) -> Year {
-    let mut y = new_year();
-    let mut i: usize = 1;
-    while i < count {
-        y = after_argument(y, i);
-        if y.refused {
-            return y;
-        }
-        i += 1;
-    }
-    y
-}
-
 fn is_accepted(s: &[u8]) -> bool {
     match judge(s) {
         Verdict::Accepted => true,
@@ -164,7 +154,7 @@ fn is_accepted(s: &[u8]) -> bool {
     }
 }
 
-// Where the first file ends in `s`: octets after UNZ give 7 at the first of them.
+// Where the first file ends in `s`: octets after UNZ give 7 at the first of them. All of `s` is one file where it ends nowhere.
 fn first_end(s: &[u8]) -> usize {
     match judge(s) {
         Verdict::Accepted => s.len(),
@@ -211,10 +201,12 @@ fn filled(space: &mut [u8], n: usize) -> usize {
     most
 }
 
-// A proved loop has to end, and nothing says that the input does: so the loop counts its turns down, from a number that no run uses up.
-fn after_input() -> Year {
+// The files on standard input. The buffer has as many octets as an interchange may have: what is told of a file that is refused must not hang on those of
+// the next ones. So one that is too long is told by its first 65,535 octets. A proved loop has to end, and nothing says that the input does: so the loop
+// counts its turns down, from a number that no run uses up.
+fn after_input(before: Year) -> Year {
     let mut space = [0u8; 65535];
-    let mut y = new_year();
+    let mut y = before;
     let mut n: usize = 0;
     let mut turns = u64::MAX;
     while turns > 0 {
@@ -225,6 +217,7 @@ fn after_input() -> Year {
         let e = first_end(part(&space, 0, n));
         y = after_file(y, part(&space, 0, e));
         if y.refused {
+            drain();
             return y;
         }
         n = moved_up(&mut space, e, n);
@@ -233,10 +226,35 @@ fn after_input() -> Year {
     y
 }
 
+fn after_argument(y: Year, i: usize) -> Year {
+    let mut path = io::buffer();
+    let length = os::arg(i, &mut path);
+    if os::errno() != 0 {
+        return unread(y, b"argument");
+    }
+    if content_is(&path[..length], 32, b"-") {
+        return after_input(y);
+    }
+    after_path(y, &path[..length])
+}
+
+fn after_arguments(count: usize) -> Year {
+    let mut y = new_year();
+    let mut i: usize = 1;
+    while i < count {
+        y = after_argument(y, i);
+        if y.refused {
+            return y;
+        }
+        i += 1;
+    }
+    y
+}
+
 fn after_all() -> Year {
     let count = os::arg_count();
     if count < 2 {
-        return after_input();
+        return after_input(new_year());
     }
     after_arguments(count)
 }

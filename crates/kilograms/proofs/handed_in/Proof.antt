@@ -1,66 +1,28 @@
 use mathlib.Core.Path.{sym, subst}
 use lib.Dec.{T}
 use lib.Ieee.{ofBits, neg}
-use Rattle.kilograms.specs.RunningLaws.{nearest-real, above-real, handed-so, low-handed, high-handed, large-handed, broken-handed}
+use Rattle.kilograms.specs.RunningLaws.{low-handed, high-handed}
 use borrow.Author.Needs.{needs}
 use Rattle.kilograms.proofs.handed_in.Statement.{statement}
 use Rattle.kilograms.proofs.handed_in.Tie as tie
 use Rattle.kilograms.proofs.handed_in.Reads as reads
 use Rattle.kilograms.proofs.handed_in.Lts as lts
-use Rattle.std.proofs.num.nearest_u32_to_f32.Reads as nearest-u32-to-f32-reads
-use Rattle.std.proofs.num.truncating_f32_to_u64.Reads as truncating-f32-to-u64-reads
+use Rattle.kilograms.proofs.handed_whole.Reads as handed-whole-reads
 
-truncating-f32-to-u64-requires : tie.Need-truncating-f32-to-u64-requires
+handed-whole-requires : tie.Need-handed-whole-requires
 unfolding ofBits neg
-truncating-f32-to-u64-requires c κs = (subst T (sym (c .before .if1 .taken)) tt, subst T (sym (c .if2 .taken)) tt)
-
-cast-nearest-u32-to-f32 : tie.Need-cast-nearest-u32-to-f32
-cast-nearest-u32-to-f32 c = search needs
-
-nearest-u32-to-f32-requires : tie.Need-nearest-u32-to-f32-requires
-nearest-u32-to-f32-requires c κs = search needs
-
-float-to-bits-if4 : tie.Need-float-to-bits-if4
-float-to-bits-if4 c = nearest-real (c .nearest-u32-to-f32 .result) (c .before .before .truncating-f32-to-u64 .result) (c .nearest-u32-to-f32 .ensures) (c .before .if3 .taken)
-
-float-to-bits-if4-2 : tie.Need-float-to-bits-if4-2
-unfolding ofBits neg
-float-to-bits-if4-2 c = above-real (c .before .before .before .before .before .args .sum) (subst T (sym (c .before .before .before .before .if1 .taken)) tt)
+handed-whole-requires c κs = (subst T (sym (c .before .if1 .taken)) tt, subst T (sym (c .if2 .taken)) tt)
 
 returns : tie.Need-returns
-returns c =
-    let d = c .before .before in
-    let t = d .before .truncating-f32-to-u64 in
-    handed-so (d .before .before .before .before .args .sum) (c .before .nearest-u32-to-f32 .result) (t .result) (search needs) (c .before .nearest-u32-to-f32 .ensures) (t .ensures) (d .if3 .taken) (c .if4 .taken)
+returns c = c .handed-whole .ensures
 
 returns-2 : tie.Need-returns-2
-returns-2 c =
-    let t = c .before .before .before .truncating-f32-to-u64 in
-    broken-handed (c .before .before .before .before .before .before .args .sum) (c .before .nearest-u32-to-f32 .result) (t .result) (search needs) (c .before .nearest-u32-to-f32 .ensures) (t .ensures) (c .if4 .left)
+unfolding ofBits neg
+returns-2 c = high-handed (c .before .before .args .sum) (c .if2 .left)
 
 returns-3 : tie.Need-returns-3
-returns-3 c =
-    large-handed (c .before .before .before .before .args .sum) (c .before .truncating-f32-to-u64 .result) (c .before .truncating-f32-to-u64 .ensures) (c .if3 .left)
-
-returns-4 : tie.Need-returns-4
 unfolding ofBits neg
-returns-4 c = high-handed (c .before .before .args .sum) (c .if2 .left)
-
-returns-5 : tie.Need-returns-5
-unfolding ofBits neg
-returns-5 c = low-handed (c .before .args .sum) (c .if1 .left)
+returns-3 c = low-handed (c .before .args .sum) (c .if1 .left)
 
 pub handed-in-spec : {M : Type 1} → statement M
-handed-in-spec =
-    tie.close
-    (tie.spec
-    truncating-f32-to-u64-requires
-    cast-nearest-u32-to-f32
-    nearest-u32-to-f32-requires
-    float-to-bits-if4
-    float-to-bits-if4-2
-    returns
-    returns-2
-    returns-3
-    returns-4
-    returns-5)
+handed-in-spec = tie.close (tie.spec handed-whole-requires returns returns-2 returns-3)

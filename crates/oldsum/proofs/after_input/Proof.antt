@@ -1,7 +1,6 @@
 use borrow.Author.Needs.{needs}
 use mathlib.Core.Path.{_≡_}
 use lib.ListN.{length}
-use Prim.Native.Nat.{_-_}
 use Rattle.oldsum.proofs.after_input.Statement.{statement}
 use Rattle.oldsum.proofs.after_input.Tie as tie
 
@@ -11,75 +10,57 @@ Inv-loop space₀ y₀ n₀ turns₀ space y n turns = length space ≡ 65535
 abbrev μ-loop : tie.MeasureT-loop
 μ-loop space₀ y₀ n₀ turns₀ space y n turns = turns
 
--- src/main.rt:211:9
-new-year-requires : tie.Need-new-year-requires Inv-loop μ-loop
-new-year-requires c κs = search needs
-
--- src/main.rt:214:5
 loop-holds : tie.Need-loop-holds Inv-loop μ-loop
 loop-holds c = search needs
 
--- src/main.rt:215:20
 slice-aggregate-filled : tie.Need-slice-aggregate-filled Inv-loop μ-loop
 slice-aggregate-filled c = search needs
 
--- src/main.rt:215:9
 filled-requires : tie.Need-filled-requires Inv-loop μ-loop
 filled-requires c κs = search needs
 
--- src/main.rt:217:13
 returns : tie.Need-returns Inv-loop μ-loop
 returns c = search needs
 
--- src/main.rt:219:32
 slice-aggregate-part : tie.Need-slice-aggregate-part Inv-loop μ-loop
 slice-aggregate-part c = search needs
 
--- src/main.rt:219:27
 part-requires : tie.Need-part-requires Inv-loop μ-loop
 part-requires c κs = search needs
 
--- src/main.rt:219:13
 first-end-requires : tie.Need-first-end-requires Inv-loop μ-loop
 first-end-requires c κs = search needs
 
--- src/main.rt:220:32
 slice-aggregate-part-2 : tie.Need-slice-aggregate-part-2 Inv-loop μ-loop
 slice-aggregate-part-2 c = search needs
 
--- src/main.rt:220:27
 part-requires-2 : tie.Need-part-requires-2 Inv-loop μ-loop
 part-requires-2 c κs = search needs
 
--- src/main.rt:220:9
 after-file-requires : tie.Need-after-file-requires Inv-loop μ-loop
 after-file-requires c κs = search needs
 
--- src/main.rt:222:13
+drain-requires : tie.Need-drain-requires Inv-loop μ-loop
+drain-requires c κs = search needs
+
 returns-2 : tie.Need-returns-2 Inv-loop μ-loop
 returns-2 c = search needs
 
--- src/main.rt:224:22
 slice-aggregate-moved-up : tie.Need-slice-aggregate-moved-up Inv-loop μ-loop
 slice-aggregate-moved-up c = search needs
 
--- src/main.rt:224:9
 moved-up-requires : tie.Need-moved-up-requires Inv-loop μ-loop
 moved-up-requires c κs = search needs
 
--- src/main.rt:225:9
 sub-turns : tie.Need-sub-turns Inv-loop μ-loop
 sub-turns c = search needs
 
--- src/main.rt:214:5
 loop-less : tie.Need-loop-less Inv-loop μ-loop
 loop-less c = search needs
 
--- src/main.rt:214:5
 loop-again : tie.Need-loop-again Inv-loop μ-loop
 loop-again c = search needs
 
--- src/main.rt:209:1
 returns-3 : tie.Need-returns-3 Inv-loop μ-loop
 returns-3 c = search needs
 
@@ -89,7 +70,6 @@ after-input-spec =
     (tie.spec
     Inv-loop
     μ-loop
-    new-year-requires
     loop-holds
     slice-aggregate-filled
     filled-requires
@@ -100,6 +80,7 @@ after-input-spec =
     slice-aggregate-part-2
     part-requires-2
     after-file-requires
+    drain-requires
     returns-2
     slice-aggregate-moved-up
     moved-up-requires
