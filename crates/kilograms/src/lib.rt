@@ -94,7 +94,7 @@ pub fn add(k: Running, x: Load) -> Running
     }
 }
 
-// The same of a sum above -1 and below 2^64. The whole number that it is cut to has its very bits, unless it is a fraction or minus zero.
+// A sum that is handed in and lies above -1 and below 2^64. The whole number that it is cut to has its very bits, unless it is a fraction or minus zero.
 fn handed_whole(sum: f32) -> Running
     requires { ⌜ T (lt (fin true 1 (pos 0)) sum) × T (lt sum (fin false 1 (pos 64))) ⌝ }
     ensures { λ r. ⌜ r ≡ runningAs (handedIn sum) ⌝ }
