@@ -4,7 +4,7 @@ ghost use Rattle.std.specs.Prelude.{◌≤◌, ◌<◌, length};
 use syntax::content::{Number, digits_value, part};
 
 // Where the octets of a hex word end in the room, or that it is no hex word.
-#[derive(Drop)]
+#[derive(Clone, Copy)]
 enum Decoded {
     To(usize),
     Bad,

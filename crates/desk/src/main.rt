@@ -43,7 +43,7 @@ use values::value;
 use writing::Written;
 
 // After a read: the length of the line that has begun, or that the input is over.
-#[derive(Drop)]
+#[derive(Clone, Copy)]
 enum Turn {
     On(usize),
     Over,
@@ -296,7 +296,7 @@ fn answer_seal(out: &mut [u8; 4096], n: usize, s: &[u8], room: &mut [u8; 150000]
 }
 
 // A form by its number, or that none has this number.
-#[derive(Drop)]
+#[derive(Clone, Copy)]
 enum Named {
     As(Form),
     Unknown,
@@ -349,7 +349,7 @@ fn answer_regwrite(out: &mut [u8; 4096], n: usize, s: &[u8], room: &mut [u8; 150
 }
 
 // A move by the numbers of its forms, or that it is not offered.
-#[derive(Drop)]
+#[derive(Clone, Copy)]
 enum Move {
     Between(Form, Form),
     Unknown,

@@ -28,7 +28,7 @@ use syntax::{Found, Refusal, Syntax};
 use walk::sections::Layout;
 
 // The digest, with the refusal's number 0; or the refusal, and octets of 0.
-#[derive(Drop)]
+#[derive(Clone, Copy)]
 pub struct Digest {
     pub refusal: Refusal,
     pub octets: [u8; 20],

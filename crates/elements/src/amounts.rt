@@ -8,27 +8,27 @@ ghost use Rattle.elements.specs.Amounts.{weight_is, amount_is, unit_is, fraction
 use syntax::content::{Next, content_is, next_octet, wide};
 
 // How many digits may stand before and behind the mark.
-#[derive(Drop)]
+#[derive(Clone, Copy)]
 pub struct Form {
     pub whole: usize,
     pub decimals: usize,
 }
 
 // The grams that digits and a mark give.
-#[derive(Drop)]
+#[derive(Clone, Copy)]
 pub enum Weight {
     Grams(u64),
     Bad,
 }
 
 // So many grams without their sign, and whether they are below zero; 0 grams are not.
-#[derive(Drop)]
+#[derive(Clone, Copy)]
 pub enum Amount {
     Grams(u64, bool),
     Bad,
 }
 
-#[derive(Drop)]
+#[derive(Clone, Copy)]
 pub enum Unit {
     Of(Form),
     Unknown,

@@ -11,7 +11,7 @@ use syntax::reading::{Edge, clean_end};
 use syntax::repertoire::class;
 
 // How many elements a segment has, and whether anything in it repeats.
-#[derive(Drop)]
+#[derive(Clone, Copy)]
 pub struct Shape {
     pub size: usize,
     pub repeats: bool,
@@ -19,14 +19,14 @@ pub struct Shape {
 
 // Behind an element: where the next one starts, whether the segment ends there instead, and whether the element repeats. Broken: the segment has no
 // end, or an octet outside the repertoire.
-#[derive(Drop)]
+#[derive(Clone, Copy)]
 pub enum Past {
     Behind(usize, bool, bool),
     Broken,
 }
 
 // A segment's end, and its shape; or that it has no end, or an octet outside the repertoire.
-#[derive(Drop)]
+#[derive(Clone, Copy)]
 pub enum Pass {
     Whole(usize, Shape),
     Broken,

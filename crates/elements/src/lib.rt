@@ -8,7 +8,7 @@ ghost use Rattle.std.specs.Prelude.{◌≡◌, [], ◌∷◌};
 ghost use Rattle.elements.specs.Kinds.{tag_kind};
 
 // What a segment is, by its tag.
-#[derive(Drop)]
+#[derive(Clone, Copy)]
 pub enum Kind {
     Unb,
     Unh,

@@ -28,7 +28,7 @@ use syntax::{Refusal, Syntax};
 use walk::sections::Layout;
 
 // Where the 0020 and the 0062 of a USX stand in the octets, and the release there.
-#[derive(Drop)]
+#[derive(Clone, Copy)]
 pub struct Referred {
     pub interchange: Range,
     pub message: Range,
@@ -36,7 +36,7 @@ pub struct Referred {
 }
 
 // What the first USX refers to under which a USY names the header; or that there is none; or why the AUTACK's interchange is refused.
-#[derive(Drop)]
+#[derive(Clone, Copy)]
 pub enum Reference {
     At(Referred),
     Missing,

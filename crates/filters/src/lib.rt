@@ -4,7 +4,7 @@ pub mod pieces;
 pub mod six;
 
 // What reading a text gives: how many octets it stands for, or that it stands for none.
-#[derive(Drop)]
+#[derive(Clone, Copy)]
 pub enum Decoded {
     Length(usize),
     Bad,

@@ -6,7 +6,7 @@ ghost use Rattle.filters.specs.Pieces.{PairAt, FourAt};
 use syntax::content::{Next, next_octet};
 
 // The next two octets of content, and the place after them.
-#[derive(Drop)]
+#[derive(Clone, Copy)]
 pub enum Pair {
     Of(u8, u8, usize),
     Short,
@@ -14,7 +14,7 @@ pub enum Pair {
 }
 
 // The next four, and the place after them.
-#[derive(Drop)]
+#[derive(Clone, Copy)]
 pub enum Four {
     Of(u8, u8, u8, u8, usize),
     Short,

@@ -11,7 +11,7 @@ use syntax::{Breach, Syntax};
 use walk::sections::{Layout, Reached, next_section, unread};
 
 // The message's layout; or that no message has that 0062; or why the interchange is refused.
-#[derive(Drop)]
+#[derive(Clone, Copy)]
 pub enum Found {
     Message(Layout),
     Missing,

@@ -9,7 +9,7 @@ use writing::{put, store};
 
 // `Old`: "message count as 4 octets, then per message 20". `Small`: the smaller register, which "begins with the octet 2". `Signed`: that "with signed
 // grams", which "begins with the octet 3".
-#[derive(Drop)]
+#[derive(Clone, Copy)]
 pub enum Form {
     Old,
     Small,
@@ -17,7 +17,7 @@ pub enum Form {
 }
 
 // A message: the place of its UNH, its length to the end of UNT, its loads, their grams without their sign, and whether they are below zero.
-#[derive(Drop)]
+#[derive(Clone, Copy)]
 pub struct Entry {
     pub place: u64,
     pub length: u64,

@@ -3,7 +3,7 @@ ghost use Rattle.std.specs.Prelude.{◌≡◌};
 ghost use Rattle.grammar.specs.Rules.{is_autack, is_gs1};
 
 // The subset of AUTACK that a message is written by, F01 or that of GS1; None: it is no AUTACK.
-#[derive(Drop)]
+#[derive(Clone, Copy)]
 pub enum Subset {
     None,
     F01,

@@ -13,14 +13,14 @@ use syntax::{Refusal, Syntax};
 use walk::sections::Layout;
 
 // The interchange's syntax, and the layout of the message.
-#[derive(Drop)]
+#[derive(Clone, Copy)]
 pub struct Opened {
     pub syntax: Syntax,
     pub layout: Layout,
 }
 
 // The message; or that the interchange has none of that 0062; or why the interchange is refused.
-#[derive(Drop)]
+#[derive(Clone, Copy)]
 pub enum Named {
     Message(Opened),
     Missing,

@@ -15,13 +15,13 @@ use syntax::reading::component_part;
 use syntax::{Found, Syntax};
 
 // Where the USX and the USY of a link stand.
-#[derive(Drop)]
+#[derive(Clone, Copy)]
 pub struct Places {
     pub usx: usize,
     pub usy: usize,
 }
 
-#[derive(Drop)]
+#[derive(Clone, Copy)]
 pub enum Linked {
     At(Places),
     Nowhere,

@@ -11,7 +11,7 @@ use walk::sections::Layout;
 
 // Groups that stand one behind the other: the rows of their starts, from `first` on, `count` of them; where the last one ends; and the
 // element of their first segments that has their reference.
-#[derive(Drop)]
+#[derive(Clone, Copy)]
 pub struct Groups {
     pub first: usize,
     pub count: usize,
@@ -19,13 +19,13 @@ pub struct Groups {
     pub element: usize,
 }
 
-#[derive(Drop)]
+#[derive(Clone, Copy)]
 pub struct Range {
     pub start: usize,
     pub end: usize,
 }
 
-#[derive(Drop)]
+#[derive(Clone, Copy)]
 pub enum Sought {
     At(Range),
     Nowhere,

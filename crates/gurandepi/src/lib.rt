@@ -36,7 +36,7 @@ use sealing::seal::{seal, seal_octets};
 use values::value;
 
 #[repr(C)]
-#[derive(Drop)]
+#[derive(Clone, Copy)]
 pub struct Answer {
     pub number: u64,
     pub place: u64,
@@ -44,7 +44,7 @@ pub struct Answer {
 }
 
 #[repr(C)]
-#[derive(Drop)]
+#[derive(Clone, Copy)]
 pub struct Loads {
     pub number: u64,
     pub place: u64,
@@ -54,7 +54,7 @@ pub struct Loads {
 }
 
 #[repr(C)]
-#[derive(Drop)]
+#[derive(Clone, Copy)]
 pub struct Parts {
     pub number: u64,
     pub place: u64,
@@ -66,7 +66,7 @@ pub struct Parts {
 }
 
 #[repr(C)]
-#[derive(Drop)]
+#[derive(Clone, Copy)]
 pub struct Range {
     pub number: u64,
     pub place: u64,
@@ -77,7 +77,7 @@ pub struct Range {
 
 // How many octets stand at the front of the lent buffer.
 #[repr(C)]
-#[derive(Drop)]
+#[derive(Clone, Copy)]
 pub struct Written {
     pub number: u64,
     pub place: u64,
@@ -87,7 +87,7 @@ pub struct Written {
 
 // The old sum that is left: in whole kilograms, as its 32 bits and in single precision; how many loads were added, and their exact kilograms.
 #[repr(C)]
-#[derive(Drop)]
+#[derive(Clone, Copy)]
 pub struct OldSum {
     pub number: u64,
     pub place: u64,
@@ -410,7 +410,7 @@ pub extern "C" fn gurandepi_register_small_to_old(stored: &[u8], out: &mut [u8])
 
 // A message under way, for its digest.
 #[repr(C)]
-#[derive(Drop)]
+#[derive(Clone, Copy)]
 pub struct Sha1 {
     pub a: u32,
     pub b: u32,
@@ -423,7 +423,7 @@ pub struct Sha1 {
 
 // A state that was fed; or 15, and the state as it was.
 #[repr(C)]
-#[derive(Drop)]
+#[derive(Clone, Copy)]
 pub struct Fed {
     pub number: u64,
     pub place: u64,
@@ -433,7 +433,7 @@ pub struct Fed {
 
 // The twenty octets of a digest.
 #[repr(C)]
-#[derive(Drop)]
+#[derive(Clone, Copy)]
 pub struct Digest {
     pub number: u64,
     pub place: u64,

@@ -15,7 +15,7 @@ use syntax::repertoire::{OUTSIDE, classes};
 use syntax::{Refusal, Syntax};
 use walk::sections::{Reached, next_section, unread};
 
-#[derive(Drop)]
+#[derive(Clone, Copy)]
 pub enum Verdict {
     Accepted,
     Refused(Refusal),

@@ -10,14 +10,14 @@ use syntax::Refusal;
 use syntax::opening::Begun;
 use syntax::repertoire::table;
 
-#[derive(Drop)]
+#[derive(Clone, Copy)]
 pub struct Loads {
     pub loads: usize,
     pub grams: u64,
     pub below: bool,
 }
 
-#[derive(Drop)]
+#[derive(Clone, Copy)]
 pub enum Totals {
     Of(Loads),
     Refused(Refusal),

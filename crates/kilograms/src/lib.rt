@@ -8,7 +8,7 @@ ghost use Rattle.kilograms.specs.SingleLaws.{Whole};
 ghost use Rattle.kilograms.specs.Running.{running_as, load_as, Held, Runs, Weighs, Kilos};
 
 // The old sum after some loads; how many they were, and their exact kilograms.
-#[derive(Drop)]
+#[derive(Clone, Copy)]
 pub struct Tally {
     pub sum: f32,
     pub loads: u64,
@@ -16,14 +16,14 @@ pub struct Tally {
 }
 
 // The same, or the number of a refusal.
-#[derive(Drop)]
+#[derive(Clone, Copy)]
 pub enum Running {
     Of(Tally),
     Refused(u8),
 }
 
 // A load: whole kilograms from 0 to 100,000; or any other.
-#[derive(Drop)]
+#[derive(Clone, Copy)]
 pub enum Load {
     Kilograms(u32),
     Other,

@@ -8,7 +8,7 @@ pub mod steps;
 use grammar::Subset;
 
 // The group of a message that is now open.
-#[derive(Drop)]
+#[derive(Clone, Copy)]
 pub enum Group {
     // UNH, nothing behind it
     Opened,
@@ -25,7 +25,7 @@ pub enum Group {
 
 // A message's loads so far: how many, the grams of those loaded and of those tipped back; of its control totals whether there is one, the grams of the
 // first and whether they are below zero, and whether the others equal it.
-#[derive(Drop)]
+#[derive(Clone, Copy)]
 pub struct Sums {
     pub grams: u64,
     pub back: u64,
@@ -37,7 +37,7 @@ pub struct Sums {
 }
 
 // A message's trailers so far: whether all but the last count right; of the last what it claims, the segments of its header, and its own.
-#[derive(Drop)]
+#[derive(Clone, Copy)]
 pub struct Pair {
     pub claim: u32,
     pub base: u32,
@@ -46,7 +46,7 @@ pub struct Pair {
 }
 
 // A message as far as it was read. Large fields first, so that little padding is copied with every segment.
-#[derive(Drop)]
+#[derive(Clone, Copy)]
 pub struct Message {
     pub sums: Sums,
     pub pair: Pair,

@@ -19,7 +19,7 @@ use syntax::Syntax;
 use syntax::content::{Number, content_is, digits_value};
 
 // The message after a segment, or the number of its breach.
-#[derive(Drop)]
+#[derive(Clone, Copy)]
 pub enum Moved {
     To(Message),
     Bad(u8),

@@ -8,7 +8,7 @@ use forms::{Entry, Form};
 use seven::{Number, wide};
 
 // What reading an entry finds: the entry and the place after it; or that none stands there.
-#[derive(Drop)]
+#[derive(Clone, Copy)]
 pub enum Taken {
     One(Entry, usize),
     Bad,

@@ -14,7 +14,7 @@ use returns::sums::{Left, OldSum, old_sum};
 use syntax::content::{content_is, part};
 
 // The year so far. Its last file may be refused.
-#[derive(Drop)]
+#[derive(Clone, Copy)]
 struct Year {
     files: u64,
     single: f32,

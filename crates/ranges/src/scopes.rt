@@ -14,19 +14,19 @@ use syntax::{Refusal, Syntax};
 use walk::sections::Layout;
 
 // Of scope 1: where the header group and the body start and end.
-#[derive(Drop)]
+#[derive(Clone, Copy)]
 pub struct Parts {
     pub header: Range,
     pub body: Range,
 }
 
-#[derive(Drop)]
+#[derive(Clone, Copy)]
 pub enum Scope1 {
     Of(Parts),
     Refused(Refusal),
 }
 
-#[derive(Drop)]
+#[derive(Clone, Copy)]
 pub enum Run {
     Of(Range),
     Refused(Refusal),

@@ -7,7 +7,7 @@ use syntax::Found;
 use syntax::content::{Next, next_octet, wide};
 
 // Up to seven octets of content as a number, the place after them, and whether no more was met.
-#[derive(Drop)]
+#[derive(Clone, Copy)]
 struct Word {
     value: u64,
     next: usize,
@@ -15,7 +15,7 @@ struct Word {
 }
 
 // A reference as two numbers: its first seven octets and the others.
-#[derive(Drop)]
+#[derive(Clone, Copy)]
 struct Name {
     head: u64,
     tail: u64,

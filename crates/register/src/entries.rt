@@ -6,7 +6,7 @@ use forms::{Entry, Form, or_below, put_entry};
 use walk::sections::Layout;
 
 // How far entries are laid: those of so many messages, the place after them, and whether one of their totals is below zero.
-#[derive(Drop)]
+#[derive(Clone, Copy)]
 pub struct Extent {
     pub count: usize,
     pub end: usize,

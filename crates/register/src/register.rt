@@ -19,14 +19,14 @@ use syntax::{Refusal, Syntax};
 use walk::sections::{Reached, next_section, unread};
 use writing::{Written, refused, too_long};
 
-#[derive(Drop)]
+#[derive(Clone, Copy)]
 pub enum Checked {
     Same,
     Refused(Refusal),
 }
 
 // How far the entries of an interchange reach, or its register; or why it is refused.
-#[derive(Drop)]
+#[derive(Clone, Copy)]
 pub enum Entries {
     Of(Extent),
     Refused(Refusal),

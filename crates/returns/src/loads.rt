@@ -17,7 +17,7 @@ use syntax::reading::{component_part, count_components, count_elements};
 use syntax::{Found, Syntax};
 
 // What a segment is: a load, or none.
-#[derive(Drop)]
+#[derive(Clone, Copy)]
 pub enum Read {
     Load(Load),
     Nothing,

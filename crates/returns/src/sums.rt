@@ -18,7 +18,7 @@ use syntax::opening::Begun;
 use syntax::repertoire::table;
 
 // The sum that is left, in whole kilograms, the same in single precision and as its 32 bits; how many loads were added, and their exact kilograms.
-#[derive(Drop)]
+#[derive(Clone, Copy)]
 pub struct Left {
     pub sum: u64,
     pub single: f32,
@@ -27,7 +27,7 @@ pub struct Left {
     pub kilograms: u64,
 }
 
-#[derive(Drop)]
+#[derive(Clone, Copy)]
 pub enum OldSum {
     Of(Left),
     Refused(Refusal),

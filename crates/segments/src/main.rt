@@ -16,7 +16,7 @@ use syntax::repertoire::table;
 use syntax::{Breach, Service, Syntax};
 
 // Where a piece stands in its segment, each counted from 1.
-#[derive(Drop)]
+#[derive(Clone, Copy)]
 struct Place {
     element: u64,
     repetition: u64,
@@ -24,7 +24,7 @@ struct Place {
 }
 
 // A segment's end, or why it is refused.
-#[derive(Drop)]
+#[derive(Clone, Copy)]
 enum Checked {
     Good(usize),
     Refused(Breach),

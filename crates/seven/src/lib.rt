@@ -35,7 +35,7 @@ pub fn write(out: &mut [u8], at: usize, n: u64) -> usize
 }
 
 // What reading a number finds: the number and the place after it; or groups that are cut, overlong or stand for more than the most.
-#[derive(Drop)]
+#[derive(Clone, Copy)]
 pub enum Number {
     Value(u64, usize),
     Bad,

@@ -10,7 +10,7 @@ ghost use Rattle.sha.specs.Feeding.{poured, left, kept, started, fed_of, finishe
 use crate::block::compress;
 
 // A hash value of five words, and the five working variables of a round.
-#[derive(Drop)]
+#[derive(Clone, Copy)]
 pub struct Chain {
     pub a: u32,
     pub b: u32,
@@ -20,7 +20,7 @@ pub struct Chain {
 }
 
 // A message under way: the hash value after its whole blocks, the octets since, and how many octets there were in all.
-#[derive(Drop)]
+#[derive(Clone, Copy)]
 pub struct Sha {
     pub chain: Chain,
     pub buffer: [u8; 64],
@@ -28,7 +28,7 @@ pub struct Sha {
 }
 
 // What feeding gives: the state with the part; or, where there would be more than 2^32 - 1 octets in all, the state as it was.
-#[derive(Drop)]
+#[derive(Clone, Copy)]
 pub struct Fed {
     pub taken: bool,
     pub state: Sha,

@@ -9,14 +9,14 @@ use syntax::{Breach, Syntax};
 use walk::sections::{Layout, Reached, next_section, unread};
 
 // From the UNH of the first message to behind the UNT of the last.
-#[derive(Drop)]
+#[derive(Clone, Copy)]
 pub struct Run {
     pub start: usize,
     pub end: usize,
 }
 
 // The run; or that there is none: no message but AUTACKs, or an AUTACK inside; or why the interchange is refused.
-#[derive(Drop)]
+#[derive(Clone, Copy)]
 pub enum Spanned {
     Run(Run),
     Missing,
@@ -24,7 +24,7 @@ pub enum Spanned {
 }
 
 // After some messages: all were AUTACKs; the last one is in the run; AUTACKs lie behind the run; an AUTACK lies inside it, which no later message mends.
-#[derive(Drop)]
+#[derive(Clone, Copy)]
 enum Sofar {
     Before,
     Inside(Run),

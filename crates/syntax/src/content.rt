@@ -6,14 +6,14 @@ ghost use Rattle.syntax.specs.Content.{blank, compared, content, all_digits};
 ghost use Rattle.syntax.specs.Scanning.{next_of, number_in};
 
 // The next octet of content, and the place after it.
-#[derive(Drop)]
+#[derive(Clone, Copy)]
 pub enum Next {
     Octet(u8, usize),
     Over,
 }
 
 // The number that 1 to 15 digits give.
-#[derive(Drop)]
+#[derive(Clone, Copy)]
 pub enum Number {
     Is(u64),
     Not,

@@ -11,14 +11,14 @@ use crate::repertoire::{OUTSIDE, RELEASE, TERMINATOR, class, wide};
 use crate::{Found, Service, Syntax};
 
 // A segment's end; its end and its first octet outside the repertoire; no end.
-#[derive(Drop)]
+#[derive(Clone, Copy)]
 pub enum Cut {
     Ends(usize),
     Spoilt(usize, usize),
     Open,
 }
 
-#[derive(Drop)]
+#[derive(Clone, Copy)]
 pub enum Tag {
     Is(u8, u8, u8),
     Bad,

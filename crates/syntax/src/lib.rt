@@ -7,14 +7,14 @@ pub mod reading;
 pub mod repertoire;
 
 // What is wrong with an interchange, as document 01 numbers it, with its place: what reading tells, from below.
-#[derive(Drop)]
+#[derive(Clone, Copy)]
 pub struct Breach {
     pub number: u8,
     pub place: usize,
 }
 
 // What a call gives back: a breach, or one of the numbers that the calls add. `segment` is the ordinal of the segment at the place, 0 where there is none.
-#[derive(Drop)]
+#[derive(Clone, Copy)]
 pub struct Refusal {
     pub number: u8,
     pub place: usize,
@@ -22,7 +22,7 @@ pub struct Refusal {
 }
 
 // The service characters. A release or a repetition that is a space, 32, is not in force.
-#[derive(Drop)]
+#[derive(Clone, Copy)]
 pub struct Service {
     pub component: u8,
     pub element: u8,
@@ -32,7 +32,7 @@ pub struct Service {
 }
 
 // The syntax versions: 2 is the earlier edition.
-#[derive(Drop)]
+#[derive(Clone, Copy)]
 pub enum Version {
     Two,
     Three,
@@ -40,7 +40,7 @@ pub enum Version {
 }
 
 // The repertoires UNOA, UNOB, UNOC and UNOD.
-#[derive(Drop)]
+#[derive(Clone, Copy)]
 pub enum Level {
     A,
     B,
@@ -49,14 +49,14 @@ pub enum Level {
 }
 
 // What UNB's first element and UNA settle for the whole interchange.
-#[derive(Drop)]
+#[derive(Clone, Copy)]
 pub struct Syntax {
     pub version: Version,
     pub level: Level,
     pub service: Service,
 }
 
-#[derive(Drop)]
+#[derive(Clone, Copy)]
 pub enum Found {
     At(usize),
     Nothing,

@@ -5,39 +5,39 @@ ghost use Rattle.syntax.specs.Opening.{earlier};
 use crate::{Breach, Level, Service, Syntax, Version};
 
 // What is known before UNB. Without UNA the repetition is the one of version 4.
-#[derive(Drop)]
+#[derive(Clone, Copy)]
 pub struct Opening {
     pub service: Service,
     pub una: bool,
     pub at: usize,
 }
 
-#[derive(Drop)]
+#[derive(Clone, Copy)]
 pub enum Opened {
     Known(Opening),
     Refused(Breach),
 }
 
-#[derive(Drop)]
+#[derive(Clone, Copy)]
 pub enum LevelName {
     Is(Level),
     Unknown,
 }
 
-#[derive(Drop)]
+#[derive(Clone, Copy)]
 pub enum VersionName {
     Is(Version),
     Unknown,
 }
 
 // The syntax of the interchange, and the place of UNB.
-#[derive(Drop)]
+#[derive(Clone, Copy)]
 pub struct Start {
     pub syntax: Syntax,
     pub at: usize,
 }
 
-#[derive(Drop)]
+#[derive(Clone, Copy)]
 pub enum Begun {
     Ready(Start),
     Refused(Breach),

@@ -11,13 +11,13 @@ use crate::repertoire::{OUTSIDE, TERMINATOR, class};
 use crate::{Found, Syntax};
 
 // Where a piece ends, and what ends it: 2 a component, 3 a repeat, 4 an element, 5 the segment.
-#[derive(Drop)]
+#[derive(Clone, Copy)]
 pub enum Edge {
     On(usize, u8),
     Off,
 }
 
-#[derive(Drop)]
+#[derive(Clone, Copy)]
 pub enum Span {
     Part(usize, usize),
     Absent,

@@ -35,7 +35,7 @@ use syntax::reading::component_part;
 use syntax::{Breach, Found, Syntax, Version};
 
 // Where the interchange stands: before UNB, between messages, in one, behind UNZ.
-#[derive(Drop)]
+#[derive(Clone, Copy)]
 pub enum Phase {
     Start,
     Idle,
@@ -44,7 +44,7 @@ pub enum Phase {
 }
 
 // From `start` up to, not including, `end`.
-#[derive(Drop)]
+#[derive(Clone, Copy)]
 pub struct Stretch {
     pub start: usize,
     pub end: usize,
@@ -52,7 +52,7 @@ pub struct Stretch {
 
 // What was read so far. References are kept by place: UNB's 0020, the open message's 0062, and the slot that it is offered.
 // What is seldom used comes first: a refusal lies in the same octets, and the compiler cuts what comes first in two for its number.
-#[derive(Drop)]
+#[derive(Clone, Copy)]
 pub struct State {
     pub slot: usize,
     pub unb: Stretch,
@@ -62,35 +62,35 @@ pub struct State {
     pub phase: Phase,
 }
 
-#[derive(Drop)]
+#[derive(Clone, Copy)]
 pub enum Step {
     On(State),
     Stop(Breach),
 }
 
 // A segment that can be read: its end and kind; or 4, or 3.
-#[derive(Drop)]
+#[derive(Clone, Copy)]
 pub enum Looked {
     Seen(usize, Kind),
     Bad(Breach),
 }
 
 // .. and if it is looked into, its shape; its fields are then in the marks.
-#[derive(Drop)]
+#[derive(Clone, Copy)]
 pub struct Sight {
     pub looked: Looked,
     pub shape: Shape,
 }
 
 // After a segment: the state, the place of the next one, and what the segment was.
-#[derive(Drop)]
+#[derive(Clone, Copy)]
 pub struct Ahead {
     pub state: State,
     pub next: usize,
     pub kind: Kind,
 }
 
-#[derive(Drop)]
+#[derive(Clone, Copy)]
 pub enum Advanced {
     On(Ahead),
     Stop(Breach),

@@ -6,7 +6,7 @@ ghost use Rattle.walk.specs.Layout.{spot_step, row_step, RowRoom};
 use message::{Group, Message};
 
 // Its UNH, its first header group, its body, its first trailer group, each behind what comes before it; and how many trailers it has.
-#[derive(Drop)]
+#[derive(Clone, Copy)]
 pub struct Spots {
     pub unh: usize,
     pub heads: usize,

@@ -22,7 +22,7 @@ use turns::state::{Advanced, Ahead, Phase, State, Stretch};
 
 // Where the parts of a message stand: its UNH, its header groups, its body, its trailer groups, its UNT, and what comes behind it; how many headers and
 // trailers it has; whether it is an AUTACK; its loads and their grams, and whether they are below zero; its 0062.
-#[derive(Drop)]
+#[derive(Clone, Copy)]
 pub struct Layout {
     pub unh: usize,
     pub heads: usize,
@@ -40,7 +40,7 @@ pub struct Layout {
 }
 
 // After a section: the state, the place of what comes next, whether a message was closed, and then its layout.
-#[derive(Drop)]
+#[derive(Clone, Copy)]
 pub struct Section {
     pub state: State,
     pub layout: Layout,
@@ -49,7 +49,7 @@ pub struct Section {
 }
 
 // Over: UNZ was read, and nothing stands behind it.
-#[derive(Drop)]
+#[derive(Clone, Copy)]
 pub enum Reached {
     On(Section),
     Over,

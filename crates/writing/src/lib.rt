@@ -8,7 +8,7 @@ ghost use Rattle.writing.specs.Written.{refused_as, too_long};
 use syntax::Refusal;
 
 // What a call that writes a text answers: how long the text is, or why there is none.
-#[derive(Drop)]
+#[derive(Clone, Copy)]
 pub enum Written {
     Length(usize),
     Refused(Refusal),

@@ -1,0 +1,5 @@
+use Rattle.grammar.specs.VerdictLaws.{accepted-exactly}
+use Rattle.demands.proofs.accepted_exactly.Goals as goal
+
+pub returns : goal.returns
+returns c = accepted-exactly

@@ -1,0 +1,5 @@
+use Rattle.demands.specs.ReadLaws.{f01-same}
+use Rattle.demands.proofs.f01_reads_alike.Goals as goal
+
+pub returns : goal.returns
+returns c = f01-same

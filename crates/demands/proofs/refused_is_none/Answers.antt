@@ -1,0 +1,5 @@
+use Rattle.grammar.specs.VerdictLaws.{refused_none}
+use Rattle.demands.proofs.refused_is_none.Goals as goal
+
+pub returns : goal.returns
+returns c = refused_none

@@ -1,0 +1,5 @@
+use Rattle.demands.specs.ReadLaws.{scope1-read}
+use Rattle.demands.proofs.scope1_is_read.Goals as goal
+
+pub returns : goal.returns
+returns c = scope1-read

@@ -1,0 +1,5 @@
+use Rattle.demands.specs.ReadLaws.{scope2-same}
+use Rattle.demands.proofs.scope2_reads_alike.Goals as goal
+
+pub returns : goal.returns
+returns c = scope2-same

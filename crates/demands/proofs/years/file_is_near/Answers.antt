@@ -1,0 +1,5 @@
+use Rattle.returns.specs.YearsLaws.{file-leaves}
+use Rattle.demands.proofs.years.file_is_near.Goals as goal
+
+pub returns : goal.returns
+returns c = file-leaves

@@ -1,0 +1,17 @@
+use lib.ListN.{length}
+use Rattle.syntax.specs.Octets.{octets}
+use Rattle.scope3.specs.Scope3.{whole_in, scope3_of}
+use Rattle.ranges.specs.RangesLaws.{run_inside}
+use Rattle.digest.specs.Digests.{named_in, digest3_of}
+use Rattle.digest.specs.DigestsLaws.{across-short, digest-promised, digest-run-given, digest-run-refused}
+use borrow.Author.Rules.{rules}
+use Rattle.digest.proofs.digest_scope3.Goals as goal
+
+pub run_digest-requires : goal.run_digest-requires
+run_digest-requires c = (run_inside (length c.args.referenced.now) c.in-Of.is c.scope3_places.ensures.1.1, across-short (octets "3") whole_in c.args.autack.now c.args.referenced.now c.args.message.now c.args.header.now c.scope3_places.ensures.0 c.in-Of.is)
+
+pub returns-in-Of : goal.returns-in-Of
+returns-in-Of c = digest-promised (digest3_of c.args.autack.now c.args.referenced.now c.args.message.now c.args.header.now) (digest-run-given c.args.referenced.now (named_in c.args.autack.now c.args.message.now c.args.header.now) (scope3_of c.args.autack.now c.args.referenced.now c.args.message.now c.args.header.now) c.scope3_places.ensures.0 c.in-Of.is c.names_sha.ensures c.run_digest.ensures)
+
+pub returns-in-Refused : goal.returns-in-Refused
+returns-in-Refused c = digest-promised (digest3_of c.args.autack.now c.args.referenced.now c.args.message.now c.args.header.now) (digest-run-refused c.args.referenced.now (named_in c.args.autack.now c.args.message.now c.args.header.now) (scope3_of c.args.autack.now c.args.referenced.now c.args.message.now c.args.header.now) c.scope3_places.ensures.0 c.in-Refused.is c.refused_with.ensures)

@@ -1,0 +1,17 @@
+use native.Mathlib.Omega.{arith}
+use mathlib.Core.Path.{ap, ◌∙◌}
+use mathlib.Core.List.{◌++◌}
+use lib.ListN.{length}
+use lib.Seq.{slice, length-slice}
+use Rattle.digest.specs.DigestsLaws.{digest-parts, digest-unnamed}
+use borrow.Author.Rules.{rules}
+use Rattle.digest.proofs.parts_digest.Goals as goal
+
+pub digest_two-d-requires : goal.digest_two-d-requires
+digest_two-d-requires c = let x = ap length c.own_part.ensures.0 ∙ length-slice c.args.p.header.start c.args.p.header.end c.args.s.now c.pre.0.1 in let y = ap length c.own_part-then-named.ensures.0 ∙ length-slice c.args.p.body.start c.args.p.body.end c.args.s.now c.pre.0.3 in omega (arith, x, y, c.pre.0.1, c.pre.0.3, c.pre.1)
+
+pub returns-then-named : goal.returns-then-named
+returns-then-named c = digest-parts c.at_zero.ensures c.args.s.now c.args.p c.if-named.taken c.own_part.ensures.0 c.own_part-then-named.ensures.0 c.digest_two-d.ensures
+
+pub returns : goal.returns
+returns c = digest-unnamed (slice c.args.p.header.start c.args.p.header.end c.args.s.now ++ slice c.args.p.body.start c.args.p.body.end c.args.s.now) c.if-named.left c.at_zero-2.ensures c.refused_with.ensures

@@ -1,0 +1,9 @@
+use Rattle.elements.specs.AmountsLaws.{amount-first, weight-absent}
+use borrow.Author.Rules.{rules}
+use Rattle.elements.proofs.amounts.amount_in.Goals as goal
+
+pub reversed_in-requires : goal.reversed_in-requires
+reversed_in-requires c = search (weight-absent, rules)
+
+pub returns-in-Grams : goal.returns-in-Grams
+returns-in-Grams c = search (amount-first, rules)

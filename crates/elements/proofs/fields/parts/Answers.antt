@@ -1,0 +1,6 @@
+use Rattle.elements.specs.FieldsLaws.{marked-parts}
+use borrow.Author.Rules.{rules}
+use Rattle.elements.proofs.fields.parts.Goals as goal
+
+pub returns : goal.returns
+returns c = marked-parts c.requires.0 c.requires.1.0 c.requires.1.1

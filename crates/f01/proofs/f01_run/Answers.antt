@@ -1,0 +1,17 @@
+use native.Mathlib.Omega.{arith}
+use mathlib.Core.Path.{refl, sym, ap, ◌∙◌}
+use borrow.Author.Rules.{rules}
+use lib.ListN.{length}
+use Rattle.f01.specs.F01.{f01_of}
+use Rattle.ranges.specs.Told.{told_run, run_part}
+use Rattle.ranges.specs.RangesLaws.{run_inside, run-part, part-octets, part_placed}
+use Rattle.f01.proofs.f01_run.Goals as goal
+
+pub own_part-requires : goal.own_part-requires
+own_part-requires c = run_inside (length c.args.referenced.now) c.in-Of.is c.f01_places.ensures.1.1
+
+pub returns-in-Of : goal.returns-in-Of
+returns-in-Of c = (part-octets c.args.referenced.now (run_part (f01_of c.args.autack.now c.args.referenced.now c.args.message.now c.args.header.now)) (run-part (f01_of c.args.autack.now c.args.referenced.now c.args.message.now c.args.header.now) (ap told_run (sym c.in-Of.is) ∙ c.f01_places.ensures.1.0)) c.own_part.ensures.0, part_placed c.args.referenced.now (run_part (f01_of c.args.autack.now c.args.referenced.now c.args.message.now c.args.header.now)) (run-part (f01_of c.args.autack.now c.args.referenced.now c.args.message.now c.args.header.now) (ap told_run (sym c.in-Of.is) ∙ c.f01_places.ensures.1.0)) c.args.referenced.ref_ptr.1 c.own_part.ensures.1)
+
+pub returns-in-Refused : goal.returns-in-Refused
+returns-in-Refused c = (part-octets c.args.referenced.now (run_part (f01_of c.args.autack.now c.args.referenced.now c.args.message.now c.args.header.now)) (run-part (f01_of c.args.autack.now c.args.referenced.now c.args.message.now c.args.header.now) (ap told_run (sym c.in-Refused.is) ∙ c.f01_places.ensures.1.0)) c.own_part-in-Refused.ensures.0, part_placed c.args.referenced.now (run_part (f01_of c.args.autack.now c.args.referenced.now c.args.message.now c.args.header.now)) (run-part (f01_of c.args.autack.now c.args.referenced.now c.args.message.now c.args.header.now) (ap told_run (sym c.in-Refused.is) ∙ c.f01_places.ensures.1.0)) c.args.referenced.ref_ptr.1 c.own_part-in-Refused.ensures.1)

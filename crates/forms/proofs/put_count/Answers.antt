@@ -1,0 +1,7 @@
+use native.Mathlib.Omega.{arith}
+use Rattle.writing.specs.LaidLaws.{laid_more}
+use borrow.Author.Rules.{rules}
+use Rattle.forms.proofs.put_count.Goals as goal
+
+pub returns : goal.returns
+returns c = (laid_more c.put_mark-a.ensures.0 c.put_narrow.ensures.0, omega (arith, c.put_mark-a.ensures.1, c.put_narrow.ensures.1))

@@ -1,0 +1,10 @@
+use Prim.Native.Nat.{◌-◌}
+use native.Mathlib.Omega.{arith}
+use mathlib.Core.Path.{refl, sym, ap, ◌∙◌}
+use borrow.Author.Rules.{rules}
+use lib.ListN.{length}
+use Rattle.forms.specs.FormsLaws.{eight-laid}
+use Rattle.forms.proofs.put_eight.Goals as goal
+
+pub returns : goal.returns
+returns c = eight-laid c.args.n c.octet.ensures c.octet-2.ensures c.octet-3.ensures c.octet-4.ensures c.octet-5.ensures c.octet-6.ensures c.octet-7.ensures c.octet-8.ensures c.put.ensures

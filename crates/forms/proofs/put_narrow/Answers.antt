@@ -1,0 +1,13 @@
+use native.Mathlib.Omega.{arith}
+use Rattle.forms.specs.FormsLaws.{laid-old, laid-small, laid-signed}
+use borrow.Author.Rules.{rules}
+use Rattle.forms.proofs.put_narrow.Goals as goal
+
+pub returns-in-Old : goal.returns-in-Old
+returns-in-Old c = laid-old _ 4 _ c.in-Old.is (omega arith) c.put_four.ensures
+
+pub returns-in-Small : goal.returns-in-Small
+returns-in-Small c = laid-small _ 4 _ c.in-Small.is c.write.ensures
+
+pub returns-in-Signed : goal.returns-in-Signed
+returns-in-Signed c = laid-signed _ 4 _ c.in-Signed.is c.write-in-Signed.ensures

@@ -1,0 +1,6 @@
+use mathlib.Core.Path.{◌∙◌}
+use borrow.Author.Rules.{rules}
+use Rattle.gurandepi.proofs.gurandepi_judge.Goals as goal
+
+pub returns : goal.returns
+returns c = c.verdict_answer.ensures ∙ c.judge.ensures.1

@@ -1,0 +1,8 @@
+use mathlib.Core.Path.{◌∙◌}
+use Rattle.returns.specs.Returns.{message_old_sum_of}
+use Rattle.returns.specs.ReturnsLaws.{single-told}
+use borrow.Author.Rules.{rules}
+use Rattle.gurandepi.proofs.gurandepi_message_old_sum.Goals as goal
+
+pub returns : goal.returns
+returns c = (c.old_sum_answer.ensures.0 ∙ c.message_old_sum.ensures.1, c.old_sum_answer.ensures.1 ∙ single-told (message_old_sum_of c.args.interchange.now c.args.message.now c.args) c.message_old_sum.ensures.0)

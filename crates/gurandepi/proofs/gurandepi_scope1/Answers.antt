@@ -1,0 +1,6 @@
+use mathlib.Core.Path.{◌∙◌}
+use borrow.Author.Rules.{rules}
+use Rattle.gurandepi.proofs.gurandepi_scope1.Goals as goal
+
+pub returns : goal.returns
+returns c = c.parts_answer.ensures ∙ c.scope1_places.ensures.1.0

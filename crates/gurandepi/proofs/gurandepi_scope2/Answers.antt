@@ -1,0 +1,6 @@
+use mathlib.Core.Path.{◌∙◌}
+use borrow.Author.Rules.{rules}
+use Rattle.gurandepi.proofs.gurandepi_scope2.Goals as goal
+
+pub returns : goal.returns
+returns c = c.run_answer.ensures ∙ c.scope2_places.ensures.1.0

@@ -1,0 +1,8 @@
+use native.Mathlib.Omega.{arith}
+use mathlib.Core.Path.{refl}
+use Rattle.walk.specs.RunLaws.{fresh-tables}
+use borrow.Author.Rules.{rules}
+use Rattle.judge.proofs.run.run_tiny.Goals as goal
+
+pub run-requires : goal.run-requires
+run-requires c = let l = c.requires.1.1 in (c.requires.0, fresh-tables 64 95 (omega arith) refl refl c.requires.1.0 (omega (arith, l)) (omega (arith, l)))

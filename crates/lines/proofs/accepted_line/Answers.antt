@@ -1,0 +1,11 @@
+use Rattle.groups.specs.Groups.{name_at}
+use Rattle.lines.specs.Words.{feed}
+use Rattle.syntax.specs.Octets.{octets}
+use mathlib.Core.List.{[], ◌∷◌}
+use native.Mathlib.Omega.{arith}
+use Rattle.writing.specs.LaidLaws.{weaving-start, weaving-put, weaving-end}
+use borrow.Author.Rules.{rules}
+use Rattle.lines.proofs.accepted_line.Goals as goal
+
+pub returns : goal.returns
+returns c = (weaving-end (weaving-put (weaving-put (weaving-put (weaving-start c.args.out.now 0 (octets "accepted " ∷ name_at c.args.y.service c.args.s.now c.args.from 5 ∷ feed ∷ [])) c.put-a.ensures) c.put_name-b.ensures.0) c.put.ensures), omega (arith, c.put-a.ensures.place, c.put_name-b.ensures.1, c.put.ensures.place))

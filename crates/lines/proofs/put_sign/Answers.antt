@@ -1,0 +1,12 @@
+use mathlib.Core.Path.{sym, ap}
+use native.Mathlib.Omega.{arith}
+use Rattle.writing.specs.LaidLaws.{laid_same, laid_none}
+use Rattle.lines.specs.Words.{sign_words}
+use borrow.Author.Rules.{rules}
+use Rattle.lines.proofs.put_sign.Goals as goal
+
+pub returns-then-below : goal.returns-then-below
+returns-then-below c = (laid_same (ap sign_words (sym c.if-below.true)) c.put.ensures, omega (arith, c.put.ensures.place))
+
+pub returns : goal.returns
+returns c = (laid_same (ap sign_words (sym c.if-below.false)) laid_none, omega arith)

@@ -1,0 +1,14 @@
+use Rattle.lines.specs.Seals.{one_at, two_at}
+use Rattle.lines.specs.Words.{feed, seal_words, covered_words}
+use Rattle.groups.specs.Groups.{name_at}
+use mathlib.Core.List.{[], ◌∷◌}
+use native.Mathlib.Omega.{arith}
+use Rattle.writing.specs.LaidLaws.{weaving-start, weaving-put, weaving-end}
+use borrow.Author.Rules.{rules}
+use Rattle.lines.proofs.seals.seal_line.Goals as goal
+
+pub put_covered-b-requires : goal.put_covered-b-requires
+put_covered-b-requires c = (c.requires.0, (c.requires.1.0, (c.requires.1.1.0, omega (arith, c.put_seal-a.ensures.1, c.requires.1.1.2))))
+
+pub returns : goal.returns
+returns c = (weaving-end (weaving-put (weaving-put (weaving-put (weaving-start c.args.out.now c.args.at (seal_words (name_at c.args.y.service c.args.s.now c.args.start 2) (name_at c.args.y.service c.args.s.now c.args.start 3) ∷ covered_words (name_at c.args.y.service c.args.s.now c.args.start 3) (one_at c.args.c c.args.start c.args.end) (two_at c.args.y.service c.args.s.now c.args.rows.now c.args.c c.args.start) ∷ feed ∷ [])) c.put_seal-a.ensures.0) c.put_covered-b.ensures.0) c.put.ensures), omega (arith, c.put_seal-a.ensures.1, c.put_covered-b.ensures.1, c.put.ensures.place))

@@ -1,0 +1,22 @@
+use native.Mathlib.Omega.{arith}
+use Rattle.lines.specs.WordsLaws.{Contenting, contenting-start, contenting-inside, contenting-on, contenting-end}
+use lib.ListN.{length}
+use mathlib.Core.Path.{◌≡◌, refl}
+use Prim.Native.Nat.{◌-◌}
+use borrow.Author.Rules.{rules}
+use Rattle.lines.proofs.words.put_content.Goals as goal
+
+pub loop-b-init : goal.loop-b-init
+loop-b-init c = (contenting-start, refl)
+
+pub overflow_add-p : goal.overflow_add-p
+overflow_add-p c = let k = contenting-inside c.loop-b.invariant.0 c.next_octet.ensures c.in-Octet.is in omega (arith, k.0, k.1, c.loop-b.invariant.0.near, c.requires)
+
+pub loop-b-smaller : goal.loop-b-smaller
+loop-b-smaller c = let k = contenting-inside c.loop-b.invariant.0 c.next_octet.ensures c.in-Octet.is in omega (arith, k.0, k.1)
+
+pub loop-b-preserved : goal.loop-b-preserved
+loop-b-preserved c = (contenting-on c.loop-b.invariant.0 c.next_octet.ensures c.in-Octet.is c.store.ensures, search rules)
+
+pub returns-in-Over : goal.returns-in-Over
+returns-in-Over c = contenting-end c.loop-b.invariant.0 c.next_octet.ensures c.in-Over.is

@@ -1,0 +1,8 @@
+use native.Mathlib.Omega.{arith}
+use borrow.Author.Rules.{rules}
+use Rattle.message.specs.HeadsLaws.{name-law}
+use borrow.Author.Rules.{rules}
+use Rattle.message.proofs.heads.name_header.Goals as goal
+
+pub returns : goal.returns
+returns c = name-law _ _ _ c.requires.0.0 (omega (arith, c.requires.0, c.requires.1))

@@ -1,0 +1,5 @@
+use Rattle.orders.specs.OrdersLaws.{orders-agree}
+use Rattle.orders.proofs.orders_agree.Goals as goal
+
+pub returns : goal.returns
+returns c = orders-agree

@@ -1,0 +1,5 @@
+use Rattle.orders.specs.OrdersLaws.{twice-agrees}
+use Rattle.orders.proofs.twice_agrees.Goals as goal
+
+pub returns : goal.returns
+returns c = twice-agrees

@@ -1,0 +1,20 @@
+use native.Mathlib.Omega.{arith}
+use mathlib.Core.Path.{refl, sym, ap, ◌∙◌}
+use borrow.Author.Rules.{rules}
+use lib.ListN.{length}
+use Rattle.groups.specs.CallsLaws.{as-here, as-missing, as-refused}
+use Rattle.ranges.specs.Ranges.{scope1_of}
+use Rattle.ranges.specs.RangesLaws.{parts-promised, scope1-here, scope1-inside, scope1-refused, scope1-missing}
+use Rattle.ranges.proofs.scopes.scope1_places.Goals as goal
+
+pub header_of-requires : goal.header_of-requires
+header_of-requires c = let w = as-here c.args.s.now c.args.message.now c.message_named.new.t c.message_named.new.rows.0 c.message_named.ensures c.in-Message.is in (w.0, (w.1.few.0, w.1.few.2))
+
+pub returns-in-Message : goal.returns-in-Message
+returns-in-Message c = let w = as-here c.args.s.now c.args.message.now c.message_named.new.t c.message_named.new.rows.0 c.message_named.ensures c.in-Message.is in parts-promised (scope1_of c.args.s.now c.args.message.now c.args.header.now) (scope1-here w.1 c.args.header.now c.header_of.ensures c.parts_by.ensures) (scope1-inside w.1 c.args.header.now c.header_of.ensures c.parts_by.ensures)
+
+pub returns-in-Missing : goal.returns-in-Missing
+returns-in-Missing c = parts-promised (scope1_of c.args.s.now c.args.message.now c.args.header.now) (scope1-missing c.args.s.now c.args.message.now c.args.header.now c.missing.ensures (as-missing c.args.s.now c.args.message.now c.message_named.new.t c.message_named.new.rows.0 c.message_named.ensures c.in-Missing.is)) tt
+
+pub returns-in-Refused : goal.returns-in-Refused
+returns-in-Refused c = parts-promised (scope1_of c.args.s.now c.args.message.now c.args.header.now) (scope1-refused c.args.s.now c.args.message.now c.args.header.now (as-refused c.args.s.now c.args.message.now c.message_named.new.t c.message_named.new.rows.0 c.message_named.ensures c.in-Refused.is)) tt

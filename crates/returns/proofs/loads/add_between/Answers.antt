@@ -1,0 +1,29 @@
+use borrow.Author.Rules.{rules}
+use Prim.Native.Nat.{◌-◌}
+use native.Mathlib.Omega.{arith}
+use mathlib.Core.Path.{refl}
+use lib.ListN.{length}
+use Rattle.groups.specs.LinksLaws.{ends-in}
+use Rattle.returns.specs.ReadingLaws.{Summing, summing_start, summing-runs, summing_on, summing-none, summing-end}
+use Rattle.returns.proofs.loads.add_between.Goals as goal
+
+pub loop-at-init : goal.loop-at-init
+loop-at-init c = summing_start c.requires.1.1.1
+
+pub after_segment-k-requires : goal.after_segment-k-requires
+after_segment-k-requires c = let h = ends-in c.args.y.service c.args.s.now c.loop-at.at c.stop.ensures c.in-At.is in (c.requires.0, (omega (arith, h), c.requires.1.1.0, summing-runs c.requires.1.1.0 c.loop-at.invariant))
+
+pub overflow_add-at : goal.overflow_add-at
+overflow_add-at c = let h = ends-in c.args.y.service c.args.s.now c.loop-at.at c.stop.ensures c.in-At.is in search rules
+
+pub loop-at-smaller : goal.loop-at-smaller
+loop-at-smaller c = let h = ends-in c.args.y.service c.args.s.now c.loop-at.at c.stop.ensures c.in-At.is in omega (arith, h)
+
+pub loop-at-preserved : goal.loop-at-preserved
+loop-at-preserved c = summing_on c.requires.1.0 c.loop-at.invariant c.loop-at-test.true c.stop.ensures c.in-At.is refl c.after_segment-k.ensures
+
+pub returns-in-Nothing : goal.returns-in-Nothing
+returns-in-Nothing c = (summing-none c.requires.1.0 c.loop-at.invariant c.loop-at-test.true c.stop.ensures c.in-Nothing.is, summing-runs c.requires.1.1.0 c.loop-at.invariant)
+
+pub returns : goal.returns
+returns c = (summing-end c.loop-at.invariant c.loop-at-test.false, summing-runs c.requires.1.1.0 c.loop-at.invariant)

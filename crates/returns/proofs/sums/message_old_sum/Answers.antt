@@ -1,0 +1,12 @@
+use Rattle.kilograms.specs.OldSum.{handed_in}
+use Rattle.kilograms.specs.RunningLaws.{held-handed}
+use Rattle.returns.specs.Returns.{message_old_sum_of}
+use Rattle.returns.specs.ReturnsLaws.{starts-handed, sum-promised}
+use borrow.Author.Rules.{rules}
+use Rattle.returns.proofs.sums.message_old_sum.Goals as goal
+
+pub sum_message-requires : goal.sum_message-requires
+sum_message-requires c = starts-handed c.args (search rules) c.handed_in.ensures
+
+pub returns : goal.returns
+returns c = sum-promised (message_old_sum_of c.args.s.now c.args.message.now c.args) (c.sum_message.ensures (handed_in c.args) (held-handed c.args (search rules)) c.handed_in.ensures)

@@ -1,0 +1,11 @@
+use Rattle.kilograms.specs.OldSum.{handed_bits}
+use Rattle.returns.specs.Returns.{message_old_sum_bits_of}
+use Rattle.returns.specs.ReturnsLaws.{starts-bits, held-bits, sum-promised}
+use borrow.Author.Rules.{rules}
+use Rattle.returns.proofs.sums.message_old_sum_bits.Goals as goal
+
+pub sum_message-requires : goal.sum_message-requires
+sum_message-requires c = starts-bits c.args c.handed_bits.ensures
+
+pub returns : goal.returns
+returns c = sum-promised (message_old_sum_bits_of c.args.s.now c.args.message.now c.args) (c.sum_message.ensures (handed_bits c.args) (held-bits c.args) c.handed_bits.ensures)

@@ -1,0 +1,20 @@
+use mathlib.Core.Path.{refl}
+use Rattle.walk.specs.RunLaws.{begun-fits}
+use Rattle.scope3.specs.Scope3Laws.{whole-unbegun, whole-refused, whole-missing, whole_here}
+use borrow.Author.Rules.{rules}
+use Rattle.scope3.proofs.whole_of.Goals as goal
+
+pub find-requires : goal.find-requires
+find-requires c = let w = begun-fits c.args.s.now c.begin.ensures c.in-Ready.is in (c.table-t.ensures, (w.0, (w.1, refl)))
+
+pub returns-in-Refused : goal.returns-in-Refused
+returns-in-Refused c = (whole-unbegun c.args.s.now c.args.autack.now c.args.x c.begin.ensures c.in-Refused.is c.refusal.ensures, tt)
+
+pub returns-in-Message : goal.returns-in-Message
+returns-in-Message c = whole_here c.args.s.now c.args.autack.now c.args.x c.begin.ensures c.in-Ready.is c.part.ensures c.find.new.rows.0 _ c.table-t.ensures c.in-Message.is c.find.ensures c.is_referred.ensures c.whole_by.ensures
+
+pub returns-in-Missing : goal.returns-in-Missing
+returns-in-Missing c = (whole-missing c.args.s.now c.args.autack.now c.args.x c.begin.ensures c.in-Ready.is c.part.ensures c.find.new.rows.0 c.in-Missing.is c.find.ensures c.missing.ensures, tt)
+
+pub returns-in-Refused-find : goal.returns-in-Refused-find
+returns-in-Refused-find c = (whole-refused c.args.s.now c.args.autack.now c.args.x c.begin.ensures c.in-Ready.is c.part.ensures c.find.new.rows.0 c.in-Refused-find.is c.find.ensures c.refusal-in-Refused-find.ensures, tt)

@@ -1,0 +1,8 @@
+use Rattle.segments.specs.Checked.{next-less}
+use Prim.Native.Nat.{◌-◌}
+use lib.ListN.{length}
+use borrow.Author.Rules.{rules}
+use Rattle.segments.proofs.print_content.Goals as goal
+
+pub loop-b-smaller : goal.loop-b-smaller
+loop-b-smaller c = search (next-less, rules)

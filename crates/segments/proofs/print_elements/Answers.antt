@@ -1,0 +1,16 @@
+use Prim.Native.Nat.{◌-◌}
+use lib.ListN.{length}
+use borrow.Author.Rules.{rules}
+use Rattle.segments.specs.Checked.{edge_in, edge-less}
+use Rattle.segments.proofs.print_elements.Goals as goal
+
+pub overflow_add-i : goal.overflow_add-i
+overflow_add-i c =
+    let g = c in
+    let l = g.before.before.before in
+    let a = l.before.before.before.args in
+    let w = edge_in a.y.service a.s.now l.loop.i g.before.before.piece-end.ensures g.q.given.1 in
+    search rules
+
+pub loop-q-smaller : goal.loop-q-smaller
+loop-q-smaller c = search (edge-less, rules)

@@ -1,0 +1,14 @@
+use Prim.Native.Nat.{◌-◌}
+use lib.ListN.{length}
+use borrow.Author.Rules.{rules}
+use Rattle.segments.specs.Checked.{good-in, good-less}
+use Rattle.segments.proofs.print_segments.Goals as goal
+
+pub overflow_add-i : goal.overflow_add-i
+overflow_add-i c =
+    let g = c in
+    let w = good-in _ _ g.before.before.segment-at.ensures g.e.given.1 in
+    search rules
+
+pub loop-i-smaller : goal.loop-i-smaller
+loop-i-smaller c = search (good-less, rules)

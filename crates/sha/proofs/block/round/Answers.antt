@@ -1,0 +1,7 @@
+use Rattle.sha.specs.Loops.{round_by}
+use Rattle.std.proofs.Common.{rules}
+use Rattle.sha.proofs.block.round.Goals as goal
+
+pub returns : goal.returns
+unfolding round_by
+returns c = cc

@@ -1,0 +1,7 @@
+use Rattle.sha.specs.Sha.{summed}
+use Rattle.std.proofs.Common.{rules}
+use Rattle.sha.proofs.block.total.Goals as goal
+
+pub returns : goal.returns
+unfolding summed
+returns c = cc

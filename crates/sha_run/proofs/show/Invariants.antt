@@ -1,0 +1,11 @@
+use Prim.Native.Nat.{◌-◌, ◌≤◌}
+use mathlib.Core.Path.{◌≡◌}
+use lib.ListN.{length}
+use borrow.Author.Rules.{rules}
+use Rattle.sha_run.proofs.show.Given as goal
+
+abbrev pub invariant-loop-i : goal.invariant-loop-i
+invariant-loop-i l = (l.i ≤ 20) × (length l.out ≡ 41)
+
+abbrev pub decreases-loop-i : goal.decreases-loop-i
+decreases-loop-i l = 20 - l.i

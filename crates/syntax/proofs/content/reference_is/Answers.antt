@@ -1,0 +1,6 @@
+use Rattle.syntax.specs.BareLaws.{same-given}
+use borrow.Author.Rules.{rules}
+use Rattle.syntax.proofs.content.reference_is.Goals as goal
+
+pub returns : goal.returns
+returns c = search (same-given, rules)

@@ -1,0 +1,14 @@
+use Prim.Native.Nat.{ℕ, ◌≤◌, ◌<◌, ◌-◌, ◌+◌}
+use mathlib.Core.Path.{◌≡◌, refl, sym, ◌∙◌}
+use mathlib.Core.Bool.{Bool, true, false}
+use borrow.Author.Rules.{rules}
+use lib.ListN.{length}
+use Rattle.syntax.specs.Segment.{pieces_at, components}
+use Rattle.syntax.specs.SegmentLaws.{edge-steps, Counting, counting-over, counting-end, counting-on, counting-fits}
+use Rattle.syntax.proofs.reading.components_from.Given as goal
+
+abbrev pub invariant-loop-q : goal.invariant-loop-q
+invariant-loop-q l = Counting l.y (components (pieces_at l.y.service l.s l.p)) l.s l.i l.n
+
+abbrev pub decreases-loop-q : goal.decreases-loop-q
+decreases-loop-q l = length l.s - l.i

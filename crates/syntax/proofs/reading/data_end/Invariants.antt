@@ -1,0 +1,12 @@
+use Prim.Native.Nat.{◌-◌}
+use lib.ListN.{length}
+use Rattle.syntax.specs.CleanLaws.{tidy-start, tidy-data, tidy-stop, stopping-none}
+use Rattle.syntax.specs.Clean.{Tidy}
+use borrow.Author.Rules.{rules}
+use Rattle.syntax.proofs.reading.data_end.Given as goal
+
+abbrev pub invariant-loop-i : goal.invariant-loop-i
+invariant-loop-i l = Tidy l.y l.s l.from l.i
+
+abbrev pub decreases-loop-i : goal.decreases-loop-i
+decreases-loop-i l = length l.s - l.i

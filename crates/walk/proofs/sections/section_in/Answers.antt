@@ -1,0 +1,73 @@
+use Rattle.syntax.specs.Content.{compared}
+use native.Mathlib.Omega.{arith}
+use Rattle.message.specs.ItemsLaws.{not-true, not-false}
+use Prim.Native.Nat.{◌-◌, ◌≤◌}
+use mathlib.Core.Path.{◌≡◌, refl, sym, ◌∙◌}
+use mathlib.Core.Logic.{⊎_elim}
+use borrow.Author.Rules.{rules}
+use lib.ListN.{length}
+use Rattle.elements.specs.Octets.{text_at}
+use Rattle.message.specs.Summary.{free_at}
+use Rattle.message.specs.Heads.{head_refs, head_flags, pos_or}
+use Rattle.message.specs.HeadsLaws.{Seeking, seeking-start, seeking-hit, seeking-on, seeking-end}
+use Rattle.walk.specs.RunLaws.{further, halted, onward-far}
+use Rattle.walk.specs.SectionLaws.{nameable-most, sought}
+use Rattle.walk.specs.Sectioning.{Sectioning, ahead, walks-so, going-so, short-so, headers-so, room-so, rows-so, on-so, close-so, end-so}
+use Rattle.walk.proofs.sections.section_in.Goals as goal
+
+pub loop-at-init : goal.loop-at-init
+loop-at-init c = record { so = ahead; marks = c.requires.1.marks; room = c.requires.1.room; names = refl; slots = refl }
+
+pub nameable-n-requires : goal.nameable-n-requires
+nameable-n-requires c = (c.loop-at-test.true, short-so c.requires.1 c.loop-at.invariant.so c.loop-at-test.true)
+
+pub loop-i-init : goal.loop-i-init
+loop-i-init c = (refl, seeking-start)
+
+pub names_free-requires : goal.names_free-requires
+names_free-requires c = (c.requires.0, (let a = nameable-most c.args.s.now c.loop-at.at c.loop-at.st.message.headers in let b = headers-so c.requires.1 c.loop-at.invariant.so in search rules))
+
+pub loop-i-preserved : goal.loop-i-preserved
+loop-i-preserved c = (c.loop-i.invariant.0, seeking-on c.loop-i.invariant.1 c.loop-i-test.true c.names_free.ensures c.if-names_free.false)
+
+pub advance-requires : goal.advance-requires
+advance-requires c = (c.requires.0, (going-so c.requires.1 c.loop-at.invariant.so c.loop-at-test.true c.loop-at.invariant.marks, λ a k. let d = chosen c in sought c.args.y.service c.args.s.now c.loop-at.at c.loop-at.st.message c.loop-at.heads c.nameable-n.ensures d.0 d.1 k))
+
+pub shape_of-marks-in-Stop : goal.shape_of-marks-in-Stop
+shape_of-marks-in-Stop c = c.advance.ensures.1 ∙ sym c.requires.1.marks
+
+pub shape_of-names-in-Stop : goal.shape_of-names-in-Stop
+shape_of-names-in-Stop c = c.advance.auto.1.1.1.1.1.1.1.0 ∙ c.loop-at.invariant.names
+
+pub shape_of-slots-in-Stop : goal.shape_of-slots-in-Stop
+shape_of-slots-in-Stop c = c.advance.auto.1.1.1.1.1.1.1.1.0 ∙ c.loop-at.invariant.slots
+
+pub returns-in-Stop : goal.returns-in-Stop
+returns-in-Stop c = record { reached = λ b w. halted (walks-so c.loop-at.invariant.so b w) _ _ _ _ c.in-Stop.is (c.advance.ensures.0 _ (walks-so c.loop-at.invariant.so b w)); marks = c.advance.ensures.1 }
+
+pub shape_of-marks-then-is_outside : goal.shape_of-marks-then-is_outside
+shape_of-marks-then-is_outside c = c.advance.ensures.1 ∙ sym c.requires.1.marks
+
+pub shape_of-names-then-is_outside : goal.shape_of-names-then-is_outside
+shape_of-names-then-is_outside c = c.advance.auto.1.1.1.1.1.1.1.0 ∙ c.loop-at.invariant.names
+
+pub shape_of-slots-then-is_outside : goal.shape_of-slots-then-is_outside
+shape_of-slots-then-is_outside c = c.advance.auto.1.1.1.1.1.1.1.1.0 ∙ c.loop-at.invariant.slots
+
+pub returns-then-is_outside : goal.returns-then-is_outside
+returns-then-is_outside c = record { reached = close-so c.requires.1 c.loop-at.invariant.so (λ b w. further w _ c.in-On.is (c.advance.ensures.0 _ w)) (not-true _ (sym c.is_outside.ensures ∙ c.if-is_outside.true)) c.loop-at.invariant.room c.passed.ensures; marks = c.advance.ensures.1 }
+
+pub spots_behind-x-requires : goal.spots_behind-x-requires
+spots_behind-x-requires c = room-so c.requires.1 c.loop-at.invariant.so (λ b w. further w _ c.in-On.is (c.advance.ensures.0 _ w)) (not-false _ (sym c.is_outside.ensures ∙ c.if-is_outside.false)) c.loop-at.invariant.room
+
+pub loop-at-smaller : goal.loop-at-smaller
+loop-at-smaller c = let o = onward-far (walks-so c.loop-at.invariant.so c.requires.1.from c.requires.1.walks) (further (walks-so c.loop-at.invariant.so c.requires.1.from c.requires.1.walks) _ c.in-On.is (c.advance.ensures.0 _ (walks-so c.loop-at.invariant.so c.requires.1.from c.requires.1.walks))) in let k = c.loop-at-test.true in omega (arith, o, k)
+
+pub loop-at-preserved : goal.loop-at-preserved
+loop-at-preserved c = record { so = on-so c.requires.1 c.loop-at.invariant.so (λ b w. further w _ c.in-On.is (c.advance.ensures.0 _ w)) (not-false _ (sym c.is_outside.ensures ∙ c.if-is_outside.false)) c.loop-at.invariant.room c.spots_behind-x.ensures.0 c.spots_behind-x.ensures.1; marks = c.advance.ensures.1; room = rows-so c.requires.1 c.loop-at.invariant.so (λ b w. further w _ c.in-On.is (c.advance.ensures.0 _ w)) (not-false _ (sym c.is_outside.ensures ∙ c.if-is_outside.false)) c.loop-at.invariant.room c.spots_behind-x.ensures.0 c.spots_behind-x.ensures.1; names = c.advance.auto.1.1.1.1.1.1.1.0 ∙ c.loop-at.invariant.names; slots = c.advance.auto.1.1.1.1.1.1.1.1.0 ∙ c.loop-at.invariant.slots }
+
+pub shape_of-marks : goal.shape_of-marks
+shape_of-marks c = c.loop-at.invariant.marks ∙ sym c.requires.1.marks
+
+pub returns : goal.returns
+returns c = record { reached = end-so c.requires.1 c.loop-at.invariant.so c.loop-at-test.false c.loop-at.invariant.room c.left_open.ensures; marks = c.loop-at.invariant.marks }

@@ -1,0 +1,9 @@
+use borrow.Author.Rules.{rules}
+use Rattle.weaving.specs.PiecesLaws.{usr-early, usr-late}
+use Rattle.weaving.proofs.pieces.put_usr.Goals as goal
+
+pub returns-then-is_earlier : goal.returns-then-is_earlier
+returns-then-is_earlier c = usr-early c.args.y.version c.args.y.service c.is_earlier.ensures c.if-is_earlier.true c.put.ensures
+
+pub returns : goal.returns
+returns c = usr-late c.args.y.version c.args.y.service c.is_earlier.ensures c.if-is_earlier.false c.put-2.ensures
