@@ -7,30 +7,30 @@ use Rattle.beginning.proofs.declared.Goals as goal
 pub returns-in-Is-n : goal.returns-in-Is-n
 returns-in-Is-n c =
     let p = c in
-    let a = p.before.before.before.before.before.before.args in
+    let a = p.args in
     c.named.ensures
     ∙ ap₂ (both_named a.o) (sym c.in-Is.is)
     (sym c.in-Is-n.is)
     ∙ named_by a.s.now a.y.service a.o
-    p.before.before.before.component-part.ensures p.before.before.level-named.ensures
-    p.before.component-part2.ensures p.version-named.ensures
+    p.component_part-x.ensures p.level_named-l.ensures
+    p.component_part-z.ensures p.version_named-n.ensures
 
 pub returns-in-Unknown-n : goal.returns-in-Unknown-n
 returns-in-Unknown-n c =
     let p = c in
-    let a = p.before.before.before.before.before.before.args in
+    let a = p.args in
     c.unb_refused.ensures
     ∙ ap₂ (both_named a.o) (sym c.in-Is.is) (sym c.in-Unknown-n.is)
     ∙ named_by a.s.now a.y.service a.o
-    p.before.before.before.component-part.ensures p.before.before.level-named.ensures
-    p.before.component-part2.ensures p.version-named.ensures
+    p.component_part-x.ensures p.level_named-l.ensures
+    p.component_part-z.ensures p.version_named-n.ensures
 
 pub returns-in-Unknown : goal.returns-in-Unknown
 returns-in-Unknown c =
     let p = c in
-    let a = p.before.before.before.before.before.before.args in
+    let a = p.args in
     c.unb_refused-in-Unknown.ensures
-    ∙ ap (λ l. both_named a.o l p.version-named.result) (sym c.in-Unknown.is)
+    ∙ ap (λ l. both_named a.o l p.version_named-n.result) (sym c.in-Unknown.is)
     ∙ named_by a.s.now a.y.service a.o
-    p.before.before.before.component-part.ensures p.before.before.level-named.ensures
-    p.before.component-part2.ensures p.version-named.ensures
+    p.component_part-x.ensures p.level_named-l.ensures
+    p.component_part-z.ensures p.version_named-n.ensures

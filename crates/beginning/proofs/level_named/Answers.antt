@@ -8,8 +8,8 @@ pub returns-then-content_is-2 : goal.returns-then-content_is-2
 returns-then-content_is-2 c =
     let p = c in
     rw (
-      ← p.before.content-is.ensures,
-      p.if1.false,
+      ← p.content_is.ensures,
+      p.if-content_is.false,
       ← c.content_is-2.ensures,
       c.if-content_is-2.true,
     )
@@ -17,12 +17,12 @@ returns-then-content_is-2 c =
 pub returns-then-content_is-3 : goal.returns-then-content_is-3
 returns-then-content_is-3 c =
     let q = c in
-    let p = q.before.before.before in
+    let p = q in
     rw (
-      ← p.before.content-is.ensures,
-      p.if1.false,
-      ← q.before.content-is2.ensures,
-      q.if2.false,
+      ← p.content_is.ensures,
+      p.if-content_is.false,
+      ← q.content_is-2.ensures,
+      q.if-content_is-2.false,
       ← c.content_is-3.ensures,
       c.if-content_is-3.true,
     )
@@ -30,15 +30,15 @@ returns-then-content_is-3 c =
 pub returns-then-content_is-4 : goal.returns-then-content_is-4
 returns-then-content_is-4 c =
     let r = c in
-    let q = r.before.before.before in
-    let p = q.before.before.before in
+    let q = r in
+    let p = q in
     rw (
-      ← p.before.content-is.ensures,
-      p.if1.false,
-      ← q.before.content-is2.ensures,
-      q.if2.false,
-      ← r.before.content-is3.ensures,
-      r.if3.false,
+      ← p.content_is.ensures,
+      p.if-content_is.false,
+      ← q.content_is-2.ensures,
+      q.if-content_is-2.false,
+      ← r.content_is-3.ensures,
+      r.if-content_is-3.false,
       ← c.content_is-4.ensures,
       c.if-content_is-4.true,
     )
@@ -46,15 +46,15 @@ returns-then-content_is-4 c =
 pub returns : goal.returns
 returns c =
     let r = c in
-    let q = r.before.before.before in
-    let p = q.before.before.before in
+    let q = r in
+    let p = q in
     rw (
-      ← p.before.content-is.ensures,
-      p.if1.false,
-      ← q.before.content-is2.ensures,
-      q.if2.false,
-      ← r.before.content-is3.ensures,
-      r.if3.false,
+      ← p.content_is.ensures,
+      p.if-content_is.false,
+      ← q.content_is-2.ensures,
+      q.if-content_is-2.false,
+      ← r.content_is-3.ensures,
+      r.if-content_is-3.false,
       ← c.content_is-4.ensures,
       c.if-content_is-4.false,
     )

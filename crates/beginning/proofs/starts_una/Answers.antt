@@ -17,7 +17,7 @@ pub returns-then-s-ne78 : goal.returns-then-s-ne78
 returns-then-s-ne78 c =
     let k = c in
     rw (
-      una-read k.before.args.s.now k.if1.false,
+      una-read k.args.s.now k.if-s-lt3.false,
       eq-eqb _ _ c.if-s-ne85.false,
       ne_eqb _ _ c.if-s-ne78.true,
     )
@@ -26,7 +26,7 @@ pub returns : goal.returns
 returns c =
     let k = c in
     rw (
-      una-read k.before.args.s.now k.if1.false,
+      una-read k.args.s.now k.if-s-lt3.false,
       eq-eqb _ _ c.if-s-ne85.false,
       eq-eqb _ _ c.if-s-ne78.false,
     )

@@ -3,4 +3,4 @@ use borrow.Author.Rules.{rules}
 use Rattle.gurandepi.proofs.gurandepi_totals.Goals as goal
 
 pub returns : goal.returns
-returns c = (c.totals_answer.ensures.0 ∙ c.message_totals.ensures.1.0, c.totals_answer.ensures.1 ∙ c.message_totals.ensures.1.1.0)
+returns c = (c.totals_answer.ensures.result_value ∙ c.message_totals.ensures.result_value, c.totals_answer.ensures.grams_value ∙ c.message_totals.ensures.result_value_2)

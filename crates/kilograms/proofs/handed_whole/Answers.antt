@@ -11,8 +11,8 @@ float_to_bits-sum c = above-real c.args.sum c.requires.0
 pub returns-then-x-sum : goal.returns-then-x-sum
 returns-then-x-sum c =
     let d = c in
-    let t = d.before.truncating-f32-to-u64 in
-    handed-so d.before.before.args.sum c.nearest_u32_to_f32-x.result t.result (search rules) c.nearest_u32_to_f32-x.ensures t.ensures d.if1.true c.if-x-sum.true
+    let t = d.truncating_f32_to_u64-v in
+    handed-so d.args.sum c.nearest_u32_to_f32-x.result t.result (search rules) c.nearest_u32_to_f32-x.ensures t.ensures d.if-v-le1073741824.true c.if-x-sum.true
 
 pub returns-else-x-sum : goal.returns-else-x-sum
 returns-else-x-sum c =

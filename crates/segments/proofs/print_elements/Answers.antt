@@ -7,9 +7,9 @@ use Rattle.segments.proofs.print_elements.Goals as goal
 pub overflow_add-i : goal.overflow_add-i
 overflow_add-i c =
     let g = c in
-    let l = g.before.before.before in
-    let a = l.before.before.before.args in
-    let w = edge_in a.y.service a.s.now l.loop.i g.before.before.piece-end.ensures g.q.given.1 in
+    let l = g in
+    let a = l.args in
+    let w = edge_in a.y.service a.s.now l.loop-q.i g.piece_end.ensures g.in-On.is in
     search rules
 
 pub loop-q-smaller : goal.loop-q-smaller

@@ -7,7 +7,7 @@ use Rattle.segments.proofs.print_segments.Goals as goal
 pub overflow_add-i : goal.overflow_add-i
 overflow_add-i c =
     let g = c in
-    let w = good-in _ _ g.before.before.segment-at.ensures g.e.given.1 in
+    let w = good-in _ _ g.segment_at.ensures g.in-Good.is in
     search rules
 
 pub loop-i-smaller : goal.loop-i-smaller

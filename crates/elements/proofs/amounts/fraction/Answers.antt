@@ -21,13 +21,13 @@ returns-then-decimals-n c = search (parting-long, rules)
 pub overflow_mul-g : goal.overflow_mul-g
 overflow_mul-g c =
     let g = c in
-    let h = parting-fits g.loop.invariant c.if-decimals-n.false in
+    let h = parting-fits g.loop-b.invariant c.if-decimals-n.false in
     search rules
 
 pub overflow_add-g : goal.overflow_add-g
 overflow_add-g c =
     let g = c in
-    let h = parting-fits g.loop.invariant c.if-decimals-n.false in
+    let h = parting-fits g.loop-b.invariant c.if-decimals-n.false in
     search rules
 
 pub loop-b-smaller : goal.loop-b-smaller

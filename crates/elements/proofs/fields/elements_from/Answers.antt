@@ -5,13 +5,13 @@ use borrow.Author.Rules.{rules}
 use Rattle.elements.proofs.fields.elements_from.Goals as goal
 
 pub loop-ends-init : goal.loop-ends-init
-loop-ends-init c = fielding-start c.requires.1.0 c.requires.1.1
+loop-ends-init c = fielding-start c.requires.passed_as.0 c.requires.passed_as.1
 
 pub take_one-requires : goal.take_one-requires
 take_one-requires c = let l = c.loop-ends.invariant.free.room in search rules
 
 pub shape_of-marks-in-Broken : goal.shape_of-marks-in-Broken
-shape_of-marks-in-Broken c = (fielding-broken c.loop-ends.invariant (not-true _ c.loop-ends-test.true) c.take_one.result c.take_one.new.marks c.take_one.ensures c.in-Broken.is).1 ∙ sym c.requires.1.1.room
+shape_of-marks-in-Broken c = (fielding-broken c.loop-ends.invariant (not-true _ c.loop-ends-test.true) c.take_one.result c.take_one.new.marks c.take_one.ensures c.in-Broken.is).1 ∙ sym c.requires.passed_as.1.room
 
 pub returns-in-Broken : goal.returns-in-Broken
 returns-in-Broken c = fielding-broken c.loop-ends.invariant (not-true _ c.loop-ends-test.true) c.take_one.result c.take_one.new.marks c.take_one.ensures c.in-Broken.is
@@ -29,7 +29,7 @@ pub overflow_sub-result : goal.overflow_sub-result
 overflow_sub-result c = let w = fielding-high c.loop-ends.invariant (not-false _ c.loop-ends-test.false) in search rules
 
 pub shape_of-marks : goal.shape_of-marks
-shape_of-marks c = c.loop-ends.invariant.free.room ∙ sym c.requires.1.1.room
+shape_of-marks c = c.loop-ends.invariant.free.room ∙ sym c.requires.passed_as.1.room
 
 pub returns : goal.returns
 returns c = fielding-end c.loop-ends.invariant (not-false _ c.loop-ends-test.false) refl refl refl

@@ -3,4 +3,4 @@ use borrow.Author.Rules.{rules}
 use Rattle.elements.proofs.fields.repeated.Goals as goal
 
 pub returns : goal.returns
-returns c = marked-repeated c.requires.0 c.requires.1.0 c.requires.1.1
+returns c = marked-repeated c.requires.marked c.requires.le_p.0 c.requires.le_p.1

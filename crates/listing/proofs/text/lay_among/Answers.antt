@@ -9,37 +9,37 @@ use Rattle.listing.specs.ListingLaws.{Reporting, reporting-start, passed-near, r
 use Rattle.listing.proofs.text.lay_among.Goals as goal
 
 pub accepted_line-p-requires : goal.accepted_line-p-requires
-accepted_line-p-requires c = (c.requires.0, c.requires.1.0.short)
+accepted_line-p-requires c = (c.requires.table, c.requires.fresh.short)
 
 pub loop-f-init : goal.loop-f-init
-loop-f-init c = reporting-start c.requires.1.0 c.requires.1.1 c.unread-st.ensures
+loop-f-init c = reporting-start c.requires.fresh c.requires.marks_len c.unread-st.ensures
 
 pub next_section-requires : goal.next_section-requires
-next_section-requires c = (c.requires.0, between-so c.loop-f.invariant.looping c.requires.1.0.fits)
+next_section-requires c = (c.requires.table, between-so c.loop-f.invariant.looping c.requires.fresh.fits)
 
 pub shape_of-marks-in-Stop : goal.shape_of-marks-in-Stop
-shape_of-marks-in-Stop c = c.next_section.ensures.1 ∙ sym c.requires.1.1.0
+shape_of-marks-in-Stop c = c.next_section.ensures.marks_len ∙ sym c.requires.marks_len.0
 
 pub shape_of-out-in-Stop : goal.shape_of-out-in-Stop
-shape_of-out-in-Stop c = c.loop-f.invariant.same ∙ laid-length c.accepted_line-p.ensures.0
+shape_of-out-in-Stop c = c.loop-f.invariant.same ∙ laid-length c.accepted_line-p.ensures.laid
 
 pub returns-in-Stop : goal.returns-in-Stop
-returns-in-Stop c = (_, _, stopped c.loop-f.invariant.looping.walks c.next_section.new.heads c.next_section.new.names c.next_section.new.slots c.next_section.new.rows.0 _ c.in-Stop.is (c.next_section.ensures.0 _ c.loop-f.invariant.looping.walks), c.refusal.ensures)
+returns-in-Stop c = (_, _, stopped c.loop-f.invariant.looping.walks c.next_section.new.heads c.next_section.new.names c.next_section.new.slots c.next_section.new.rows.0 _ c.in-Stop.is (c.next_section.ensures.by_index _ c.loop-f.invariant.looping.walks), c.refusal.ensures)
 
 pub shape_of-marks-in-Over : goal.shape_of-marks-in-Over
-shape_of-marks-in-Over c = c.next_section.ensures.1 ∙ sym c.requires.1.1.0
+shape_of-marks-in-Over c = c.next_section.ensures.marks_len ∙ sym c.requires.marks_len.0
 
 pub shape_of-out-in-Over : goal.shape_of-out-in-Over
-shape_of-out-in-Over c = c.loop-f.invariant.same ∙ laid-length c.accepted_line-p.ensures.0
+shape_of-out-in-Over c = c.loop-f.invariant.same ∙ laid-length c.accepted_line-p.ensures.laid
 
 pub returns-in-Over : goal.returns-in-Over
-returns-in-Over c = lays-told c.loop-f.invariant c.accepted_line-p.ensures.0 c.requires.1.0.fits (read_all c.loop-f.invariant.looping.walks c.next_section.new.heads c.next_section.new.names c.next_section.new.slots c.next_section.new.rows.0 _ c.in-Over.is (c.next_section.ensures.0 _ c.loop-f.invariant.looping.walks))
+returns-in-Over c = lays-told c.loop-f.invariant c.accepted_line-p.ensures.laid c.requires.fresh.fits (read_all c.loop-f.invariant.looping.walks c.next_section.new.heads c.next_section.new.names c.next_section.new.slots c.next_section.new.rows.0 _ c.in-Over.is (c.next_section.ensures.by_index _ c.loop-f.invariant.looping.walks))
 
 pub put_section-p-requires : goal.put_section-p-requires
-put_section-p-requires c = (c.requires.0, (c.requires.1.0.short, omega (arith, c.loop-f.invariant.near, starts c.loop-f.invariant.looping.walks c.next_section.new.heads c.next_section.new.names c.next_section.new.slots c.next_section.new.rows.0 _ c.in-On.is (c.next_section.ensures.0 _ c.loop-f.invariant.looping.walks), c.requires.1.0.short, c.accepted_line-p.ensures.1), passed-near c.loop-f.invariant.looping.walks (passed c.loop-f.invariant.looping.walks c.next_section.new.heads c.next_section.new.names c.next_section.new.slots c.next_section.new.rows.0 _ c.in-On.is (c.next_section.ensures.0 _ c.loop-f.invariant.looping.walks)) c.requires.1.0.short))
+put_section-p-requires c = (c.requires.table, (c.requires.fresh.short, omega (arith, c.loop-f.invariant.near, starts c.loop-f.invariant.looping.walks c.next_section.new.heads c.next_section.new.names c.next_section.new.slots c.next_section.new.rows.0 _ c.in-On.is (c.next_section.ensures.by_index _ c.loop-f.invariant.looping.walks), c.requires.fresh.short, c.accepted_line-p.ensures.upper_bound), passed-near c.loop-f.invariant.looping.walks (passed c.loop-f.invariant.looping.walks c.next_section.new.heads c.next_section.new.names c.next_section.new.slots c.next_section.new.rows.0 _ c.in-On.is (c.next_section.ensures.by_index _ c.loop-f.invariant.looping.walks)) c.requires.fresh.short))
 
 pub loop-f-smaller : goal.loop-f-smaller
-loop-f-smaller c = nearer c.loop-f.invariant.looping.walks c.next_section.new.heads c.next_section.new.names c.next_section.new.slots c.next_section.new.rows.0 _ c.in-On.is (c.next_section.ensures.0 _ c.loop-f.invariant.looping.walks)
+loop-f-smaller c = nearer c.loop-f.invariant.looping.walks c.next_section.new.heads c.next_section.new.names c.next_section.new.slots c.next_section.new.rows.0 _ c.in-On.is (c.next_section.ensures.by_index _ c.loop-f.invariant.looping.walks)
 
 pub loop-f-preserved : goal.loop-f-preserved
-loop-f-preserved c = reporting-on c.loop-f.invariant c.requires.1.0.fits (passed c.loop-f.invariant.looping.walks c.next_section.new.heads c.next_section.new.names c.next_section.new.slots c.next_section.new.rows.0 _ c.in-On.is (c.next_section.ensures.0 _ c.loop-f.invariant.looping.walks)) c.next_section.ensures.1 c.next_section.auto.1.1.1.1.1.1.1.0 c.next_section.auto.1.1.1.1.1.1.1.1.0 c.put_section-p.ensures.0 c.put_section-p.ensures.1
+loop-f-preserved c = reporting-on c.loop-f.invariant c.requires.fresh.fits (passed c.loop-f.invariant.looping.walks c.next_section.new.heads c.next_section.new.names c.next_section.new.slots c.next_section.new.rows.0 _ c.in-On.is (c.next_section.ensures.by_index _ c.loop-f.invariant.looping.walks)) c.next_section.ensures.marks_len c.next_section.auto.1.1.1.1.1.1.1.0 c.next_section.auto.1.1.1.1.1.1.1.1.0 c.put_section-p.ensures.laid c.put_section-p.ensures.upper_bound

@@ -5,4 +5,4 @@ use borrow.Author.Rules.{rules}
 use Rattle.message.proofs.heads.push_header.Goals as goal
 
 pub returns : goal.returns
-returns c = push-law _ _ _ _ (omega (arith, c.requires.0, c.requires.1))
+returns c = push-law _ _ _ _ (omega (arith, c.requires.n_bound, c.requires.heads_len))

@@ -9,7 +9,7 @@ use Rattle.message.proofs.items.on_qty.Goals as goal
 pub returns-then-f-ne1 : goal.returns-then-f-ne1
 returns-then-f-ne1 c =
     let g = c in
-    qty-many g.args.y.service g.args.s.now g.args.at g.args.m c.with_sums.ensures g.requires.0.sizes c.if-f-ne1.true
+    qty-many g.args.y.service g.args.s.now g.args.at g.args.m c.with_sums.ensures g.requires.fields.sizes c.if-f-ne1.true
 
 pub returns-then-parts-ne3 : goal.returns-then-parts-ne3
 returns-then-parts-ne3 c =
@@ -24,22 +24,22 @@ amount_in-requires c =
 pub with_load-requires : goal.with_load-requires
 with_load-requires c =
     let g = c in
-    load_fits (content g.args.y.service.release c.field.result.now) (content g.args.y.service.release c.field-in-Of.result.now) g.args.m g.requires.1.1 c.unit_in.ensures c.in-Of.is c.amount_in.ensures c.in-Grams.is
+    load_fits (content g.args.y.service.release c.field.result.now) (content g.args.y.service.release c.field-in-Of.result.now) g.args.m g.requires.segments_bound c.unit_in.ensures c.in-Of.is c.amount_in.ensures c.in-Grams.is
 
 pub with_sums-requires-in-Grams : goal.with_sums-requires-in-Grams
 with_sums-requires-in-Grams c =
     let g = c in
-    g.requires.1.1.0
+    g.requires.segments_bound.0
 
 pub returns-in-Grams : goal.returns-in-Grams
 returns-in-Grams c =
     let g = c in
-    qty-load g.args.y.service g.args.s.now g.args.at g.args.m g.requires.1.0 g.requires.0.sizes c.if-f-ne1.false c.parts.ensures c.if-parts-ne3.false c.field.ensures c.unit_in.ensures c.in-Of.is c.field-in-Of.ensures c.amount_in.ensures c.in-Grams.is c.with_load.ensures c.with_sums-in-Grams.ensures
+    qty-load g.args.y.service g.args.s.now g.args.at g.args.m g.requires.at_value g.requires.fields.sizes c.if-f-ne1.false c.parts.ensures c.if-parts-ne3.false c.field.ensures c.unit_in.ensures c.in-Of.is c.field-in-Of.ensures c.amount_in.ensures c.in-Grams.is c.with_load.ensures c.with_sums-in-Grams.ensures
 
 pub returns-in-Bad : goal.returns-in-Bad
 returns-in-Bad c =
     let g = c in
-    qty-bad g.args.y.service g.args.s.now g.args.at g.args.m g.requires.1.0 g.requires.0.sizes c.if-f-ne1.false c.parts.ensures c.if-parts-ne3.false c.field.ensures c.unit_in.ensures c.in-Of.is c.field-in-Of.ensures c.amount_in.ensures c.in-Bad.is refl
+    qty-bad g.args.y.service g.args.s.now g.args.at g.args.m g.requires.at_value g.requires.fields.sizes c.if-f-ne1.false c.parts.ensures c.if-parts-ne3.false c.field.ensures c.unit_in.ensures c.in-Of.is c.field-in-Of.ensures c.amount_in.ensures c.in-Bad.is refl
 
 pub returns-in-Unknown : goal.returns-in-Unknown
 returns-in-Unknown c =

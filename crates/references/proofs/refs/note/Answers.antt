@@ -3,4 +3,4 @@ use borrow.Author.Rules.{rules}
 use Rattle.references.proofs.refs.note.Goals as goal
 
 pub returns : goal.returns
-returns c = noted c.requires.0 c.requires.1.0 c.requires.1.1
+returns c = noted c.requires.indexed c.requires.offered.0 c.requires.offered.1

@@ -8,10 +8,10 @@ use Rattle.returns.specs.ReadingLaws.{Summing, summing_start, summing-runs, summ
 use Rattle.returns.proofs.loads.add_between.Goals as goal
 
 pub loop-at-init : goal.loop-at-init
-loop-at-init c = summing_start c.requires.1.1.1
+loop-at-init c = summing_start c.requires.s_len_bound.1
 
 pub after_segment-k-requires : goal.after_segment-k-requires
-after_segment-k-requires c = let h = ends-in c.args.y.service c.args.s.now c.loop-at.at c.stop.ensures c.in-At.is in (c.requires.0, (omega (arith, h), c.requires.1.1.0, summing-runs c.requires.1.1.0 c.loop-at.invariant))
+after_segment-k-requires c = let h = ends-in c.args.y.service c.args.s.now c.loop-at.at c.stop.ensures c.in-At.is in (c.requires.table, (omega (arith, h), c.requires.s_len_bound.0, summing-runs c.requires.s_len_bound.0 c.loop-at.invariant))
 
 pub overflow_add-at : goal.overflow_add-at
 overflow_add-at c = let h = ends-in c.args.y.service c.args.s.now c.loop-at.at c.stop.ensures c.in-At.is in search rules
@@ -20,10 +20,10 @@ pub loop-at-smaller : goal.loop-at-smaller
 loop-at-smaller c = let h = ends-in c.args.y.service c.args.s.now c.loop-at.at c.stop.ensures c.in-At.is in omega (arith, h)
 
 pub loop-at-preserved : goal.loop-at-preserved
-loop-at-preserved c = summing_on c.requires.1.0 c.loop-at.invariant c.loop-at-test.true c.stop.ensures c.in-At.is refl c.after_segment-k.ensures
+loop-at-preserved c = summing_on c.requires.t c.loop-at.invariant c.loop-at-test.true c.stop.ensures c.in-At.is refl c.after_segment-k.ensures
 
 pub returns-in-Nothing : goal.returns-in-Nothing
-returns-in-Nothing c = (summing-none c.requires.1.0 c.loop-at.invariant c.loop-at-test.true c.stop.ensures c.in-Nothing.is, summing-runs c.requires.1.1.0 c.loop-at.invariant)
+returns-in-Nothing c = (summing-none c.requires.t c.loop-at.invariant c.loop-at-test.true c.stop.ensures c.in-Nothing.is, summing-runs c.requires.s_len_bound.0 c.loop-at.invariant)
 
 pub returns : goal.returns
-returns c = (summing-end c.loop-at.invariant c.loop-at-test.false, summing-runs c.requires.1.1.0 c.loop-at.invariant)
+returns c = (summing-end c.loop-at.invariant c.loop-at-test.false, summing-runs c.requires.s_len_bound.0 c.loop-at.invariant)

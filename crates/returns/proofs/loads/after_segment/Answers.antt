@@ -5,7 +5,7 @@ use borrow.Author.Rules.{rules}
 use Rattle.returns.proofs.loads.after_segment.Goals as goal
 
 pub add-requires : goal.add-requires
-add-requires c = (c.requires.1.2, weighs-read (asked_at c.args.y.service c.args.s.now c.args.at) c.load_at.ensures c.in-Load.is)
+add-requires c = (c.requires.at_in_bounds.2, weighs-read (asked_at c.args.y.service c.args.s.now c.args.at) c.load_at.ensures c.in-Load.is)
 
 pub returns-in-Load : goal.returns-in-Load
 returns-in-Load c = after-load (asked_at c.args.y.service c.args.s.now c.args.at) c.load_at.ensures c.in-Load.is c.add.ensures

@@ -7,10 +7,10 @@ pub add_between-requires : goal.add_between-requires
 add_between-requires c = let w = begun-fits c.args.s.now c.begin.ensures c.in-Ready.is in (c.table-t.ensures, (w.0, (w.1, c.requires)))
 
 pub concluded-requires : goal.concluded-requires
-concluded-requires c = c.add_between.ensures.1
+concluded-requires c = c.add_between.ensures.runs
 
 pub returns-in-Refused : goal.returns-in-Refused
 returns-in-Refused c = λ o i h q v. file-unbegun c.args.s.now c.begin.ensures c.in-Refused.is o i v
 
 pub returns-in-Ready : goal.returns-in-Ready
-returns-in-Ready c = file-so c.args.s.now c.begin.ensures c.in-Ready.is c.add_between.ensures.0 c.concluded.ensures
+returns-in-Ready c = file-so c.args.s.now c.begin.ensures c.in-Ready.is c.add_between.ensures.value c.concluded.ensures

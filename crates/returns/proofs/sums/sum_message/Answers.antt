@@ -7,10 +7,10 @@ pub add_between-requires : goal.add_between-requires
 add_between-requires c = let w = as-here c.args.s.now c.args.message.now c.message_named.new.t c.message_named.new.rows.0 c.message_named.ensures c.in-Message.is in (w.0, (w.1.fits, (short-so c.args.s.now w.1.i w.1.read, c.requires)))
 
 pub concluded-requires : goal.concluded-requires
-concluded-requires c = c.add_between.ensures.1
+concluded-requires c = c.add_between.ensures.runs
 
 pub returns-in-Message : goal.returns-in-Message
-returns-in-Message c = let w = as-here c.args.s.now c.args.message.now c.message_named.new.t c.message_named.new.rows.0 c.message_named.ensures c.in-Message.is in message-so c.args.s.now c.args.message.now w.1 c.add_between.ensures.0 c.concluded.ensures
+returns-in-Message c = let w = as-here c.args.s.now c.args.message.now c.message_named.new.t c.message_named.new.rows.0 c.message_named.ensures c.in-Message.is in message-so c.args.s.now c.args.message.now w.1 c.add_between.ensures.value c.concluded.ensures
 
 pub returns-in-Missing : goal.returns-in-Missing
 returns-in-Missing c = message-missing c.args.s.now c.args.message.now (as-missing c.args.s.now c.args.message.now c.message_named.new.t c.message_named.new.rows.0 c.message_named.ensures c.in-Missing.is) c.missing.ensures

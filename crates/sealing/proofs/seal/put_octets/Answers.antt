@@ -9,4 +9,4 @@ pub put-requires : goal.put-requires
 put-requires c = let h = part-short c.args.s.now c.args.c.body c.args.c.tail c.part.ensures c.requires.0 in search rules
 
 pub returns : goal.returns
-returns c = (weaving-end (weaving-put (weaving-put (weaving-start c.args.out.now 0 (octets_pieces c.args.v c.args.s.now c.args.c c.args.reference.now c.args.filter)) c.put_header-p.ensures.0) (laid_same c.part.ensures c.put.ensures)))
+returns c = (weaving-end (weaving-put (weaving-put (weaving-start c.args.out.now 0 (octets_pieces c.args.v c.args.s.now c.args.c c.args.reference.now c.args.filter)) c.put_header-p.ensures.laid) (laid_same c.part.ensures c.put.ensures)))

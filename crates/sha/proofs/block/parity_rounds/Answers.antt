@@ -4,10 +4,10 @@ use Rattle.sha.specs.LoopsLaws.{Parities, parities-room, rounding-start, roundin
 use Rattle.sha.proofs.block.parity_rounds.Goals as goal
 
 pub overflow_add-end : goal.overflow_add-end
-overflow_add-end c = let h = parities-room c.args.from c.args.k c.requires.1 in search rules
+overflow_add-end c = let h = parities-room c.args.from c.args.k c.requires.fact in search rules
 
 pub loop-t-init : goal.loop-t-init
-loop-t-init c = (rounding-start c.args.w.now c.args.from (c.args.from + 20) c.args.h c.requires.0 (omega arith) (parities-room c.args.from c.args.k c.requires.1), c.requires.1)
+loop-t-init c = (rounding-start c.args.w.now c.args.from (c.args.from + 20) c.args.h c.requires.w_len (omega arith) (parities-room c.args.from c.args.k c.requires.fact), c.requires.fact)
 
 pub loop-t-preserved : goal.loop-t-preserved
 loop-t-preserved c = search (rounding-parity, rules)

@@ -12,7 +12,7 @@ loop-j-init c = record { few = search rules; sums = sym (zero-add _) }
 
 pub overflow_add-n : goal.overflow_add-n
 overflow_add-n c = let g = c in
-    let h = lengthening-fits g.before.loop.invariant g.next-octet.ensures c.in-Octet.is in
+    let h = lengthening-fits g.loop-j.invariant g.next_octet.ensures c.in-Octet.is in
     search rules
 
 pub loop-j-smaller : goal.loop-j-smaller

@@ -20,12 +20,12 @@ returns-then-n-ge15 c = search (numbering-long, rules)
 
 pub overflow_mul-v : goal.overflow_mul-v
 overflow_mul-v c = let g = c in
-    let h = numbering-fits g.loop.invariant c.if-n-ge15.false in
+    let h = numbering-fits g.loop-b.invariant c.if-n-ge15.false in
     search rules
 
 pub overflow_add-v : goal.overflow_add-v
 overflow_add-v c = let g = c in
-    let h = numbering-fits g.loop.invariant c.if-n-ge15.false in
+    let h = numbering-fits g.loop-b.invariant c.if-n-ge15.false in
     search rules
 
 pub loop-b-smaller : goal.loop-b-smaller

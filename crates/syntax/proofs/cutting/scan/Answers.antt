@@ -28,9 +28,9 @@ returns-then-d-eq-OUTSIDE c = search (cutting-freed-bad, rules)
 pub loop-i-preserved : goal.loop-i-preserved
 loop-i-preserved c =
     let q = c in
-    let r = q.before.before.before.before in
-    cutting-freed r.before.before.before.loop.invariant r.before.before.loop-test.true r.class.ensures q.before.before.before.if1.false
-    q.before.before.if2.false q.before.if3.false q.if4.false c.class-d.ensures c.if-d-eq-OUTSIDE.false
+    let r = q in
+    cutting-freed r.loop-i.invariant r.loop-i-test.true r.class-c.ensures q.if-c-lt-TERMINATOR.false
+    q.if-c-eq-TERMINATOR.false q.if-c-eq-OUTSIDE.false q.if-s-i.false c.class-d.ensures c.if-d-eq-OUTSIDE.false
 
 pub returns : goal.returns
 returns c = search (cutting-none, rules)

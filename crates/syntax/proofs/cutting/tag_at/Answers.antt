@@ -15,6 +15,6 @@ returns-then-s-at c =
 pub returns : goal.returns
 returns c =
     let k = c in
-    let a = k.before.before.before.args in
+    let a = k.args in
     c.tag_of.ensures
-    ∙ tag_read a.v a.s.now a.at (omega (arith, k.if2.false, k.before.if1.false))
+    ∙ tag_read a.v a.s.now a.at (omega (arith, k.if-s-at.false, k.if-s-lt4.false))

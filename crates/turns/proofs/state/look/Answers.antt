@@ -5,16 +5,16 @@ use borrow.Author.Rules.{rules}
 use Rattle.turns.proofs.state.look.Goals as goal
 
 pub fields-requires : goal.fields-requires
-fields-requires c = (c.requires.0, (tag-here c.args.y c.requires.1.0 c.args.s.now c.args.at _ _ _ (sym c.tag_in.ensures ∙ c.in-Is.is), c.requires.1.1))
+fields-requires c = (c.requires.table, (tag-here c.args.y c.requires.t.0 c.args.s.now c.args.at _ _ _ (sym c.tag_in.ensures ∙ c.in-Is.is), c.requires.t.1))
 
 pub returns-then-looked_into : goal.returns-then-looked_into
 returns-then-looked_into c = sight-entered c.args.y c.args.s.now c.args.at c.tag_in.ensures c.in-Is.is c.kind_of-k.ensures (c.entered.ensures c.fields.new.marks.0 c.fields.ensures)
 
 pub overflow_add-at : goal.overflow_add-at
-overflow_add-at c = let w = (tag-here c.args.y c.requires.1.0 c.args.s.now c.args.at _ _ _ (sym c.tag_in.ensures ∙ c.in-Is.is)).long in search rules
+overflow_add-at c = let w = (tag-here c.args.y c.requires.t.0 c.args.s.now c.args.at _ _ _ (sym c.tag_in.ensures ∙ c.in-Is.is)).long in search rules
 
 pub returns-in-Bad : goal.returns-in-Bad
-returns-in-Bad c = sight-bad c.args.y c.args.s.now c.args.at c.tag_in.ensures c.in-Bad.is c.unseen.ensures c.seen_alone.ensures c.requires.1.1
+returns-in-Bad c = sight-bad c.args.y c.args.s.now c.args.at c.tag_in.ensures c.in-Bad.is c.unseen.ensures c.seen_alone.ensures c.requires.t.1
 
 pub returns-else-looked_into : goal.returns-else-looked_into
-returns-else-looked_into c = sight-passed c.args.y c.args.s.now c.args.at c.tag_in.ensures c.in-Is.is c.kind_of-k.ensures c.requires.1.0 (sym c.looked_into.ensures ∙ c.if-looked_into.false) c.scan.ensures c.seen.ensures c.seen_alone-in-Is.ensures c.requires.1.1
+returns-else-looked_into c = sight-passed c.args.y c.args.s.now c.args.at c.tag_in.ensures c.in-Is.is c.kind_of-k.ensures c.requires.t.0 (sym c.looked_into.ensures ∙ c.if-looked_into.false) c.scan.ensures c.seen.ensures c.seen_alone-in-Is.ensures c.requires.t.1

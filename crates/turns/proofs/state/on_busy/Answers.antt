@@ -1,28 +1,29 @@
 use Rattle.turns.specs.BusyLaws.{busy-7, busy-8, busy-room, busy-passed, busy-bad, busy-on}
 use borrow.Author.Rules.{rules}
+use Rattle.std.proofs.lemmas.Bool.{not_from_false, not_from_true}
 use Rattle.turns.proofs.state.on_busy.Goals as goal
 
 pub returns-then-not-may_come : goal.returns-then-not-may_come
 returns-then-not-may_come c =
     let g = c in
-    busy-7 g.requires.1.0 g.requires.1.1.0.0 c.may_come.ensures c.if-not-may_come.true c.stopped.ensures
+    busy-7 g.requires.ready g.requires.phase_value.0 c.may_come.ensures (not_from_false _ c.if-not-may_come.true) c.stopped.ensures
 
 pub returns-then-not-formed_in : goal.returns-then-not-formed_in
 returns-then-not-formed_in c =
     let g = c in
-    busy-8 g.requires.1.0 g.requires.1.1.0.0 c.may_come.ensures c.if-not-may_come.false c.formed_in.ensures c.if-not-formed_in.true c.stopped-then-not-formed_in.ensures
+    busy-8 g.requires.ready g.requires.phase_value.0 c.may_come.ensures (not_from_true _ c.if-not-may_come.false) c.formed_in.ensures (not_from_false _ c.if-not-formed_in.true) c.stopped-then-not-formed_in.ensures
 
 pub step_in-requires : goal.step_in-requires
 step_in-requires c =
     let g = c in
-    (g.requires.1.0.kind, (g.requires.1.0.noted, (g.requires.1.0.held.roomy, ((busy-room g.requires.1.0 g.requires.1.1.0.0, g.requires.1.0.held.long), (busy-passed g.requires.1.0 g.requires.1.1.0.0 c.may_come.ensures c.if-not-may_come.false c.formed_in.ensures c.if-not-formed_in.false, g.requires.1.1.1)))))
+    (g.requires.ready.kind, (g.requires.ready.noted, (g.requires.ready.held.roomy, ((busy-room g.requires.ready g.requires.phase_value.0, g.requires.ready.held.long), (busy-passed g.requires.ready g.requires.phase_value.0 c.may_come.ensures (not_from_true _ c.if-not-may_come.false) c.formed_in.ensures (not_from_true _ c.if-not-formed_in.false), g.requires.sought)))))
 
 pub returns-in-Bad : goal.returns-in-Bad
 returns-in-Bad c =
     let g = c in
-    busy-bad g.requires.1.0 g.requires.1.1.0.0 c.may_come.ensures c.if-not-may_come.false c.formed_in.ensures c.if-not-formed_in.false g.requires.1.1.0.1 c.step_in.result c.step_in.new.heads c.step_in.ensures.0 c.in-Bad.is c.stopped-in-Bad.ensures
+    busy-bad g.requires.ready g.requires.phase_value.0 c.may_come.ensures (not_from_true _ c.if-not-may_come.false) c.formed_in.ensures (not_from_true _ c.if-not-formed_in.false) g.requires.phase_value.1 c.step_in.result c.step_in.new.heads c.step_in.ensures.by_index c.in-Bad.is c.stopped-in-Bad.ensures
 
 pub returns-in-To : goal.returns-in-To
 returns-in-To c =
     let g = c in
-    busy-on g.requires.1.0 g.requires.1.1.0.0 c.may_come.ensures c.if-not-may_come.false c.formed_in.ensures c.if-not-formed_in.false g.requires.1.1.0.1 c.step_in.result c.step_in.new.heads c.step_in.ensures.0 c.in-To.is c.step_in.ensures.1 c.after_other.ensures
+    busy-on g.requires.ready g.requires.phase_value.0 c.may_come.ensures (not_from_true _ c.if-not-may_come.false) c.formed_in.ensures (not_from_true _ c.if-not-formed_in.false) g.requires.phase_value.1 c.step_in.result c.step_in.new.heads c.step_in.ensures.by_index c.in-To.is c.step_in.ensures.heads_len c.after_other.ensures

@@ -34,7 +34,7 @@ pub advance-requires : goal.advance-requires
 advance-requires c = (c.requires.0, (going-so c.requires.1 c.loop-at.invariant.so c.loop-at-test.true c.loop-at.invariant.marks, λ a k. let d = chosen c in sought c.args.y.service c.args.s.now c.loop-at.at c.loop-at.st.message c.loop-at.heads c.nameable-n.ensures d.0 d.1 k))
 
 pub shape_of-marks-in-Stop : goal.shape_of-marks-in-Stop
-shape_of-marks-in-Stop c = c.advance.ensures.1 ∙ sym c.requires.1.marks
+shape_of-marks-in-Stop c = c.advance.ensures.marks_len ∙ sym c.requires.1.marks
 
 pub shape_of-names-in-Stop : goal.shape_of-names-in-Stop
 shape_of-names-in-Stop c = c.advance.auto.1.1.1.1.1.1.1.0 ∙ c.loop-at.invariant.names
@@ -43,10 +43,10 @@ pub shape_of-slots-in-Stop : goal.shape_of-slots-in-Stop
 shape_of-slots-in-Stop c = c.advance.auto.1.1.1.1.1.1.1.1.0 ∙ c.loop-at.invariant.slots
 
 pub returns-in-Stop : goal.returns-in-Stop
-returns-in-Stop c = record { reached = λ b w. halted (walks-so c.loop-at.invariant.so b w) _ _ _ _ c.in-Stop.is (c.advance.ensures.0 _ (walks-so c.loop-at.invariant.so b w)); marks = c.advance.ensures.1 }
+returns-in-Stop c = record { reached = λ b w. halted (walks-so c.loop-at.invariant.so b w) _ _ _ _ c.in-Stop.is (c.advance.ensures.by_index _ (walks-so c.loop-at.invariant.so b w)); marks = c.advance.ensures.marks_len }
 
 pub shape_of-marks-then-is_outside : goal.shape_of-marks-then-is_outside
-shape_of-marks-then-is_outside c = c.advance.ensures.1 ∙ sym c.requires.1.marks
+shape_of-marks-then-is_outside c = c.advance.ensures.marks_len ∙ sym c.requires.1.marks
 
 pub shape_of-names-then-is_outside : goal.shape_of-names-then-is_outside
 shape_of-names-then-is_outside c = c.advance.auto.1.1.1.1.1.1.1.0 ∙ c.loop-at.invariant.names
@@ -55,16 +55,16 @@ pub shape_of-slots-then-is_outside : goal.shape_of-slots-then-is_outside
 shape_of-slots-then-is_outside c = c.advance.auto.1.1.1.1.1.1.1.1.0 ∙ c.loop-at.invariant.slots
 
 pub returns-then-is_outside : goal.returns-then-is_outside
-returns-then-is_outside c = record { reached = close-so c.requires.1 c.loop-at.invariant.so (λ b w. further w _ c.in-On.is (c.advance.ensures.0 _ w)) (not-true _ (sym c.is_outside.ensures ∙ c.if-is_outside.true)) c.loop-at.invariant.room c.passed.ensures; marks = c.advance.ensures.1 }
+returns-then-is_outside c = record { reached = close-so c.requires.1 c.loop-at.invariant.so (λ b w. further w _ c.in-On.is (c.advance.ensures.by_index _ w)) (not-true _ (sym c.is_outside.ensures ∙ c.if-is_outside.true)) c.loop-at.invariant.room c.passed.ensures; marks = c.advance.ensures.marks_len }
 
 pub spots_behind-x-requires : goal.spots_behind-x-requires
-spots_behind-x-requires c = room-so c.requires.1 c.loop-at.invariant.so (λ b w. further w _ c.in-On.is (c.advance.ensures.0 _ w)) (not-false _ (sym c.is_outside.ensures ∙ c.if-is_outside.false)) c.loop-at.invariant.room
+spots_behind-x-requires c = room-so c.requires.1 c.loop-at.invariant.so (λ b w. further w _ c.in-On.is (c.advance.ensures.by_index _ w)) (not-false _ (sym c.is_outside.ensures ∙ c.if-is_outside.false)) c.loop-at.invariant.room
 
 pub loop-at-smaller : goal.loop-at-smaller
-loop-at-smaller c = let o = onward-far (walks-so c.loop-at.invariant.so c.requires.1.from c.requires.1.walks) (further (walks-so c.loop-at.invariant.so c.requires.1.from c.requires.1.walks) _ c.in-On.is (c.advance.ensures.0 _ (walks-so c.loop-at.invariant.so c.requires.1.from c.requires.1.walks))) in let k = c.loop-at-test.true in omega (arith, o, k)
+loop-at-smaller c = let o = onward-far (walks-so c.loop-at.invariant.so c.requires.1.from c.requires.1.walks) (further (walks-so c.loop-at.invariant.so c.requires.1.from c.requires.1.walks) _ c.in-On.is (c.advance.ensures.by_index _ (walks-so c.loop-at.invariant.so c.requires.1.from c.requires.1.walks))) in let k = c.loop-at-test.true in omega (arith, o, k)
 
 pub loop-at-preserved : goal.loop-at-preserved
-loop-at-preserved c = record { so = on-so c.requires.1 c.loop-at.invariant.so (λ b w. further w _ c.in-On.is (c.advance.ensures.0 _ w)) (not-false _ (sym c.is_outside.ensures ∙ c.if-is_outside.false)) c.loop-at.invariant.room c.spots_behind-x.ensures.0 c.spots_behind-x.ensures.1; marks = c.advance.ensures.1; room = rows-so c.requires.1 c.loop-at.invariant.so (λ b w. further w _ c.in-On.is (c.advance.ensures.0 _ w)) (not-false _ (sym c.is_outside.ensures ∙ c.if-is_outside.false)) c.loop-at.invariant.room c.spots_behind-x.ensures.0 c.spots_behind-x.ensures.1; names = c.advance.auto.1.1.1.1.1.1.1.0 ∙ c.loop-at.invariant.names; slots = c.advance.auto.1.1.1.1.1.1.1.1.0 ∙ c.loop-at.invariant.slots }
+loop-at-preserved c = record { so = on-so c.requires.1 c.loop-at.invariant.so (λ b w. further w _ c.in-On.is (c.advance.ensures.by_index _ w)) (not-false _ (sym c.is_outside.ensures ∙ c.if-is_outside.false)) c.loop-at.invariant.room c.spots_behind-x.ensures.value c.spots_behind-x.ensures.rows_after; marks = c.advance.ensures.marks_len; room = rows-so c.requires.1 c.loop-at.invariant.so (λ b w. further w _ c.in-On.is (c.advance.ensures.by_index _ w)) (not-false _ (sym c.is_outside.ensures ∙ c.if-is_outside.false)) c.loop-at.invariant.room c.spots_behind-x.ensures.value c.spots_behind-x.ensures.rows_after; names = c.advance.auto.1.1.1.1.1.1.1.0 ∙ c.loop-at.invariant.names; slots = c.advance.auto.1.1.1.1.1.1.1.1.0 ∙ c.loop-at.invariant.slots }
 
 pub shape_of-marks : goal.shape_of-marks
 shape_of-marks c = c.loop-at.invariant.marks ∙ sym c.requires.1.marks
