@@ -7,10 +7,10 @@ use borrow.Author.Rules.{rules}
 use Rattle.digest.proofs.digest_scope2.Goals as goal
 
 pub run_digest-requires : goal.run_digest-requires
-run_digest-requires c = (run_inside (length c.args.s.now) c.in-Of.is c.scope2_places.ensures.run_inside, scope2-short c.args.s.now c.args.message.now c.args.header.now c.scope2_places.ensures.value c.in-Of.is)
+run_digest-requires c = record { start_le_end = run_inside (length c.args.s.now) c.in-Of.is c.scope2_places.ensures.run_inside; s_len_bound = scope2-short c.args.s.now c.args.message.now c.args.header.now c.scope2_places.ensures.value c.in-Of.is }
 
 pub returns-in-Of : goal.returns-in-Of
-returns-in-Of c = digest-promised (digest2_of c.args.s.now c.args.message.now c.args.header.now) (digest-run-given c.args.s.now (named_in c.args.s.now c.args.message.now c.args.header.now) (scope2_of c.args.s.now c.args.message.now c.args.header.now) c.scope2_places.ensures.value c.in-Of.is c.names_sha.ensures c.run_digest.ensures)
+returns-in-Of c = let both = digest-promised (digest2_of c.args.s.now c.args.message.now c.args.header.now) (digest-run-given c.args.s.now (named_in c.args.s.now c.args.message.now c.args.header.now) (scope2_of c.args.s.now c.args.message.now c.args.header.now) c.scope2_places.ensures.value c.in-Of.is c.names_sha.ensures c.run_digest.ensures) in record { value = both.0; result_value = both.1 }
 
 pub returns-in-Refused : goal.returns-in-Refused
-returns-in-Refused c = digest-promised (digest2_of c.args.s.now c.args.message.now c.args.header.now) (digest-run-refused c.args.s.now (named_in c.args.s.now c.args.message.now c.args.header.now) (scope2_of c.args.s.now c.args.message.now c.args.header.now) c.scope2_places.ensures.value c.in-Refused.is c.refused_with.ensures)
+returns-in-Refused c = let both = digest-promised (digest2_of c.args.s.now c.args.message.now c.args.header.now) (digest-run-refused c.args.s.now (named_in c.args.s.now c.args.message.now c.args.header.now) (scope2_of c.args.s.now c.args.message.now c.args.header.now) c.scope2_places.ensures.value c.in-Refused.is c.refused_with.ensures) in record { value = both.0; result_value = both.1 }

@@ -12,7 +12,7 @@ pub loop-f-init : goal.loop-f-init
 loop-f-init c = let g = looping-start c.requires.fresh (c.requires.marks_len.0, c.requires.marks_len.1, c.requires.marks_len.2) c.unread-st.ensures in record { looping = g; seeks = seeks-start g.walks (compared (content c.args.other c.args.reference.now)) c.unread-st.ensures; long = c.requires.marks_len.3 }
 
 pub next_section-requires : goal.next_section-requires
-next_section-requires c = (c.requires.table, between-so c.loop-f.invariant.looping c.requires.fresh.fits)
+next_section-requires c = record { table = c.requires.table; between = between-so c.loop-f.invariant.looping c.requires.fresh.fits }
 
 pub shape_of-marks-in-Stop : goal.shape_of-marks-in-Stop
 shape_of-marks-in-Stop c = c.next_section.ensures.marks_len ∙ sym c.requires.marks_len.0

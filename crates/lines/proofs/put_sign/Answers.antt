@@ -6,7 +6,7 @@ use borrow.Author.Rules.{rules}
 use Rattle.lines.proofs.put_sign.Goals as goal
 
 pub returns-then-below : goal.returns-then-below
-returns-then-below c = (laid_same (ap sign_words (sym c.if-below.true)) c.put.ensures, omega (arith, c.put.ensures.place))
+returns-then-below c = record { laid = laid_same (ap sign_words (sym c.if-below.true)) c.put.ensures; upper_bound = omega (arith, c.put.ensures.place) }
 
 pub returns : goal.returns
-returns c = (laid_same (ap sign_words (sym c.if-below.false)) laid_none, omega arith)
+returns c = record { laid = laid_same (ap sign_words (sym c.if-below.false)) laid_none; upper_bound = omega arith }

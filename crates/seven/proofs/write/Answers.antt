@@ -26,4 +26,4 @@ pub shape_of-out : goal.shape_of-out
 shape_of-out c = (writing-end c.loop-i.invariant c.loop-i-test.false c.store-2.ensures).0
 
 pub returns : goal.returns
-returns c = let w = writing-end c.loop-i.invariant c.loop-i-test.false c.store-2.ensures in (w.1, w.2)
+returns c = let w = writing-end c.loop-i.invariant c.loop-i-test.false c.store-2.ensures in record { laid = w.1; upper_bound = w.2 }

@@ -9,7 +9,7 @@ use Rattle.groups.specs.GroupsLaws.{headers-room, groups-sought}
 use Rattle.values.proofs.value_in.Goals as goal
 
 pub group_named-requires : goal.group_named-requires
-group_named-requires c = (c.requires.table, (headers-room c.args.c c.headers_of.ensures c.requires.t.1, c.requires.t.3))
+group_named-requires c = record { table = c.requires.table; count_bound = (headers-room c.args.c c.headers_of.ensures c.requires.t.1, c.requires.t.3) }
 
 pub returns-in-At : goal.returns-in-At
 returns-in-At c = λ m h. value-header h c.args.header.now (groups-sought c.args.y.service c.args.s.now c.args.rows.now c.args.header.now c.group_named.ensures c.headers_of.ensures) c.value_text-text.result.now c.component_part-code.result.now c.in-At.is (c.value_text-text.ensures m h) c.component_part-code.ensures c.value_of.ensures

@@ -3,4 +3,4 @@ use borrow.Author.Rules.{rules}
 use Rattle.writing.proofs.put_number.Goals as goal
 
 pub returns : goal.returns
-returns c = filled-laid c.fill-k.ensures c.put.ensures
+returns c = let both = filled-laid c.fill-k.ensures c.put.ensures in record { laid = both.0; upper_bound = both.1 }

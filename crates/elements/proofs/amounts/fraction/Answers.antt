@@ -40,7 +40,7 @@ pub returns-then-n-eq0 : goal.returns-then-n-eq0
 returns-then-n-eq0 c = search (parting-none, rules)
 
 pub scaled-requires : goal.scaled-requires
-scaled-requires c = (search (parting-scales, rules), search rules)
+scaled-requires c = record { zeros_bound = search (parting-scales, rules); zeros_bound_2 = search rules }
 
 pub returns-in-Over : goal.returns-in-Over
 returns-in-Over c = search (parting-end, rules)

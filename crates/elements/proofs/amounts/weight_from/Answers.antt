@@ -44,7 +44,7 @@ pub returns-then-n-eq0-2 : goal.returns-then-n-eq0-2
 returns-then-n-eq0-2 c = search (wholing-none, rules)
 
 pub scaled-requires : goal.scaled-requires
-scaled-requires c = (search (wholing-scales, rules), search rules)
+scaled-requires c = record { zeros_bound = search (wholing-scales, rules); zeros_bound_2 = search rules }
 
 pub returns-in-Over : goal.returns-in-Over
 returns-in-Over c = search (wholing-end, rules)

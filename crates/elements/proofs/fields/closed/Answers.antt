@@ -9,10 +9,10 @@ pub bounds-marks-b-then-k-eq3 : goal.bounds-marks-b-then-k-eq3
 bounds-marks-b-then-k-eq3 c = let w = length-set c.args.marks.now c.args.b c.args.n in search rules
 
 pub returns-then-k-eq3 : goal.returns-then-k-eq3
-returns-then-k-eq3 c = (closed-again c.skip.result c.if-k-eq3.true c.skip.ensures c.repeating.ensures, rw c.if-k-eq3.true)
+returns-then-k-eq3 c = record { closed_as = closed-again c.skip.result c.if-k-eq3.true c.skip.ensures c.repeating.ensures; marks_after = rw c.if-k-eq3.true }
 
 pub bounds-marks-b-2 : goal.bounds-marks-b-2
 bounds-marks-b-2 c = let w = length-set c.args.marks.now c.args.b c.args.n in search rules
 
 pub returns : goal.returns
-returns c = (closed-once c.if-k-eq3.false refl, rw (ne_eqb _ _ c.if-k-eq3.false))
+returns c = record { closed_as = closed-once c.if-k-eq3.false refl; marks_after = rw (ne_eqb _ _ c.if-k-eq3.false) }

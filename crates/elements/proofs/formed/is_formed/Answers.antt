@@ -23,16 +23,16 @@ pub ush_formed-requires : goal.ush_formed-requires
 ush_formed-requires c = (c.requires.fields (rw c.in-Ush.is)).marks
 
 pub value_formed-requires : goal.value_formed-requires
-value_formed-requires c = ((c.requires.fields (rw c.in-Usr.is)).marks, (omega arith, omega arith))
+value_formed-requires c = record { marked = (c.requires.fields (rw c.in-Usr.is)).marks; le_p = (omega arith, omega arith) }
 
 pub ust_formed-requires : goal.ust_formed-requires
 ust_formed-requires c = (c.requires.fields (rw c.in-Ust.is)).marks
 
 pub single-requires : goal.single-requires
-single-requires c = ((c.requires.fields (rw c.in-Usb.is)).marks, (omega arith, omega arith))
+single-requires c = record { marked = (c.requires.fields (rw c.in-Usb.is)).marks; le_p = (omega arith, omega arith) }
 
 pub single_reference-requires : goal.single_reference-requires
-single_reference-requires c = ((c.requires.fields (rw c.in-Usx.is)).marks, (omega arith, omega arith))
+single_reference-requires c = record { marked = (c.requires.fields (rw c.in-Usx.is)).marks; le_p = (omega arith, omega arith) }
 
 pub usy_formed-requires : goal.usy_formed-requires
 usy_formed-requires c = (c.requires.fields (rw c.in-Usy.is)).marks

@@ -6,7 +6,7 @@ use borrow.Author.Rules.{rules}
 use Rattle.groups.proofs.calls.message_like.Goals as goal
 
 pub find-requires : goal.find-requires
-find-requires c = let w = begun-fits c.args.s.now c.begin.ensures c.in-Ready.is in (c.table.ensures, (w.0, (w.1, c.requires)))
+find-requires c = let w = begun-fits c.args.s.now c.begin.ensures c.in-Ready.is in record { table = c.table.ensures; t = w.0; s_len_bound = (w.1, c.requires) }
 
 pub returns-in-Refused : goal.returns-in-Refused
 returns-in-Refused c = named-refused c.args.s.now (content c.args.other c.args.message.now) [] [] c.begin.ensures c.in-Refused.is c.refusal.ensures

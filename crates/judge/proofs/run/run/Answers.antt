@@ -11,7 +11,7 @@ pub loop-f-init : goal.loop-f-init
 loop-f-init c = looping-start c.requires.fresh (refl, refl, refl) c.unread-st.ensures
 
 pub next_section-requires : goal.next_section-requires
-next_section-requires c = (c.requires.table, between-so c.loop-f.invariant c.requires.fresh.fits)
+next_section-requires c = record { table = c.requires.table; between = between-so c.loop-f.invariant c.requires.fresh.fits }
 
 pub returns-in-Stop : goal.returns-in-Stop
 returns-in-Stop c = walked-not c.args.s.now (stopped c.loop-f.invariant.walks c.next_section.new.heads c.next_section.new.names c.next_section.new.slots c.next_section.new.rows.0 _ c.in-Stop.is (c.next_section.ensures.by_index _ c.loop-f.invariant.walks)) c.refusal.ensures

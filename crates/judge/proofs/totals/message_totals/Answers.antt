@@ -7,10 +7,10 @@ use borrow.Author.Rules.{rules}
 use Rattle.judge.proofs.totals.message_totals.Goals as goal
 
 pub find-requires : goal.find-requires
-find-requires c = let w = begun-fits c.args.s.now c.begin.ensures c.in-Ready.is in (c.table-t.ensures, (w.0, (w.1, refl)))
+find-requires c = let w = begun-fits c.args.s.now c.begin.ensures c.in-Ready.is in record { table = c.table-t.ensures; t = w.0; s_len_bound = (w.1, refl) }
 
 pub returns-in-Refused : goal.returns-in-Refused
-returns-in-Refused c = totals-promised (totals_of c.args.s.now c.args.reference.now) (totals-refused c.args.s.now c.args.reference.now c.begin.ensures c.in-Refused.is c.refusal.ensures) tt
+returns-in-Refused c = let both = totals-promised (totals_of c.args.s.now c.args.reference.now) (totals-refused c.args.s.now c.args.reference.now c.begin.ensures c.in-Refused.is c.refusal.ensures) tt in record { value = both.0; result_value = both.1.0; result_value_2 = both.1.1.0; light = both.1.1.1 }
 
 pub returns-in-Ready : goal.returns-in-Ready
-returns-in-Ready c = totals-promised (totals_of c.args.s.now c.args.reference.now) (c.totalled.ensures ∙ totals-plain c.args.s.now c.args.reference.now c.find.result c.find.new.rows.0 c.begin.ensures c.in-Ready.is (c.find.ensures)) (subst Light (sym c.totalled.ensures) (totals-light _ _ _ _ c.find.result c.find.new.rows.0 c.find.ensures))
+returns-in-Ready c = let both = totals-promised (totals_of c.args.s.now c.args.reference.now) (c.totalled.ensures ∙ totals-plain c.args.s.now c.args.reference.now c.find.result c.find.new.rows.0 c.begin.ensures c.in-Ready.is (c.find.ensures)) (subst Light (sym c.totalled.ensures) (totals-light _ _ _ _ c.find.result c.find.new.rows.0 c.find.ensures)) in record { value = both.0; result_value = both.1.0; result_value_2 = both.1.1.0; light = both.1.1.1 }

@@ -7,4 +7,4 @@ use borrow.Author.Rules.{rules}
 use Rattle.lines.proofs.seals.put_octets.Goals as goal
 
 pub returns : goal.returns
-returns c = (weaving-end (weaving-put (weaving-put (weaving-start c.args.out.now c.args.at (octets " octets " ∷ decimal_of c.args.n ∷ [])) c.put-a.ensures) c.put_number.ensures.laid), omega (arith, c.put-a.ensures.place, c.put_number.ensures.upper_bound))
+returns c = record { laid = weaving-end (weaving-put (weaving-put (weaving-start c.args.out.now c.args.at (octets " octets " ∷ decimal_of c.args.n ∷ [])) c.put-a.ensures) c.put_number.ensures.laid); upper_bound = omega (arith, c.put-a.ensures.place, c.put_number.ensures.upper_bound) }

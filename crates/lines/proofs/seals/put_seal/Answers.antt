@@ -7,4 +7,4 @@ use borrow.Author.Rules.{rules}
 use Rattle.lines.proofs.seals.put_seal.Goals as goal
 
 pub returns : goal.returns
-returns c = (weaving-end (weaving-put (weaving-put (weaving-put (weaving-put (weaving-start c.args.out.now c.args.at (octets "seal " ∷ name_at c.args.y.service c.args.s.now c.args.start 2 ∷ octets " scope " ∷ name_at c.args.y.service c.args.s.now c.args.start 3 ∷ [])) c.put-a.ensures) c.put_name-b.ensures.laid) c.put-c.ensures) c.put_name.ensures.laid), omega (arith, c.put-a.ensures.place, c.put_name-b.ensures.upper_bound, c.put-c.ensures.place, c.put_name.ensures.upper_bound))
+returns c = record { laid = weaving-end (weaving-put (weaving-put (weaving-put (weaving-put (weaving-start c.args.out.now c.args.at (octets "seal " ∷ name_at c.args.y.service c.args.s.now c.args.start 2 ∷ octets " scope " ∷ name_at c.args.y.service c.args.s.now c.args.start 3 ∷ [])) c.put-a.ensures) c.put_name-b.ensures.laid) c.put-c.ensures) c.put_name.ensures.laid); upper_bound = omega (arith, c.put-a.ensures.place, c.put_name-b.ensures.upper_bound, c.put-c.ensures.place, c.put_name.ensures.upper_bound) }

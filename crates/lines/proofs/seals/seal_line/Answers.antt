@@ -8,7 +8,7 @@ use borrow.Author.Rules.{rules}
 use Rattle.lines.proofs.seals.seal_line.Goals as goal
 
 pub put_covered-b-requires : goal.put_covered-b-requires
-put_covered-b-requires c = (c.requires.table, (c.requires.near, (c.requires.end_bound.0, omega (arith, c.put_seal-a.ensures.upper_bound, c.requires.end_bound.2))))
+put_covered-b-requires c = record { table = c.requires.table; near = c.requires.near; end_bound = (c.requires.end_bound.0, omega (arith, c.put_seal-a.ensures.upper_bound, c.requires.end_bound.2)) }
 
 pub returns : goal.returns
-returns c = (weaving-end (weaving-put (weaving-put (weaving-put (weaving-start c.args.out.now c.args.at (seal_words (name_at c.args.y.service c.args.s.now c.args.start 2) (name_at c.args.y.service c.args.s.now c.args.start 3) ∷ covered_words (name_at c.args.y.service c.args.s.now c.args.start 3) (one_at c.args.c c.args.start c.args.end) (two_at c.args.y.service c.args.s.now c.args.rows.now c.args.c c.args.start) ∷ feed ∷ [])) c.put_seal-a.ensures.laid) c.put_covered-b.ensures.laid) c.put.ensures), omega (arith, c.put_seal-a.ensures.upper_bound, c.put_covered-b.ensures.upper_bound, c.put.ensures.place))
+returns c = record { laid = weaving-end (weaving-put (weaving-put (weaving-put (weaving-start c.args.out.now c.args.at (seal_words (name_at c.args.y.service c.args.s.now c.args.start 2) (name_at c.args.y.service c.args.s.now c.args.start 3) ∷ covered_words (name_at c.args.y.service c.args.s.now c.args.start 3) (one_at c.args.c c.args.start c.args.end) (two_at c.args.y.service c.args.s.now c.args.rows.now c.args.c c.args.start) ∷ feed ∷ [])) c.put_seal-a.ensures.laid) c.put_covered-b.ensures.laid) c.put.ensures); upper_bound = omega (arith, c.put_seal-a.ensures.upper_bound, c.put_covered-b.ensures.upper_bound, c.put.ensures.place) }

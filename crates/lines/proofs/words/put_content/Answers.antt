@@ -19,4 +19,4 @@ pub loop-b-preserved : goal.loop-b-preserved
 loop-b-preserved c = (contenting-on c.loop-b.invariant.0 c.next_octet.ensures c.in-Octet.is c.store.ensures, search rules)
 
 pub returns-in-Over : goal.returns-in-Over
-returns-in-Over c = contenting-end c.loop-b.invariant.0 c.next_octet.ensures c.in-Over.is
+returns-in-Over c = let both = contenting-end c.loop-b.invariant.0 c.next_octet.ensures c.in-Over.is in record { laid = both.0; upper_bound = both.1 }

@@ -9,13 +9,13 @@ use Rattle.listing.specs.ListingLaws.{Reporting, reporting-start, passed-near, r
 use Rattle.listing.proofs.text.lay_among.Goals as goal
 
 pub accepted_line-p-requires : goal.accepted_line-p-requires
-accepted_line-p-requires c = (c.requires.table, c.requires.fresh.short)
+accepted_line-p-requires c = record { table = c.requires.table; s_len_bound = c.requires.fresh.short }
 
 pub loop-f-init : goal.loop-f-init
 loop-f-init c = reporting-start c.requires.fresh c.requires.marks_len c.unread-st.ensures
 
 pub next_section-requires : goal.next_section-requires
-next_section-requires c = (c.requires.table, between-so c.loop-f.invariant.looping c.requires.fresh.fits)
+next_section-requires c = record { table = c.requires.table; between = between-so c.loop-f.invariant.looping c.requires.fresh.fits }
 
 pub shape_of-marks-in-Stop : goal.shape_of-marks-in-Stop
 shape_of-marks-in-Stop c = c.next_section.ensures.marks_len ∙ sym c.requires.marks_len.0
@@ -36,7 +36,7 @@ pub returns-in-Over : goal.returns-in-Over
 returns-in-Over c = lays-told c.loop-f.invariant c.accepted_line-p.ensures.laid c.requires.fresh.fits (read_all c.loop-f.invariant.looping.walks c.next_section.new.heads c.next_section.new.names c.next_section.new.slots c.next_section.new.rows.0 _ c.in-Over.is (c.next_section.ensures.by_index _ c.loop-f.invariant.looping.walks))
 
 pub put_section-p-requires : goal.put_section-p-requires
-put_section-p-requires c = (c.requires.table, (c.requires.fresh.short, omega (arith, c.loop-f.invariant.near, starts c.loop-f.invariant.looping.walks c.next_section.new.heads c.next_section.new.names c.next_section.new.slots c.next_section.new.rows.0 _ c.in-On.is (c.next_section.ensures.by_index _ c.loop-f.invariant.looping.walks), c.requires.fresh.short, c.accepted_line-p.ensures.upper_bound), passed-near c.loop-f.invariant.looping.walks (passed c.loop-f.invariant.looping.walks c.next_section.new.heads c.next_section.new.names c.next_section.new.slots c.next_section.new.rows.0 _ c.in-On.is (c.next_section.ensures.by_index _ c.loop-f.invariant.looping.walks)) c.requires.fresh.short))
+put_section-p-requires c = record { table = c.requires.table; s_len_bound = (c.requires.fresh.short, omega (arith, c.loop-f.invariant.near, starts c.loop-f.invariant.looping.walks c.next_section.new.heads c.next_section.new.names c.next_section.new.slots c.next_section.new.rows.0 _ c.in-On.is (c.next_section.ensures.by_index _ c.loop-f.invariant.looping.walks), c.requires.fresh.short, c.accepted_line-p.ensures.upper_bound), passed-near c.loop-f.invariant.looping.walks (passed c.loop-f.invariant.looping.walks c.next_section.new.heads c.next_section.new.names c.next_section.new.slots c.next_section.new.rows.0 _ c.in-On.is (c.next_section.ensures.by_index _ c.loop-f.invariant.looping.walks)) c.requires.fresh.short) }
 
 pub loop-f-smaller : goal.loop-f-smaller
 loop-f-smaller c = nearer c.loop-f.invariant.looping.walks c.next_section.new.heads c.next_section.new.names c.next_section.new.slots c.next_section.new.rows.0 _ c.in-On.is (c.next_section.ensures.by_index _ c.loop-f.invariant.looping.walks)

@@ -6,7 +6,7 @@ use borrow.Author.Rules.{rules}
 use Rattle.message.proofs.steps.claimed_in.Goals as goal
 
 pub number_in-requires : goal.number_in-requires
-number_in-requires c = (c.requires, (omega arith, omega arith, sym c.digits.ensures ∙ c.if-digits.true))
+number_in-requires c = record { marked = c.requires; le_p = (omega arith, omega arith, sym c.digits.ensures ∙ c.if-digits.true) }
 
 pub returns-then-digits : goal.returns-then-digits
 returns-then-digits c =

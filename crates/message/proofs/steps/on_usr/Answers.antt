@@ -4,19 +4,19 @@ use borrow.Author.Rules.{rules}
 use Rattle.message.proofs.steps.on_usr.Goals as goal
 
 pub returns-in-Certificate : goal.returns-in-Certificate
-returns-in-Certificate c = (usr-certificate c.args.m c.args.heads.now c.in_header.result c.in_header.new.heads.0 c.in-Certificate.is c.in_header.ensures.by_index, c.in_header.ensures.heads_len)
+returns-in-Certificate c = record { by_index = usr-certificate c.args.m c.args.heads.now c.in_header.result c.in_header.new.heads.0 c.in-Certificate.is c.in_header.ensures.by_index; heads_len = c.in_header.ensures.heads_len }
 
 pub returns-in-Trailer : goal.returns-in-Trailer
-returns-in-Trailer c = (usr-trailer c.requires.roomy c.in-Trailer.is c.in_trailer.ensures, c.requires.segments_bound.1)
+returns-in-Trailer c = record { by_index = usr-trailer c.requires.roomy c.in-Trailer.is c.in_trailer.ensures; heads_len = c.requires.segments_bound.1 }
 
 pub returns-in-Opened : goal.returns-in-Opened
-returns-in-Opened c = (usr-idle c.requires.roomy _ c.in-Opened.is (λ S. refl), c.requires.segments_bound.1)
+returns-in-Opened c = record { by_index = usr-idle c.requires.roomy _ c.in-Opened.is (λ S. refl); heads_len = c.requires.segments_bound.1 }
 
 pub returns-in-Header : goal.returns-in-Header
-returns-in-Header c = (usr-idle c.requires.roomy _ c.in-Header.is (λ S. refl), c.requires.segments_bound.1)
+returns-in-Header c = record { by_index = usr-idle c.requires.roomy _ c.in-Header.is (λ S. refl); heads_len = c.requires.segments_bound.1 }
 
 pub returns-in-Body : goal.returns-in-Body
-returns-in-Body c = (usr-idle c.requires.roomy _ c.in-Body.is (λ S. refl), c.requires.segments_bound.1)
+returns-in-Body c = record { by_index = usr-idle c.requires.roomy _ c.in-Body.is (λ S. refl); heads_len = c.requires.segments_bound.1 }
 
 pub returns-in-Ack : goal.returns-in-Ack
-returns-in-Ack c = (usr-idle c.requires.roomy _ c.in-Ack.is (λ S. refl), c.requires.segments_bound.1)
+returns-in-Ack c = record { by_index = usr-idle c.requires.roomy _ c.in-Ack.is (λ S. refl); heads_len = c.requires.segments_bound.1 }

@@ -7,4 +7,4 @@ use Rattle.syntax.specs.CuttingLaws.{slice-take}
 use Rattle.ranges.proofs.scopes.own_part.Goals as goal
 
 pub returns : goal.returns
-returns c = (sym (slice-take c.args.start c.args.end c.args.s.now), refl)
+returns c = record { result_value = sym (slice-take c.args.start c.args.end c.args.s.now); ref_ptr_value = refl }

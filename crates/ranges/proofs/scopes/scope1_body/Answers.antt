@@ -13,7 +13,7 @@ pub own_part-requires : goal.own_part-requires
 own_part-requires c = let w = parts-inside (length c.args.s.now) c.in-Of.is c.scope1_places.ensures.parts_inside in (w.2, w.3)
 
 pub returns-in-Of : goal.returns-in-Of
-returns-in-Of c = (part-octets c.args.s.now (body_part (scope1_of c.args.s.now c.args.message.now c.args.header.now)) (body-part (scope1_of c.args.s.now c.args.message.now c.args.header.now) (ap told_parts (sym c.in-Of.is) ∙ c.scope1_places.ensures.result_value)) c.own_part.ensures.result_value, part_placed c.args.s.now (body_part (scope1_of c.args.s.now c.args.message.now c.args.header.now)) (body-part (scope1_of c.args.s.now c.args.message.now c.args.header.now) (ap told_parts (sym c.in-Of.is) ∙ c.scope1_places.ensures.result_value)) c.args.s.ref_ptr.1 c.own_part.ensures.ref_ptr_value)
+returns-in-Of c = record { result_value = part-octets c.args.s.now (body_part (scope1_of c.args.s.now c.args.message.now c.args.header.now)) (body-part (scope1_of c.args.s.now c.args.message.now c.args.header.now) (ap told_parts (sym c.in-Of.is) ∙ c.scope1_places.ensures.result_value)) c.own_part.ensures.result_value; ref_ptr_value = part_placed c.args.s.now (body_part (scope1_of c.args.s.now c.args.message.now c.args.header.now)) (body-part (scope1_of c.args.s.now c.args.message.now c.args.header.now) (ap told_parts (sym c.in-Of.is) ∙ c.scope1_places.ensures.result_value)) c.args.s.ref_ptr.1 c.own_part.ensures.ref_ptr_value }
 
 pub returns-in-Refused : goal.returns-in-Refused
-returns-in-Refused c = (part-octets c.args.s.now (body_part (scope1_of c.args.s.now c.args.message.now c.args.header.now)) (body-part (scope1_of c.args.s.now c.args.message.now c.args.header.now) (ap told_parts (sym c.in-Refused.is) ∙ c.scope1_places.ensures.result_value)) c.own_part-in-Refused.ensures.result_value, part_placed c.args.s.now (body_part (scope1_of c.args.s.now c.args.message.now c.args.header.now)) (body-part (scope1_of c.args.s.now c.args.message.now c.args.header.now) (ap told_parts (sym c.in-Refused.is) ∙ c.scope1_places.ensures.result_value)) c.args.s.ref_ptr.1 c.own_part-in-Refused.ensures.ref_ptr_value)
+returns-in-Refused c = record { result_value = part-octets c.args.s.now (body_part (scope1_of c.args.s.now c.args.message.now c.args.header.now)) (body-part (scope1_of c.args.s.now c.args.message.now c.args.header.now) (ap told_parts (sym c.in-Refused.is) ∙ c.scope1_places.ensures.result_value)) c.own_part-in-Refused.ensures.result_value; ref_ptr_value = part_placed c.args.s.now (body_part (scope1_of c.args.s.now c.args.message.now c.args.header.now)) (body-part (scope1_of c.args.s.now c.args.message.now c.args.header.now) (ap told_parts (sym c.in-Refused.is) ∙ c.scope1_places.ensures.result_value)) c.args.s.ref_ptr.1 c.own_part-in-Refused.ensures.ref_ptr_value }

@@ -10,7 +10,7 @@ pub returns-then-m-gt65535 : goal.returns-then-m-gt65535
 returns-then-m-gt65535 c = c.differs-then-m-gt65535.ensures ∙ check-long (measured c.args.form c.args.s.now c.in-Of.is c.measure.ensures) (sym c.sign_lost.ensures ∙ c.if-sign_lost.false) c.args.register.now c.if-m-gt65535.true
 
 pub fill-requires : goal.fill-requires
-fill-requires c = (c.requires.table, (c.requires.begins_at, ((measured c.args.form c.args.s.now c.in-Of.is c.measure.ensures), (sym c.sign_lost.ensures ∙ c.if-sign_lost.false))))
+fill-requires c = record { table = c.requires.table; begins_at = c.requires.begins_at; measured = ((measured c.args.form c.args.s.now c.in-Of.is c.measure.ensures), (sym c.sign_lost.ensures ∙ c.if-sign_lost.false)) }
 
 pub returns-then-content_is : goal.returns-then-content_is
 returns-then-content_is c = check-same (measured c.args.form c.args.s.now c.in-Of.is c.measure.ensures) (sym c.sign_lost.ensures ∙ c.if-sign_lost.false) c.args.register.now c.if-m-gt65535.false c.if-m-gt65535.false c.fill.ensures c.part.ensures c.content_is.ensures c.if-content_is.true

@@ -11,7 +11,7 @@ pub loop-f-init : goal.loop-f-init
 loop-f-init c = registering-start c.requires.fresh c.requires.marks_len c.unread-st.ensures c.none_from-x.ensures
 
 pub next_section-requires : goal.next_section-requires
-next_section-requires c = (c.requires.table, between-so c.loop-f.invariant.looping c.requires.fresh.fits)
+next_section-requires c = record { table = c.requires.table; between = between-so c.loop-f.invariant.looping c.requires.fresh.fits }
 
 pub shape_of-marks-in-Stop : goal.shape_of-marks-in-Stop
 shape_of-marks-in-Stop c = c.next_section.ensures.marks_len ∙ sym c.requires.marks_len.0

@@ -4,7 +4,7 @@ use borrow.Author.Rules.{rules}
 use Rattle.returns.proofs.sums.add_file.Goals as goal
 
 pub add_between-requires : goal.add_between-requires
-add_between-requires c = let w = begun-fits c.args.s.now c.begin.ensures c.in-Ready.is in (c.table-t.ensures, (w.0, (w.1, c.requires)))
+add_between-requires c = let w = begun-fits c.args.s.now c.begin.ensures c.in-Ready.is in record { table = c.table-t.ensures; t = w.0; s_len_bound = (w.1, c.requires) }
 
 pub concluded-requires : goal.concluded-requires
 concluded-requires c = c.add_between.ensures.runs

@@ -9,4 +9,4 @@ pub sum_message-requires : goal.sum_message-requires
 sum_message-requires c = starts-handed c.args (search rules) c.handed_in.ensures
 
 pub returns : goal.returns
-returns c = sum-promised (message_old_sum_of c.args.s.now c.args.message.now c.args) (c.sum_message.ensures (handed_in c.args) (held-handed c.args (search rules)) c.handed_in.ensures)
+returns c = let both = sum-promised (message_old_sum_of c.args.s.now c.args.message.now c.args) (c.sum_message.ensures (handed_in c.args) (held-handed c.args (search rules)) c.handed_in.ensures) in record { value = both.0; result_value = both.1 }

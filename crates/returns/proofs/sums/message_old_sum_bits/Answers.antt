@@ -8,4 +8,4 @@ pub sum_message-requires : goal.sum_message-requires
 sum_message-requires c = starts-bits c.args c.handed_bits.ensures
 
 pub returns : goal.returns
-returns c = sum-promised (message_old_sum_bits_of c.args.s.now c.args.message.now c.args) (c.sum_message.ensures (handed_bits c.args) (held-bits c.args) c.handed_bits.ensures)
+returns c = let both = sum-promised (message_old_sum_bits_of c.args.s.now c.args.message.now c.args) (c.sum_message.ensures (handed_bits c.args) (held-bits c.args) c.handed_bits.ensures) in record { value = both.0; result_value = both.1 }

@@ -4,7 +4,7 @@ use borrow.Author.Rules.{rules}
 use Rattle.returns.proofs.sums.sum_message.Goals as goal
 
 pub add_between-requires : goal.add_between-requires
-add_between-requires c = let w = as-here c.args.s.now c.args.message.now c.message_named.new.t c.message_named.new.rows.0 c.message_named.ensures c.in-Message.is in (w.0, (w.1.fits, (short-so c.args.s.now w.1.i w.1.read, c.requires)))
+add_between-requires c = let w = as-here c.args.s.now c.args.message.now c.message_named.new.t c.message_named.new.rows.0 c.message_named.ensures c.in-Message.is in record { table = w.0; t = w.1.fits; s_len_bound = (short-so c.args.s.now w.1.i w.1.read, c.requires) }
 
 pub concluded-requires : goal.concluded-requires
 concluded-requires c = c.add_between.ensures.runs

@@ -18,7 +18,7 @@ pub put_trailer-p4-requires : goal.put_trailer-p4-requires
 put_trailer-p4-requires c = let h = part-short c.args.s.now 0 c.args.c.heads c.part.ensures c.requires.s_len_bound.0 in let k = part-short c.args.s.now c.args.c.heads c.args.c.unt c.part-2.ensures c.requires.s_len_bound.0 in search rules
 
 pub put_rest-requires : goal.put_rest-requires
-put_rest-requires c = let h = part-short c.args.s.now 0 c.args.c.heads c.part.ensures c.requires.s_len_bound.0 in let k = part-short c.args.s.now c.args.c.heads c.args.c.unt c.part-2.ensures c.requires.s_len_bound.0 in (c.requires.table, (sealed-room c.put-p1.ensures.place c.put_header-p2.ensures.upper_bound c.put-p3.ensures.place c.put_trailer-p4.ensures.upper_bound h k, c.requires.s_len_bound.0, c.requires.s_len_bound.1))
+put_rest-requires c = let h = part-short c.args.s.now 0 c.args.c.heads c.part.ensures c.requires.s_len_bound.0 in let k = part-short c.args.s.now c.args.c.heads c.args.c.unt c.part-2.ensures c.requires.s_len_bound.0 in record { table = c.requires.table; at_bound = (sealed-room c.put-p1.ensures.place c.put_header-p2.ensures.upper_bound c.put-p3.ensures.place c.put_trailer-p4.ensures.upper_bound h k, c.requires.s_len_bound.0, c.requires.s_len_bound.1) }
 
 pub returns : goal.returns
 returns c = (weaving-end (weaving-put (weaving-put (weaving-put (weaving-put (weaving-put (weaving-start c.args.out.now 0 (sealed_pieces c.args.y.version c.args.y.service c.args.s.now c.args.c c.args.reference.now c.args.filter c.args.letters.now)) (laid_same c.part.ensures c.put-p1.ensures)) c.put_header-p2.ensures.laid) (laid_same c.part-2.ensures c.put-p3.ensures)) c.put_trailer-p4.ensures.laid) c.put_rest.ensures))

@@ -10,7 +10,7 @@ pub loop-f-init : goal.loop-f-init
 loop-f-init c = spanning-start c.requires.fresh c.requires.marks_len c.unread-st.ensures
 
 pub next_section-requires : goal.next_section-requires
-next_section-requires c = (c.requires.table, between-so c.loop-f.invariant.looping c.requires.fresh.fits)
+next_section-requires c = record { table = c.requires.table; between = between-so c.loop-f.invariant.looping c.requires.fresh.fits }
 
 pub shape_of-marks-in-Stop : goal.shape_of-marks-in-Stop
 shape_of-marks-in-Stop c = c.next_section.ensures.marks_len ∙ sym c.requires.marks_len.0

@@ -5,4 +5,4 @@ use borrow.Author.Rules.{rules}
 use Rattle.spans.proofs.span.span_small.Goals as goal
 
 pub span_among-requires : goal.span_among-requires
-span_among-requires c = let l = c.requires.s_len_bound in (c.requires.table, (fresh-tables 512 763 (omega arith) refl refl c.requires.t (omega (arith, l)) (omega (arith, l)), (refl, refl, refl)))
+span_among-requires c = let l = c.requires.s_len_bound in record { table = c.requires.table; fresh = fresh-tables 512 763 (omega arith) refl refl c.requires.t (omega (arith, l)) (omega (arith, l)); marks_len = (refl, refl, refl) }

@@ -15,8 +15,7 @@ returns-then-not-formed_in c =
 
 pub step_in-requires : goal.step_in-requires
 step_in-requires c =
-    let g = c in
-    (g.requires.ready.kind, (g.requires.ready.noted, (g.requires.ready.held.roomy, ((busy-room g.requires.ready g.requires.phase_value.0, g.requires.ready.held.long), (busy-passed g.requires.ready g.requires.phase_value.0 c.may_come.ensures (not_from_true _ c.if-not-may_come.false) c.formed_in.ensures (not_from_true _ c.if-not-formed_in.false), g.requires.sought)))))
+    let g = c in record { k_value = g.requires.ready.kind; fields = g.requires.ready.noted; roomy = g.requires.ready.held.roomy; segments_bound = (busy-room g.requires.ready g.requires.phase_value.0, g.requires.ready.held.long); m_value = busy-passed g.requires.ready g.requires.phase_value.0 c.may_come.ensures (not_from_true _ c.if-not-may_come.false) c.formed_in.ensures (not_from_true _ c.if-not-formed_in.false); sought = g.requires.sought }
 
 pub returns-in-Bad : goal.returns-in-Bad
 returns-in-Bad c =

@@ -7,13 +7,11 @@ use Rattle.turns.proofs.state.on_idle.Goals as goal
 
 pub on_unh-requires : goal.on_unh-requires
 on_unh-requires c =
-    let g = c in
-    (g.requires.table, (ready_at g.requires.ready c.in-Unh.is, g.requires.phase_value))
+    let g = c in record { table = g.requires.table; ready = ready_at g.requires.ready c.in-Unh.is; phase_value = g.requires.phase_value }
 
 pub on_unz-requires : goal.on_unz-requires
 on_unz-requires c =
-    let g = c in
-    (ready_at g.requires.ready c.in-Unz.is, g.requires.phase_value)
+    let g = c in record { ready = ready_at g.requires.ready c.in-Unz.is; phase_value = g.requires.phase_value }
 
 pub returns-in_default : goal.returns-in_default
 returns-in_default c =

@@ -17,15 +17,14 @@ returns-then-not-unh_formed c =
     unh-bad g.args.y g.args.s.now g.args.st g.args.heads.now g.args.names.now g.args.slots.now g.args.at g.args.next g.args.f g.args.marks.now g.requires.ready g.requires.phase_value (formed-at _ (asked_at g.args.y.service g.args.s.now g.args.at) g.requires.ready.kind Unh refl c.unh_formed.ensures) (not_from_false _ c.if-not-unh_formed.true) c.stopped.ensures
 
 pub field-x-requires : goal.field-x-requires
-field-x-requires c = ((c.requires.ready.noted refl).marks, (omega arith, omega arith, omega arith))
+field-x-requires c = record { marked = (c.requires.ready.noted refl).marks; le_p = (omega arith, omega arith, omega arith) }
 
 pub offer-requires : goal.offer-requires
 offer-requires c =
-    let g = c in
-    (g.requires.ready.held.indexed, unh-name g.args.y g.args.s.now g.args.st g.args.heads.now g.args.names.now g.args.slots.now g.args.at g.args.next g.args.f g.args.marks.now g.requires.ready g.requires.phase_value (formed-at _ (asked_at g.args.y.service g.args.s.now g.args.at) g.requires.ready.kind Unh refl c.unh_formed.ensures) (not_from_true _ c.if-not-unh_formed.false) c.bare-z.result.now c.field-x.ensures c.bare-z.ensures)
+    let g = c in record { indexed = g.requires.ready.held.indexed; x_len_bound = unh-name g.args.y g.args.s.now g.args.st g.args.heads.now g.args.names.now g.args.slots.now g.args.at g.args.next g.args.f g.args.marks.now g.requires.ready g.requires.phase_value (formed-at _ (asked_at g.args.y.service g.args.s.now g.args.at) g.requires.ready.kind Unh refl c.unh_formed.ensures) (not_from_true _ c.if-not-unh_formed.false) c.bare-z.result.now c.field-x.ensures c.bare-z.ensures }
 
 pub subset_in-requires : goal.subset_in-requires
-subset_in-requires c = let g = c in (g.requires.table, (g.requires.ready.noted refl).marks)
+subset_in-requires c = let g = c in record { table = g.requires.table; marked = (g.requires.ready.noted refl).marks }
 
 pub stretch_in-requires : goal.stretch_in-requires
 stretch_in-requires c = (c.requires.ready.marks, omega arith, omega arith)

@@ -31,8 +31,7 @@ returns-then-not-is_repeated c =
 
 pub number_in-requires : goal.number_in-requires
 number_in-requires c =
-    let g = c in
-    ((g.requires.ready.noted refl).marks, (omega arith, omega arith, unz-six g.args.y g.args.s.now g.args.st g.args.heads.now g.args.names.now g.args.slots.now g.args.at g.args.next g.args.f g.args.marks.now g.requires.ready g.requires.phase_value c.if-st-eq0.false (formed-at _ (asked_at g.args.y.service g.args.s.now g.args.at) g.requires.ready.kind Unz refl c.end_formed.ensures) (not_from_true _ c.if-not-end_formed.false)))
+    let g = c in record { marked = (g.requires.ready.noted refl).marks; le_p = (omega arith, omega arith, unz-six g.args.y g.args.s.now g.args.st g.args.heads.now g.args.names.now g.args.slots.now g.args.at g.args.next g.args.f g.args.marks.now g.requires.ready g.requires.phase_value c.if-st-eq0.false (formed-at _ (asked_at g.args.y.service g.args.s.now g.args.at) g.requires.ready.kind Unz refl c.end_formed.ensures) (not_from_true _ c.if-not-end_formed.false)) }
 
 pub returns-then-number_in-wide : goal.returns-then-number_in-wide
 returns-then-number_in-wide c =

@@ -7,16 +7,14 @@ use Rattle.turns.proofs.state.turn.Goals as goal
 
 pub on_unb-requires : goal.on_unb-requires
 on_unb-requires c =
-    let g = c in
-    (ready_at g.requires.ready c.in-Unb.is, (c.in-Start.is, g.requires.count_value c.in-Start.is))
+    let g = c in record { ready = ready_at g.requires.ready c.in-Unb.is; phase_value = (c.in-Start.is, g.requires.count_value c.in-Start.is) }
 
 pub on_unt-requires : goal.on_unt-requires
-on_unt-requires c = (ready_at c.requires.ready c.in-Unt.is, c.in-Busy.is)
+on_unt-requires c = record { ready = ready_at c.requires.ready c.in-Unt.is; phase_value = c.in-Busy.is }
 
 pub on_busy-requires : goal.on_busy-requires
 on_busy-requires c =
-    let g = c in
-    (g.requires.table, (g.requires.ready, ((c.in-Busy.is, (⊎_elim (λ e. rw (lives_at enum g.args.k 0 e).1) (⊎_elim (λ e. rw (lives_at enum g.args.k 1 e).1) (⊎_elim (λ e. rw (lives_at enum g.args.k 3 e).1) (⊎_elim (λ e. rw (lives_at enum g.args.k 4 e).1) (⊎_elim (λ e. rw (lives_at enum g.args.k 5 e).1) (⊎_elim (λ e. rw (lives_at enum g.args.k 6 e).1) (⊎_elim (λ e. rw (lives_at enum g.args.k 7 e).1) (⊎_elim (λ e. rw (lives_at enum g.args.k 8 e).1) (⊎_elim (λ e. rw (lives_at enum g.args.k 9 e).1) (⊎_elim (λ e. rw (lives_at enum g.args.k 10 e).1) (⊎_elim (λ e. rw (lives_at enum g.args.k 11 e).1) (⊎_elim (λ e. rw (lives_at enum g.args.k 12 e).1) (⊎_elim (λ e. rw (lives_at enum g.args.k 13 e).1) (⊎_elim (λ e. rw (lives_at enum g.args.k 14 e).1) (λ e. rw (lives_at enum g.args.k 15 e).1))))))))))))))) c.in-Unt.keys2), g.requires.sought c.in-Busy.is)))
+    let g = c in record { table = g.requires.table; ready = g.requires.ready; phase_value = (c.in-Busy.is, (⊎_elim (λ e. rw (lives_at enum g.args.k 0 e).1) (⊎_elim (λ e. rw (lives_at enum g.args.k 1 e).1) (⊎_elim (λ e. rw (lives_at enum g.args.k 3 e).1) (⊎_elim (λ e. rw (lives_at enum g.args.k 4 e).1) (⊎_elim (λ e. rw (lives_at enum g.args.k 5 e).1) (⊎_elim (λ e. rw (lives_at enum g.args.k 6 e).1) (⊎_elim (λ e. rw (lives_at enum g.args.k 7 e).1) (⊎_elim (λ e. rw (lives_at enum g.args.k 8 e).1) (⊎_elim (λ e. rw (lives_at enum g.args.k 9 e).1) (⊎_elim (λ e. rw (lives_at enum g.args.k 10 e).1) (⊎_elim (λ e. rw (lives_at enum g.args.k 11 e).1) (⊎_elim (λ e. rw (lives_at enum g.args.k 12 e).1) (⊎_elim (λ e. rw (lives_at enum g.args.k 13 e).1) (⊎_elim (λ e. rw (lives_at enum g.args.k 14 e).1) (λ e. rw (lives_at enum g.args.k 15 e).1))))))))))))))) c.in-Unt.keys2); sought = g.requires.sought c.in-Busy.is }
 
 pub returns-in_default : goal.returns-in_default
 returns-in_default c =

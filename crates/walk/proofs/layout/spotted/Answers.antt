@@ -16,7 +16,7 @@ pub bounds-rows-headers : goal.bounds-rows-headers
 bounds-rows-headers c = omega (arith, room-header _ _ c.in-Header.is c.requires)
 
 pub returns-then-usr : goal.returns-then-usr
-returns-then-usr c = stepped _ _ _ _ _ _ _ _ (c.in-Trailer.is ∙ ap InTrailer c.if-usr.true) (refl, refl)
+returns-then-usr c = let both = stepped _ _ _ _ _ _ _ _ (c.in-Trailer.is ∙ ap InTrailer c.if-usr.true) (refl, refl) in record { value = both.0; rows_after = both.1 }
 
 pub overflow_add-rows : goal.overflow_add-rows
 overflow_add-rows c = record { fits = omega (arith, room-trailer _ _ c.in-Trailer.is c.if-usr.false c.requires) }
@@ -31,21 +31,20 @@ pub trailed-requires : goal.trailed-requires
 trailed-requires c = room-trailer _ _ c.in-Trailer.is c.if-usr.false c.requires
 
 pub returns-in-Opened : goal.returns-in-Opened
-returns-in-Opened c = stepped _ _ _ _ _ _ _ _ c.in-Opened.is (c.opened.ensures c.args.x, refl)
+returns-in-Opened c = let both = stepped _ _ _ _ _ _ _ _ c.in-Opened.is (c.opened.ensures c.args.x, refl) in record { value = both.0; rows_after = both.1 }
 
 pub returns-after-usa-eq0 : goal.returns-after-usa-eq0
-returns-after-usa-eq0 c =
-    stepped _ _ _ _ _ _ _ _ c.in-Header.is
-    (c.headed.ensures, ⊎_elim (λ w. noted-row _ _ _ _ w.0.taken w.1) (λ w. kept_row _ _ _ _ w.0.left w.1) c.if-usa-eq0.branch)
+returns-after-usa-eq0 c = let both = stepped _ _ _ _ _ _ _ _ c.in-Header.is
+    (c.headed.ensures, ⊎_elim (λ w. noted-row _ _ _ _ w.0.taken w.1) (λ w. kept_row _ _ _ _ w.0.left w.1) c.if-usa-eq0.branch) in record { value = both.0; rows_after = both.1 }
 
 pub returns-in-Certificate : goal.returns-in-Certificate
-returns-in-Certificate c = stepped _ _ _ _ _ _ _ _ c.in-Certificate.is (c.headed-in-Certificate.ensures, refl)
+returns-in-Certificate c = let both = stepped _ _ _ _ _ _ _ _ c.in-Certificate.is (c.headed-in-Certificate.ensures, refl) in record { value = both.0; rows_after = both.1 }
 
 pub returns-in-Body : goal.returns-in-Body
-returns-in-Body c = stepped _ _ _ _ _ _ _ _ c.in-Body.is (c.bodied.ensures, refl)
+returns-in-Body c = let both = stepped _ _ _ _ _ _ _ _ c.in-Body.is (c.bodied.ensures, refl) in record { value = both.0; rows_after = both.1 }
 
 pub returns-in-Ack : goal.returns-in-Ack
-returns-in-Ack c = stepped _ _ _ _ _ _ _ _ c.in-Ack.is (c.bodied-in-Ack.ensures, refl)
+returns-in-Ack c = let both = stepped _ _ _ _ _ _ _ _ c.in-Ack.is (c.bodied-in-Ack.ensures, refl) in record { value = both.0; rows_after = both.1 }
 
 pub returns-else-usr : goal.returns-else-usr
-returns-else-usr c = stepped _ _ _ _ _ _ _ _ (c.in-Trailer.is ∙ ap InTrailer c.if-usr.false) (c.trailed.ensures, refl)
+returns-else-usr c = let both = stepped _ _ _ _ _ _ _ _ (c.in-Trailer.is ∙ ap InTrailer c.if-usr.false) (c.trailed.ensures, refl) in record { value = both.0; rows_after = both.1 }

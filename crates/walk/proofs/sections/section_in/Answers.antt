@@ -25,13 +25,13 @@ pub loop-i-init : goal.loop-i-init
 loop-i-init c = (refl, seeking-start)
 
 pub names_free-requires : goal.names_free-requires
-names_free-requires c = (c.requires.0, (let a = nameable-most c.args.s.now c.loop-at.at c.loop-at.st.message.headers in let b = headers-so c.requires.1 c.loop-at.invariant.so in search rules))
+names_free-requires c = record { table = c.requires.0; i_bound = (let a = nameable-most c.args.s.now c.loop-at.at c.loop-at.st.message.headers in let b = headers-so c.requires.1 c.loop-at.invariant.so in search rules) }
 
 pub loop-i-preserved : goal.loop-i-preserved
 loop-i-preserved c = (c.loop-i.invariant.0, seeking-on c.loop-i.invariant.1 c.loop-i-test.true c.names_free.ensures c.if-names_free.false)
 
 pub advance-requires : goal.advance-requires
-advance-requires c = (c.requires.0, (going-so c.requires.1 c.loop-at.invariant.so c.loop-at-test.true c.loop-at.invariant.marks, λ a k. let d = chosen c in sought c.args.y.service c.args.s.now c.loop-at.at c.loop-at.st.message c.loop-at.heads c.nameable-n.ensures d.0 d.1 k))
+advance-requires c = record { table = c.requires.0; going = going-so c.requires.1 c.loop-at.invariant.so c.loop-at-test.true c.loop-at.invariant.marks; sought = λ a k. let d = chosen c in sought c.args.y.service c.args.s.now c.loop-at.at c.loop-at.st.message c.loop-at.heads c.nameable-n.ensures d.0 d.1 k }
 
 pub shape_of-marks-in-Stop : goal.shape_of-marks-in-Stop
 shape_of-marks-in-Stop c = c.advance.ensures.marks_len ∙ sym c.requires.1.marks

@@ -12,4 +12,4 @@ pub loop-i-preserved : goal.loop-i-preserved
 loop-i-preserved c = (search (releasing-on, rules), search rules)
 
 pub returns : goal.returns
-returns c = (search (releasing-end, rules), search (releasing-most, rules))
+returns c = record { laid = search (releasing-end, rules); upper_bound = search (releasing-most, rules) }
