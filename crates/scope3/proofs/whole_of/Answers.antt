@@ -11,10 +11,10 @@ pub returns-in-Refused : goal.returns-in-Refused
 returns-in-Refused c = record { value = whole-unbegun c.args.s.now c.args.autack.now c.args.x c.begin.ensures c.in-Refused.is c.refusal.ensures; run_inside = tt }
 
 pub returns-in-Message : goal.returns-in-Message
-returns-in-Message c = let both = whole_here c.args.s.now c.args.autack.now c.args.x c.begin.ensures c.in-Ready.is c.part.ensures c.find.new.rows.0 _ c.table-t.ensures c.in-Message.is c.find.ensures c.is_referred.ensures c.whole_by.ensures in record { value = both.0; run_inside = both.1 }
+returns-in-Message c = let both = whole_here c.args.s.now c.args.autack.now c.args.x c.begin.ensures c.in-Ready.is c.part.ensures c.find.new.rows _ c.table-t.ensures c.in-Message.is c.find.ensures c.is_referred.ensures c.whole_by.ensures in record { value = both.0; run_inside = both.1 }
 
 pub returns-in-Missing : goal.returns-in-Missing
-returns-in-Missing c = record { value = whole-missing c.args.s.now c.args.autack.now c.args.x c.begin.ensures c.in-Ready.is c.part.ensures c.find.new.rows.0 c.in-Missing.is c.find.ensures c.missing.ensures; run_inside = tt }
+returns-in-Missing c = record { value = whole-missing c.args.s.now c.args.autack.now c.args.x c.begin.ensures c.in-Ready.is c.part.ensures c.find.new.rows c.in-Missing.is c.find.ensures c.missing.ensures; run_inside = tt }
 
 pub returns-in-Refused-find : goal.returns-in-Refused-find
-returns-in-Refused-find c = record { value = whole-refused c.args.s.now c.args.autack.now c.args.x c.begin.ensures c.in-Ready.is c.part.ensures c.find.new.rows.0 c.in-Refused-find.is c.find.ensures c.refusal-in-Refused-find.ensures; run_inside = tt }
+returns-in-Refused-find c = record { value = whole-refused c.args.s.now c.args.autack.now c.args.x c.begin.ensures c.in-Ready.is c.part.ensures c.find.new.rows c.in-Refused-find.is c.find.ensures c.refusal-in-Refused-find.ensures; run_inside = tt }

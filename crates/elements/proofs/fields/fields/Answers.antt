@@ -10,4 +10,4 @@ pub elements_from-requires : goal.elements_from-requires
 elements_from-requires c = record { table = c.requires.table; passed_as = (tag-behind c.requires.tag_at.0 c.pass_tag.ensures c.in-Behind.is, c.clear.ensures) }
 
 pub returns-in-Broken : goal.returns-in-Broken
-returns-in-Broken c = tag-broken c.clear.new.marks.0 c.requires.tag_at.0 c.pass_tag.ensures c.in-Broken.is c.clear.ensures.room
+returns-in-Broken c = tag-broken c.clear.new.marks c.requires.tag_at.0 c.pass_tag.ensures c.in-Broken.is c.clear.ensures.room

@@ -6,10 +6,10 @@ use borrow.Author.Rules.{rules}
 use Rattle.elements.proofs.formed.single_digits.Goals as goal
 
 pub returns-then-repeated : goal.returns-then-repeated
-returns-then-repeated c = closed-repeats (asked_at c.args.y.service c.args.s.now c.args.at) c.args.p (digits c.args.least c.args.most) (c.repeated.ensures ∙ sym (repeated-at _ _ _ _ c.requires.le_p.0)) c.if-repeated.true
+returns-then-repeated c = closed-repeats (asked_at c.args.y.service c.args.s.now c.args.at) c.args.p (digits c.args.least c.args.most) (c.repeated.ensures ∙ sym (repeated-at c.args.y.service c.args.s.now c.args.at c.args.p c.requires.le_p.0)) c.if-repeated.true
 
 pub returns-then-parts-gt1 : goal.returns-then-parts-gt1
-returns-then-parts-gt1 c = closed-many (asked_at c.args.y.service c.args.s.now c.args.at) c.args.p (digits c.args.least c.args.most) (c.repeated.ensures ∙ sym (repeated-at _ _ _ _ c.requires.le_p.0)) (c.parts.ensures ∙ sym (parts-at _ _ _ _ c.requires.le_p.0)) c.if-parts-gt1.true
+returns-then-parts-gt1 c = closed-many (asked_at c.args.y.service c.args.s.now c.args.at) c.args.p (digits c.args.least c.args.most) (c.repeated.ensures ∙ sym (repeated-at c.args.y.service c.args.s.now c.args.at c.args.p c.requires.le_p.0)) (c.parts.ensures ∙ sym (parts-at c.args.y.service c.args.s.now c.args.at c.args.p c.requires.le_p.0)) c.if-parts-gt1.true
 
 pub returns : goal.returns
-returns c = closed-go (asked_at c.args.y.service c.args.s.now c.args.at) c.args.p (digits c.args.least c.args.most) (c.repeated.ensures ∙ sym (repeated-at _ _ _ _ c.requires.le_p.0)) (c.parts.ensures ∙ sym (parts-at _ _ _ _ c.requires.le_p.0)) c.if-repeated.false c.if-parts-gt1.false c.digits.ensures
+returns c = closed-go (asked_at c.args.y.service c.args.s.now c.args.at) c.args.p (digits c.args.least c.args.most) (c.repeated.ensures ∙ sym (repeated-at c.args.y.service c.args.s.now c.args.at c.args.p c.requires.le_p.0)) (c.parts.ensures ∙ sym (parts-at c.args.y.service c.args.s.now c.args.at c.args.p c.requires.le_p.0)) c.if-repeated.false c.if-parts-gt1.false c.digits.ensures

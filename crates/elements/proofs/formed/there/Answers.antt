@@ -4,4 +4,4 @@ use borrow.Author.Rules.{rules}
 use Rattle.elements.proofs.formed.there.Goals as goal
 
 pub returns : goal.returns
-returns c = range-read _ _ _ _ _ c.requires.le_p.0 c.field.ensures not_empty c.not_empty.ensures
+returns c = range-read c.args.y.service c.args.s.now c.args.at c.args.p c.args.c c.requires.le_p.0 c.field.ensures not_empty c.not_empty.ensures

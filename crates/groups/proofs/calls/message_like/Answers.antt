@@ -12,10 +12,10 @@ pub returns-in-Refused : goal.returns-in-Refused
 returns-in-Refused c = named-refused c.args.s.now (content c.args.other c.args.message.now) [] [] c.begin.ensures c.in-Refused.is c.refusal.ensures
 
 pub returns-in-Message : goal.returns-in-Message
-returns-in-Message c = named_here c.args.s.now (content c.args.other c.args.message.now) c.begin.ensures c.in-Ready.is _ c.find.new.rows.0 c.table.ensures c.in-Message.is c.find.ensures
+returns-in-Message c = named_here c.args.s.now (content c.args.other c.args.message.now) c.begin.ensures c.in-Ready.is _ c.find.new.rows c.table.ensures c.in-Message.is c.find.ensures
 
 pub returns-in-Missing : goal.returns-in-Missing
-returns-in-Missing c = named-missing c.args.s.now (content c.args.other c.args.message.now) c.begin.ensures c.in-Ready.is [] c.find.new.rows.0 c.in-Missing.is c.find.ensures
+returns-in-Missing c = named-missing c.args.s.now (content c.args.other c.args.message.now) c.begin.ensures c.in-Ready.is [] c.find.new.rows c.in-Missing.is c.find.ensures
 
 pub returns-in-Refused-find : goal.returns-in-Refused-find
-returns-in-Refused-find c = named-not-read c.args.s.now (content c.args.other c.args.message.now) c.begin.ensures c.in-Ready.is [] c.find.new.rows.0 c.in-Refused-find.is c.find.ensures c.refusal-in-Refused-find.ensures
+returns-in-Refused-find c = named-not-read c.args.s.now (content c.args.other c.args.message.now) c.begin.ensures c.in-Ready.is [] c.find.new.rows c.in-Refused-find.is c.find.ensures c.refusal-in-Refused-find.ensures

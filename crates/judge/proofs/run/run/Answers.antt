@@ -14,13 +14,13 @@ pub next_section-requires : goal.next_section-requires
 next_section-requires c = record { table = c.requires.table; between = between-so c.loop-f.invariant c.requires.fresh.fits }
 
 pub returns-in-Stop : goal.returns-in-Stop
-returns-in-Stop c = walked-not c.args.s.now (stopped c.loop-f.invariant.walks c.next_section.new.heads c.next_section.new.names c.next_section.new.slots c.next_section.new.rows.0 _ c.in-Stop.is (c.next_section.ensures.by_index _ c.loop-f.invariant.walks)) c.refusal.ensures
+returns-in-Stop c = walked-not c.args.s.now (stopped c.loop-f.invariant.walks c.next_section.new.heads c.next_section.new.names c.next_section.new.slots c.next_section.new.rows _ c.in-Stop.is (c.next_section.ensures.by_index _ c.loop-f.invariant.walks)) c.refusal.ensures
 
 pub returns-in-Over : goal.returns-in-Over
-returns-in-Over c = sym (walked_whole c.args.s.now (read_all c.loop-f.invariant.walks c.next_section.new.heads c.next_section.new.names c.next_section.new.slots c.next_section.new.rows.0 _ c.in-Over.is (c.next_section.ensures.by_index _ c.loop-f.invariant.walks)))
+returns-in-Over c = sym (walked_whole c.args.s.now (read_all c.loop-f.invariant.walks c.next_section.new.heads c.next_section.new.names c.next_section.new.slots c.next_section.new.rows _ c.in-Over.is (c.next_section.ensures.by_index _ c.loop-f.invariant.walks)))
 
 pub loop-f-smaller : goal.loop-f-smaller
-loop-f-smaller c = nearer c.loop-f.invariant.walks c.next_section.new.heads c.next_section.new.names c.next_section.new.slots c.next_section.new.rows.0 _ c.in-On.is (c.next_section.ensures.by_index _ c.loop-f.invariant.walks)
+loop-f-smaller c = nearer c.loop-f.invariant.walks c.next_section.new.heads c.next_section.new.names c.next_section.new.slots c.next_section.new.rows _ c.in-On.is (c.next_section.ensures.by_index _ c.loop-f.invariant.walks)
 
 pub loop-f-preserved : goal.loop-f-preserved
-loop-f-preserved c = looping-on c.loop-f.invariant (passed c.loop-f.invariant.walks c.next_section.new.heads c.next_section.new.names c.next_section.new.slots c.next_section.new.rows.0 _ c.in-On.is (c.next_section.ensures.by_index _ c.loop-f.invariant.walks)) c.next_section.ensures.marks_len c.next_section.auto.1.1.1.1.1.1.1.0 c.next_section.auto.1.1.1.1.1.1.1.1.0
+loop-f-preserved c = looping-on c.loop-f.invariant (passed c.loop-f.invariant.walks c.next_section.new.heads c.next_section.new.names c.next_section.new.slots c.next_section.new.rows _ c.in-On.is (c.next_section.ensures.by_index _ c.loop-f.invariant.walks)) c.next_section.ensures.marks_len c.next_section.auto.1.1.1.1.1.1.1.0 c.next_section.auto.1.1.1.1.1.1.1.1.0

@@ -4,7 +4,7 @@ use borrow.Author.Rules.{rules}
 use Rattle.message.proofs.steps.on_usr.Goals as goal
 
 pub returns-in-Certificate : goal.returns-in-Certificate
-returns-in-Certificate c = record { by_index = usr-certificate c.args.m c.args.heads.now c.in_header.result c.in_header.new.heads.0 c.in-Certificate.is c.in_header.ensures.by_index; heads_len = c.in_header.ensures.heads_len }
+returns-in-Certificate c = record { by_index = usr-certificate c.args.m c.args.heads.now c.in_header.result c.in_header.new.heads c.in-Certificate.is c.in_header.ensures.by_index; heads_len = c.in_header.ensures.heads_len }
 
 pub returns-in-Trailer : goal.returns-in-Trailer
 returns-in-Trailer c = record { by_index = usr-trailer c.requires.roomy c.in-Trailer.is c.in_trailer.ensures; heads_len = c.requires.segments_bound.1 }

@@ -16,16 +16,16 @@ pub shape_of-marks-in-Stop : goal.shape_of-marks-in-Stop
 shape_of-marks-in-Stop c = c.next_section.ensures.marks_len ∙ sym c.requires.marks_len.0
 
 pub returns-in-Stop : goal.returns-in-Stop
-returns-in-Stop c = stopped c.loop-f.invariant.looping.walks c.next_section.new.heads c.next_section.new.names c.next_section.new.slots c.next_section.new.rows.0 _ c.in-Stop.is (c.next_section.ensures.by_index _ c.loop-f.invariant.looping.walks)
+returns-in-Stop c = stopped c.loop-f.invariant.looping.walks c.next_section.new.heads c.next_section.new.names c.next_section.new.slots c.next_section.new.rows _ c.in-Stop.is (c.next_section.ensures.by_index _ c.loop-f.invariant.looping.walks)
 
 pub shape_of-marks-in-Over : goal.shape_of-marks-in-Over
 shape_of-marks-in-Over c = c.next_section.ensures.marks_len ∙ sym c.requires.marks_len.0
 
 pub returns-in-Over : goal.returns-in-Over
-returns-in-Over c = span-told c.loop-f.invariant (read_all c.loop-f.invariant.looping.walks c.next_section.new.heads c.next_section.new.names c.next_section.new.slots c.next_section.new.rows.0 _ c.in-Over.is (c.next_section.ensures.by_index _ c.loop-f.invariant.looping.walks)) c.told.ensures
+returns-in-Over c = span-told c.loop-f.invariant (read_all c.loop-f.invariant.looping.walks c.next_section.new.heads c.next_section.new.names c.next_section.new.slots c.next_section.new.rows _ c.in-Over.is (c.next_section.ensures.by_index _ c.loop-f.invariant.looping.walks)) c.told.ensures
 
 pub loop-f-smaller : goal.loop-f-smaller
-loop-f-smaller c = nearer c.loop-f.invariant.looping.walks c.next_section.new.heads c.next_section.new.names c.next_section.new.slots c.next_section.new.rows.0 _ c.in-On.is (c.next_section.ensures.by_index _ c.loop-f.invariant.looping.walks)
+loop-f-smaller c = nearer c.loop-f.invariant.looping.walks c.next_section.new.heads c.next_section.new.names c.next_section.new.slots c.next_section.new.rows _ c.in-On.is (c.next_section.ensures.by_index _ c.loop-f.invariant.looping.walks)
 
 pub loop-f-preserved : goal.loop-f-preserved
-loop-f-preserved c = spanning-on c.loop-f.invariant (passed c.loop-f.invariant.looping.walks c.next_section.new.heads c.next_section.new.names c.next_section.new.slots c.next_section.new.rows.0 _ c.in-On.is (c.next_section.ensures.by_index _ c.loop-f.invariant.looping.walks)) c.next_section.ensures.marks_len c.next_section.auto.1.1.1.1.1.1.1.0 c.next_section.auto.1.1.1.1.1.1.1.1.0 c.after_section-k.ensures
+loop-f-preserved c = spanning-on c.loop-f.invariant (passed c.loop-f.invariant.looping.walks c.next_section.new.heads c.next_section.new.names c.next_section.new.slots c.next_section.new.rows _ c.in-On.is (c.next_section.ensures.by_index _ c.loop-f.invariant.looping.walks)) c.next_section.ensures.marks_len c.next_section.auto.1.1.1.1.1.1.1.0 c.next_section.auto.1.1.1.1.1.1.1.1.0 c.after_section-k.ensures

@@ -8,7 +8,7 @@ pub fields-requires : goal.fields-requires
 fields-requires c = record { table = c.requires.table; tag_at = (tag-here c.args.y c.requires.t.0 c.args.s.now c.args.at _ _ _ (sym c.tag_in.ensures ∙ c.in-Is.is), c.requires.t.1) }
 
 pub returns-then-looked_into : goal.returns-then-looked_into
-returns-then-looked_into c = sight-entered c.args.y c.args.s.now c.args.at c.tag_in.ensures c.in-Is.is c.kind_of-k.ensures (c.entered.ensures c.fields.new.marks.0 c.fields.ensures)
+returns-then-looked_into c = sight-entered c.args.y c.args.s.now c.args.at c.tag_in.ensures c.in-Is.is c.kind_of-k.ensures (c.entered.ensures c.fields.new.marks c.fields.ensures)
 
 pub overflow_add-at : goal.overflow_add-at
 overflow_add-at c = let w = (tag-here c.args.y c.requires.t.0 c.args.s.now c.args.at _ _ _ (sym c.tag_in.ensures ∙ c.in-Is.is)).long in search rules

@@ -39,19 +39,19 @@ on_cnt-requires c =
 
 pub returns-in-Ush : goal.returns-in-Ush
 returns-in-Ush c =
-    let g = c in record { by_index = step-arm g.args.y.service g.args.s.now g.args.at g.args.m g.args.heads.now c.on_ush.result c.on_ush.new.heads.0 Ush c.in-Ush.is c.on_ush.ensures.by_index; heads_len = c.on_ush.ensures.heads_len }
+    let g = c in record { by_index = step-arm g.args.y.service g.args.s.now g.args.at g.args.m g.args.heads.now c.on_ush.result c.on_ush.new.heads Ush c.in-Ush.is c.on_ush.ensures.by_index; heads_len = c.on_ush.ensures.heads_len }
 
 pub returns-in-Usa : goal.returns-in-Usa
 returns-in-Usa c =
-    let g = c in record { by_index = usa-arm g.args.y.service g.args.s.now g.args.at g.args.m g.args.heads.now c.in_header.result c.in_header.new.heads.0 c.in_header.ensures.by_index c.in-Usa.is c.usa_group.ensures; heads_len = c.in_header.ensures.heads_len }
+    let g = c in record { by_index = usa-arm g.args.y.service g.args.s.now g.args.at g.args.m g.args.heads.now c.in_header.result c.in_header.new.heads c.in_header.ensures.by_index c.in-Usa.is c.usa_group.ensures; heads_len = c.in_header.ensures.heads_len }
 
 pub returns-in-Usc : goal.returns-in-Usc
 returns-in-Usc c =
-    let g = c in record { by_index = usc-arm g.args.y.service g.args.s.now g.args.at g.args.m g.args.heads.now c.in_header-in-Usc.result c.in_header-in-Usc.new.heads.0 c.in_header-in-Usc.ensures.by_index c.in-Usc.is c.usc_group.ensures; heads_len = c.in_header-in-Usc.ensures.heads_len }
+    let g = c in record { by_index = usc-arm g.args.y.service g.args.s.now g.args.at g.args.m g.args.heads.now c.in_header-in-Usc.result c.in_header-in-Usc.new.heads c.in_header-in-Usc.ensures.by_index c.in-Usc.is c.usc_group.ensures; heads_len = c.in_header-in-Usc.ensures.heads_len }
 
 pub returns-in-Usr : goal.returns-in-Usr
 returns-in-Usr c =
-    let g = c in record { by_index = step-arm g.args.y.service g.args.s.now g.args.at g.args.m g.args.heads.now c.on_usr.result c.on_usr.new.heads.0 Usr c.in-Usr.is (λ u w. c.on_usr.ensures.by_index g.args.y.service.release g.args.s.now u w); heads_len = c.on_usr.ensures.heads_len }
+    let g = c in record { by_index = step-arm g.args.y.service g.args.s.now g.args.at g.args.m g.args.heads.now c.on_usr.result c.on_usr.new.heads Usr c.in-Usr.is (λ u w. c.on_usr.ensures.by_index g.args.y.service.release g.args.s.now u w); heads_len = c.on_usr.ensures.heads_len }
 
 pub returns-in-Ust : goal.returns-in-Ust
 returns-in-Ust c =

@@ -13,4 +13,4 @@ pub section_in-requires : goal.section_in-requires
 section_in-requires c = (c.requires.table, starting-whole c.requires.between c.if-n-from.false (sym c.is_done-done.ensures ∙ c.if-done.false))
 
 pub returns : goal.returns
-returns c = record { by_index = section-whole c.args.y c.args.s.now c.args.st c.args.heads.now c.args.names.now c.args.slots.now c.args.from c.section_in.result c.section_in.new.heads c.section_in.new.names c.section_in.new.slots c.section_in.new.rows.0 c.if-n-from.false c.section_in.ensures.reached; marks_len = c.section_in.ensures.marks }
+returns c = record { by_index = section-whole c.args.y c.args.s.now c.args.st c.args.heads.now c.args.names.now c.args.slots.now c.args.from c.section_in.result c.section_in.new.heads c.section_in.new.names c.section_in.new.slots c.section_in.new.rows c.if-n-from.false c.section_in.ensures.reached; marks_len = c.section_in.ensures.marks }
