@@ -1,7 +1,7 @@
-use mathlib.Core.Logic.{⊎_elim}
 use borrow.Author.Tests.{eq-eqb, ne_eqb}
 use borrow.Author.Rules.{rules}
 use Rattle.beginning.proofs.settle.Goals as goal
+use Rattle.beginning.proofs.settle.Goals.{then-o+else-v-ne32, else-o}
 
 pub returns-then-is_repeating : goal.returns-then-is_repeating
 returns-then-is_repeating c = rw (← c.is_repeating.ensures, c.if-is_repeating.true)
@@ -21,4 +21,4 @@ returns c =
       ← c.is_repeating.ensures,
       c.if-is_repeating.false,
       c.without_repetition-w.ensures,
-    ) (⊎_elim (λ w. rw (w.0.taken, eq-eqb _ _ w.2.left)) (λ w. rw w.left) c.if-o.branch)
+    ) (elim c.if-o.branch [ then-o+else-v-ne32 w ↦ rw (w.if-o.true, eq-eqb _ _ w.if-v-ne32.false) | else-o w ↦ rw w.if-o.false ])
