@@ -158,6 +158,7 @@ module _ (a b c d : ℕ) (t v : List ℕ) where
       let j : (bits_of a * 4 + bits_of b / 16) % 4 * 16 ≡ bits_of b = omega arith in
       let x : bits_of a * 4 + bits_of b / 16 < 256 = omega arith in
       (rw (m.1, i, j, digit-bits a e, digit-bits b f, nil-of t m.0, pad-is c g, pad-is d h), rw m.1 (x, tt))
+  back (suc (suc (suc (suc _)))) none_so_many q ih = elim none_so_many [ ]
 
 pub six-back : (t v : List ℕ) → six_value t ≡ some v → (six_text v ≡ t) × Octets v
 six-back [] v q = let e : v ≡ [] = cc in (rw e, rw e tt)

@@ -7,7 +7,7 @@ pub returns-in-Old : goal.returns-in-Old
 returns-in-Old c = let both = laid-old _ 8 _ c.in-Old.is (omega arith) c.put_eight.ensures in record { laid = both.0; upper_bound = both.1 }
 
 pub returns-in-Small : goal.returns-in-Small
-returns-in-Small c = let both = laid-small _ 8 _ c.in-Small.is c.write.ensures in record { laid = both.0; upper_bound = both.1 }
+returns-in-Small c = let both = laid-small _ 8 _ c.in-Small.is (c.write.ensures.laid, c.write.ensures.upper_bound) in record { laid = both.0; upper_bound = both.1 }
 
 pub returns-in-Signed : goal.returns-in-Signed
-returns-in-Signed c = let both = laid-signed _ 8 _ c.in-Signed.is c.write-in-Signed.ensures in record { laid = both.0; upper_bound = both.1 }
+returns-in-Signed c = let both = laid-signed _ 8 _ c.in-Signed.is (c.write-in-Signed.ensures.laid, c.write-in-Signed.ensures.upper_bound) in record { laid = both.0; upper_bound = both.1 }

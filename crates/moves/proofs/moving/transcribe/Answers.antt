@@ -27,7 +27,7 @@ pub put_entry-p-requires : goal.put_entry-p-requires
 put_entry-p-requires c = (moving-room c.loop-left.invariant c.loop-left-test.true, sym c.too_large.ensures ∙ c.if-too_large.false)
 
 pub loop-left-preserved : goal.loop-left-preserved
-loop-left-preserved c = moving-on c.loop-left.invariant c.loop-left-test.true c.read_entry.ensures c.in-One.is c.too_large.ensures c.if-too_large.false c.or_below-any.ensures c.put_entry-p.ensures
+loop-left-preserved c = moving-on c.loop-left.invariant c.loop-left-test.true c.read_entry.ensures c.in-One.is c.too_large.ensures c.if-too_large.false c.or_below-any.ensures (c.put_entry-p.ensures.laid, c.put_entry-p.ensures.upper_bound)
 
 pub shape_of-out-then-sign_lost : goal.shape_of-out-then-sign_lost
 shape_of-out-then-sign_lost c = c.loop-left.invariant.same ∙ laid-length c.put_count-p.ensures.laid

@@ -1,6 +1,7 @@
-use mathlib.Core.Logic.{⊎_elim}
-use borrow.Enum.Known.{lives_at}
-use Rattle.elements.specs.contracts.Kind.{enum}
+use Rattle.std.proofs.Common.{◌≡◌, Bool, true, false, refl}
+use Rattle.elements.specs.declared.Kind.{Kind}
+use Rattle.elements.specs.declared.Kind.TheVariants.{Unh, Unz}
+use Rattle.message.specs.Summary.{at_idle}
 use Rattle.turns.specs.BusyLaws.{ready_at, idle-7}
 use borrow.Author.Rules.{rules}
 use Rattle.turns.proofs.state.on_idle.Goals as goal
@@ -13,7 +14,13 @@ pub on_unz-requires : goal.on_unz-requires
 on_unz-requires c =
     let g = c in record { ready = ready_at g.requires.ready c.in-Unz.is; phase_value = g.requires.phase_value }
 
+-- at idle nothing but UNH and UNZ comes
+not-idle : (k : Kind) (x : Bool) → (k ≡ Unh → ⊥) → (k ≡ Unz → ⊥) → at_idle true x false k ≡ false
+not-idle Unh x a b = absurd (a refl)
+not-idle Unz x a b = absurd (b refl)
+not-idle _ x a b = refl
+
 pub returns-in_default : goal.returns-in_default
 returns-in_default c =
     let g = c in
-    idle-7 g.requires.ready g.requires.phase_value (λ x. (⊎_elim (λ e. rw (lives_at enum g.args.k 0 e).1) (⊎_elim (λ e. rw (lives_at enum g.args.k 2 e).1) (⊎_elim (λ e. rw (lives_at enum g.args.k 4 e).1) (⊎_elim (λ e. rw (lives_at enum g.args.k 5 e).1) (⊎_elim (λ e. rw (lives_at enum g.args.k 6 e).1) (⊎_elim (λ e. rw (lives_at enum g.args.k 7 e).1) (⊎_elim (λ e. rw (lives_at enum g.args.k 8 e).1) (⊎_elim (λ e. rw (lives_at enum g.args.k 9 e).1) (⊎_elim (λ e. rw (lives_at enum g.args.k 10 e).1) (⊎_elim (λ e. rw (lives_at enum g.args.k 11 e).1) (⊎_elim (λ e. rw (lives_at enum g.args.k 12 e).1) (⊎_elim (λ e. rw (lives_at enum g.args.k 13 e).1) (⊎_elim (λ e. rw (lives_at enum g.args.k 14 e).1) (λ e. rw (lives_at enum g.args.k 15 e).1)))))))))))))) c.in-Unh.keys3) c.stopped.ensures
+    idle-7 g.requires.ready g.requires.phase_value (λ x. not-idle _ x c.in_default.not-Unh c.in_default.not-Unz) c.stopped.ensures
