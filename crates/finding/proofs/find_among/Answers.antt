@@ -33,4 +33,4 @@ pub loop-f-smaller : goal.loop-f-smaller
 loop-f-smaller c = nearer c.loop-f.invariant.looping.walks c.next_section.new.heads c.next_section.new.names c.next_section.new.slots c.next_section.new.rows _ c.in-On.is (c.next_section.ensures.by_index _ c.loop-f.invariant.looping.walks)
 
 pub loop-f-preserved : goal.loop-f-preserved
-loop-f-preserved c = let p = passed c.loop-f.invariant.looping.walks c.next_section.new.heads c.next_section.new.names c.next_section.new.slots c.next_section.new.rows _ c.in-On.is (c.next_section.ensures.by_index _ c.loop-f.invariant.looping.walks) in ⊎_elim (λ w. record { looping = looping-on c.loop-f.invariant.looping p c.next_section.ensures.marks_len c.next_section.auto.1.1.1.1.1.1.1.0 c.next_section.auto.1.1.1.1.1.1.1.1.0; seeks = seeks-eq c.args.y.service c.args.s.now c.args.from p.walks.tree (compared (content c.args.other c.args.reference.now)) w.5 (w.4 ∙ w.3.ensures) (seeks-hit c.loop-f.invariant.looping.walks p (compared (content c.args.other c.args.reference.now)) (sym c.is_named.ensures ∙ w.0.taken)); long = ap length (w.4 ∙ w.3.ensures) ∙ p.long }) (λ w. record { looping = looping-on c.loop-f.invariant.looping p c.next_section.ensures.marks_len c.next_section.auto.1.1.1.1.1.1.1.0 c.next_section.auto.1.1.1.1.1.1.1.1.0; seeks = seeks-eq c.args.y.service c.args.s.now c.args.from p.walks.tree (compared (content c.args.other c.args.reference.now)) w.2 w.1 (seeks-on c.loop-f.invariant.looping.walks p (compared (content c.args.other c.args.reference.now)) c.loop-f.found c.loop-f.rows (sym c.is_named.ensures ∙ w.0.left) c.loop-f.invariant.seeks); long = ap length w.1 ∙ c.loop-f.invariant.long }) c.if-is_named.branch
+loop-f-preserved c = let p = passed c.loop-f.invariant.looping.walks c.next_section.new.heads c.next_section.new.names c.next_section.new.slots c.next_section.new.rows _ c.in-On.is (c.next_section.ensures.by_index _ c.loop-f.invariant.looping.walks) in ⊎_elim (λ w. record { looping = looping-on c.loop-f.invariant.looping p c.next_section.ensures.marks_len c.next_section.auto.names c.next_section.auto.slots; seeks = seeks-eq c.args.y.service c.args.s.now c.args.from p.walks.tree (compared (content c.args.other c.args.reference.now)) w.5 (w.4 ∙ w.3.ensures) (seeks-hit c.loop-f.invariant.looping.walks p (compared (content c.args.other c.args.reference.now)) (sym c.is_named.ensures ∙ w.0.taken)); long = ap length (w.4 ∙ w.3.ensures) ∙ p.long }) (λ w. record { looping = looping-on c.loop-f.invariant.looping p c.next_section.ensures.marks_len c.next_section.auto.names c.next_section.auto.slots; seeks = seeks-eq c.args.y.service c.args.s.now c.args.from p.walks.tree (compared (content c.args.other c.args.reference.now)) w.2 w.1 (seeks-on c.loop-f.invariant.looping.walks p (compared (content c.args.other c.args.reference.now)) c.loop-f.found c.loop-f.rows (sym c.is_named.ensures ∙ w.0.left) c.loop-f.invariant.seeks); long = ap length w.1 ∙ c.loop-f.invariant.long }) c.if-is_named.branch

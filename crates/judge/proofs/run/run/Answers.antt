@@ -23,4 +23,4 @@ pub loop-f-smaller : goal.loop-f-smaller
 loop-f-smaller c = nearer c.loop-f.invariant.walks c.next_section.new.heads c.next_section.new.names c.next_section.new.slots c.next_section.new.rows _ c.in-On.is (c.next_section.ensures.by_index _ c.loop-f.invariant.walks)
 
 pub loop-f-preserved : goal.loop-f-preserved
-loop-f-preserved c = looping-on c.loop-f.invariant (passed c.loop-f.invariant.walks c.next_section.new.heads c.next_section.new.names c.next_section.new.slots c.next_section.new.rows _ c.in-On.is (c.next_section.ensures.by_index _ c.loop-f.invariant.walks)) c.next_section.ensures.marks_len c.next_section.auto.1.1.1.1.1.1.1.0 c.next_section.auto.1.1.1.1.1.1.1.1.0
+loop-f-preserved c = looping-on c.loop-f.invariant (passed c.loop-f.invariant.walks c.next_section.new.heads c.next_section.new.names c.next_section.new.slots c.next_section.new.rows _ c.in-On.is (c.next_section.ensures.by_index _ c.loop-f.invariant.walks)) c.next_section.ensures.marks_len c.next_section.auto.names c.next_section.auto.slots

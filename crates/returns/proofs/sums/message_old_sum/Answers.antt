@@ -6,7 +6,7 @@ use borrow.Author.Rules.{rules}
 use Rattle.returns.proofs.sums.message_old_sum.Goals as goal
 
 pub sum_message-requires : goal.sum_message-requires
-sum_message-requires c = starts-handed c.args (search rules) c.handed_in.ensures
+sum_message-requires c = starts-handed c.args.before (search rules) c.handed_in.ensures
 
 pub returns : goal.returns
-returns c = let both = sum-promised (message_old_sum_of c.args.s.now c.args.message.now c.args) (c.sum_message.ensures (handed_in c.args) (held-handed c.args (search rules)) c.handed_in.ensures) in record { value = both.0; result_value = both.1 }
+returns c = let both = sum-promised (message_old_sum_of c.args.s.now c.args.message.now c.args.before) (c.sum_message.ensures (handed_in c.args.before) (held-handed c.args.before (search rules)) c.handed_in.ensures) in record { value = both.0; result_value = both.1 }

@@ -1,10 +1,10 @@
 use native.Mathlib.Omega.{arith}
 use mathlib.Core.Path.{refl, ap, ◌∙◌}
-use mathlib.Core.Logic.{⊎_elim}
 use borrow.Author.Rules.{rules}
 use Rattle.message.specs.declared.Group.TheVariants.{Trailer as InTrailer}
 use Rattle.walk.specs.LayoutLaws.{stepped, room-header, room-trailer, noted-row, kept_row}
 use Rattle.walk.proofs.layout.spotted.Goals as goal
+use Rattle.walk.proofs.layout.spotted.Goals.{then-usa-eq0, else-usa-eq0}
 
 pub overflow_sub-rows : goal.overflow_sub-rows
 overflow_sub-rows c = omega (arith, room-header _ _ c.in-Header.is c.requires)
@@ -35,7 +35,7 @@ returns-in-Opened c = let both = stepped _ _ _ _ _ _ _ _ c.in-Opened.is (c.opene
 
 pub returns-after-usa-eq0 : goal.returns-after-usa-eq0
 returns-after-usa-eq0 c = let both = stepped _ _ _ _ _ _ _ _ c.in-Header.is
-    (c.headed.ensures, ⊎_elim (λ w. noted-row _ _ _ _ w.0.taken w.1) (λ w. kept_row _ _ _ _ w.0.left w.1) c.if-usa-eq0.branch) in record { value = both.0; rows_after = both.1 }
+    (c.headed.ensures, elim c.if-usa-eq0.branch [ then-usa-eq0 w ↦ noted-row _ _ _ _ w.if-usa-eq0.true w.rows-is | else-usa-eq0 w ↦ kept_row _ _ _ _ w.if-usa-eq0.false w.rows-is ]) in record { value = both.0; rows_after = both.1 }
 
 pub returns-in-Certificate : goal.returns-in-Certificate
 returns-in-Certificate c = let both = stepped _ _ _ _ _ _ _ _ c.in-Certificate.is (c.headed-in-Certificate.ensures, refl) in record { value = both.0; rows_after = both.1 }

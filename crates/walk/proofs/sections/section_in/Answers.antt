@@ -3,7 +3,6 @@ use native.Mathlib.Omega.{arith}
 use Rattle.message.specs.ItemsLaws.{not-true, not-false}
 use Prim.Native.Nat.{◌-◌, ◌≤◌}
 use mathlib.Core.Path.{◌≡◌, refl, sym, ◌∙◌}
-use mathlib.Core.Logic.{⊎_elim}
 use borrow.Author.Rules.{rules}
 use lib.ListN.{length}
 use Rattle.elements.specs.Octets.{text_at}
@@ -14,6 +13,7 @@ use Rattle.walk.specs.RunLaws.{further, halted, onward-far}
 use Rattle.walk.specs.SectionLaws.{nameable-most, sought}
 use Rattle.walk.specs.Sectioning.{Sectioning, ahead, walks-so, going-so, short-so, headers-so, room-so, rows-so, on-so, close-so, end-so}
 use Rattle.walk.proofs.sections.section_in.Goals as goal
+use Rattle.walk.proofs.sections.section_in.Goals.{else-loop-i-test, then-loop-i-test+then-names_free}
 
 pub loop-at-init : goal.loop-at-init
 loop-at-init c = record { so = ahead; marks = c.requires.1.marks; room = c.requires.1.room; names = refl; slots = refl }
@@ -31,16 +31,24 @@ pub loop-i-preserved : goal.loop-i-preserved
 loop-i-preserved c = (c.loop-i.invariant.0, seeking-on c.loop-i.invariant.1 c.loop-i-test.true c.names_free.ensures c.if-names_free.false)
 
 pub advance-requires : goal.advance-requires
-advance-requires c = record { table = c.requires.0; going = going-so c.requires.1 c.loop-at.invariant.so c.loop-at-test.true c.loop-at.invariant.marks; sought = λ a k. let d = chosen c in sought c.args.y.service c.args.s.now c.loop-at.at c.loop-at.st.message c.loop-at.heads c.nameable-n.ensures d.0 d.1 k }
+advance-requires c =
+    let found : c.loop-i-test.found ≡ pos_or c.nameable-n.result (free_at (compared (text_at c.args.y.service c.args.s.now c.loop-at.at 1 0)) (head_refs c.args.y.service.release c.args.s.now c.loop-at.heads c.nameable-n.result) (head_flags c.loop-at.heads c.nameable-n.result)) =
+    elim c.loop-i-test.branch [
+      | else-loop-i-test w ↦ w.found-is ∙ c.loop-i.invariant.0 ∙ seeking-end c.loop-i.invariant.1 w.loop-i-test.false
+      | then-loop-i-test+then-names_free w ↦ w.found-is ∙ seeking-hit c.loop-i.invariant.1 w.loop-i-test.true w.names_free.ensures w.if-names_free.true
+    ] in
+    let most : c.loop-i-test.found ≤ c.nameable-n.result =
+    elim c.loop-i-test.branch [ else-loop-i-test w ↦ search rules | then-loop-i-test+then-names_free w ↦ search rules ] in
+    record { table = c.requires.0; going = going-so c.requires.1 c.loop-at.invariant.so c.loop-at-test.true c.loop-at.invariant.marks; sought = λ a k. sought c.args.y.service c.args.s.now c.loop-at.at c.loop-at.st.message c.loop-at.heads c.nameable-n.ensures found most k }
 
 pub shape_of-marks-in-Stop : goal.shape_of-marks-in-Stop
 shape_of-marks-in-Stop c = c.advance.ensures.marks_len ∙ sym c.requires.1.marks
 
 pub shape_of-names-in-Stop : goal.shape_of-names-in-Stop
-shape_of-names-in-Stop c = c.advance.auto.1.1.1.1.1.1.1.0 ∙ c.loop-at.invariant.names
+shape_of-names-in-Stop c = c.advance.auto.names ∙ c.loop-at.invariant.names
 
 pub shape_of-slots-in-Stop : goal.shape_of-slots-in-Stop
-shape_of-slots-in-Stop c = c.advance.auto.1.1.1.1.1.1.1.1.0 ∙ c.loop-at.invariant.slots
+shape_of-slots-in-Stop c = c.advance.auto.slots ∙ c.loop-at.invariant.slots
 
 pub returns-in-Stop : goal.returns-in-Stop
 returns-in-Stop c = record { reached = λ b w. halted (walks-so c.loop-at.invariant.so b w) _ _ _ _ c.in-Stop.is (c.advance.ensures.by_index _ (walks-so c.loop-at.invariant.so b w)); marks = c.advance.ensures.marks_len }
@@ -49,10 +57,10 @@ pub shape_of-marks-then-is_outside : goal.shape_of-marks-then-is_outside
 shape_of-marks-then-is_outside c = c.advance.ensures.marks_len ∙ sym c.requires.1.marks
 
 pub shape_of-names-then-is_outside : goal.shape_of-names-then-is_outside
-shape_of-names-then-is_outside c = c.advance.auto.1.1.1.1.1.1.1.0 ∙ c.loop-at.invariant.names
+shape_of-names-then-is_outside c = c.advance.auto.names ∙ c.loop-at.invariant.names
 
 pub shape_of-slots-then-is_outside : goal.shape_of-slots-then-is_outside
-shape_of-slots-then-is_outside c = c.advance.auto.1.1.1.1.1.1.1.1.0 ∙ c.loop-at.invariant.slots
+shape_of-slots-then-is_outside c = c.advance.auto.slots ∙ c.loop-at.invariant.slots
 
 pub returns-then-is_outside : goal.returns-then-is_outside
 returns-then-is_outside c = record { reached = close-so c.requires.1 c.loop-at.invariant.so (λ b w. further w _ c.in-On.is (c.advance.ensures.by_index _ w)) (not-true _ (sym c.is_outside.ensures ∙ c.if-is_outside.true)) c.loop-at.invariant.room c.passed.ensures; marks = c.advance.ensures.marks_len }
@@ -64,7 +72,7 @@ pub loop-at-smaller : goal.loop-at-smaller
 loop-at-smaller c = let o = onward-far (walks-so c.loop-at.invariant.so c.requires.1.from c.requires.1.walks) (further (walks-so c.loop-at.invariant.so c.requires.1.from c.requires.1.walks) _ c.in-On.is (c.advance.ensures.by_index _ (walks-so c.loop-at.invariant.so c.requires.1.from c.requires.1.walks))) in let k = c.loop-at-test.true in omega (arith, o, k)
 
 pub loop-at-preserved : goal.loop-at-preserved
-loop-at-preserved c = record { so = on-so c.requires.1 c.loop-at.invariant.so (λ b w. further w _ c.in-On.is (c.advance.ensures.by_index _ w)) (not-false _ (sym c.is_outside.ensures ∙ c.if-is_outside.false)) c.loop-at.invariant.room c.spots_behind-x.ensures.value c.spots_behind-x.ensures.rows_after; marks = c.advance.ensures.marks_len; room = rows-so c.requires.1 c.loop-at.invariant.so (λ b w. further w _ c.in-On.is (c.advance.ensures.by_index _ w)) (not-false _ (sym c.is_outside.ensures ∙ c.if-is_outside.false)) c.loop-at.invariant.room c.spots_behind-x.ensures.value c.spots_behind-x.ensures.rows_after; names = c.advance.auto.1.1.1.1.1.1.1.0 ∙ c.loop-at.invariant.names; slots = c.advance.auto.1.1.1.1.1.1.1.1.0 ∙ c.loop-at.invariant.slots }
+loop-at-preserved c = record { so = on-so c.requires.1 c.loop-at.invariant.so (λ b w. further w _ c.in-On.is (c.advance.ensures.by_index _ w)) (not-false _ (sym c.is_outside.ensures ∙ c.if-is_outside.false)) c.loop-at.invariant.room c.spots_behind-x.ensures.value c.spots_behind-x.ensures.rows_after; marks = c.advance.ensures.marks_len; room = rows-so c.requires.1 c.loop-at.invariant.so (λ b w. further w _ c.in-On.is (c.advance.ensures.by_index _ w)) (not-false _ (sym c.is_outside.ensures ∙ c.if-is_outside.false)) c.loop-at.invariant.room c.spots_behind-x.ensures.value c.spots_behind-x.ensures.rows_after; names = c.advance.auto.names ∙ c.loop-at.invariant.names; slots = c.advance.auto.slots ∙ c.loop-at.invariant.slots }
 
 pub shape_of-marks : goal.shape_of-marks
 shape_of-marks c = c.loop-at.invariant.marks ∙ sym c.requires.1.marks
