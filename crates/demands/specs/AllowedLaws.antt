@@ -15,7 +15,7 @@ use Rattle.grammar.specs.Interchange.{Leaf, Header, Open, msg, Message, message}
 use Rattle.grammar.specs.Rules.{autack, ref_h, ref_m}
 use Rattle.grammar.specs.Valid.{Interchange, Valid, syntax_in}
 use Rattle.grammar.specs.Verdict.{Verdict, accepted, verdict_of}
-use Rattle.grammar.specs.VerdictLaws.{verdict-exact}
+use Rattle.grammar.proofs.VerdictLaws.{verdict-exact}
 use Rattle.grammar.specs.Counted.{messages_in}
 use Rattle.grammar.specs.Named.{Placed, placed}
 use Rattle.spans.specs.Span.{autack_m}

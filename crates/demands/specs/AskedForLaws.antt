@@ -8,15 +8,15 @@ use Rattle.syntax.specs.ContentLaws.{same_self}
 use Rattle.syntax.specs.declared.Service.{Service}
 use Rattle.grammar.specs.Lists.{Snoc, nil, ◌▷◌, each, among, holds}
 use Rattle.grammar.specs.TestLaws.{passes}
-use Rattle.grammar.specs.PlacingLaws.{same-eq}
+use Rattle.grammar.proofs.PlacingLaws.{same-eq}
 use Rattle.grammar.specs.Interchange.{Leaf, Open, msg, Message, message, idle, shown}
 use Rattle.grammar.specs.Rules.{ref_h, ref_t, ref_m, one, refs_message}
 use Rattle.grammar.specs.Valid.{Interchange, interchange, Valid, opening_in}
 use Rattle.grammar.specs.Verdict.{accepted, verdict_of}
-use Rattle.grammar.specs.VerdictLaws.{verdict-exact}
+use Rattle.grammar.proofs.VerdictLaws.{verdict-exact}
 use Rattle.grammar.specs.Counted.{messages_in}
 use Rattle.grammar.specs.Places.{wide}
-use Rattle.grammar.specs.PlacesLaws.{wide-list}
+use Rattle.grammar.proofs.PlacesLaws.{wide-list}
 use Rattle.grammar.specs.Named.{placed, placed_in}
 use Rattle.groups.specs.Parts.{scope_h}
 use Rattle.groups.specs.Groups.{chosen, chosen_by}

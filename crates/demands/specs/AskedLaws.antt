@@ -18,7 +18,7 @@ use Rattle.grammar.specs.Rules.{ref_h}
 use Rattle.grammar.specs.Valid.{Interchange, interchange, opening_in, una_of, reading}
 use Rattle.grammar.specs.Verdict.{Verdict, accepted, refused_with, verdict_of, verdict_by}
 use Rattle.grammar.specs.Places.{wide}
-use Rattle.grammar.specs.PlacesLaws.{wide-list}
+use Rattle.grammar.proofs.PlacesLaws.{wide-list}
 use Rattle.grammar.specs.Named.{Placed, placed}
 use Rattle.walk.specs.Layout.{body_at, tail_at}
 use Rattle.groups.specs.Stand.{Stand}

@@ -7,12 +7,12 @@ use Rattle.syntax.specs.Octets.{octets}
 use Rattle.syntax.specs.Tree.{Segment}
 use Rattle.syntax.specs.declared.Service.{Service}
 use Rattle.grammar.specs.Lists.{Snoc, nil, ◌▷◌, ◌+++◌, joined, list}
-use Rattle.grammar.specs.ListsLaws.{joined-join}
+use Rattle.grammar.proofs.ListsLaws.{joined-join}
 use Rattle.grammar.specs.Segments.{Unh, Unt, seg}
 use Rattle.grammar.specs.Interchange.{Header, Trailer, Body, Open, msg, message, show_header, show_trailer, show_body, show_message}
 use Rattle.grammar.specs.Rules.{ref_h, ref_t}
 use Rattle.grammar.specs.Places.{wide}
-use Rattle.grammar.specs.PlacesLaws.{wide-join}
+use Rattle.grammar.proofs.PlacesLaws.{wide-join}
 use Rattle.grammar.specs.Named.{placed}
 use Rattle.walk.specs.Layout.{heads_at, body_at, tail_at}
 use Rattle.groups.specs.Stand.{Stand}

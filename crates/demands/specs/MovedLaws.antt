@@ -9,7 +9,7 @@ use Rattle.syntax.specs.Tree.{Segment}
 use Rattle.syntax.specs.TreeLaws.{is_true, and_right}
 use Rattle.syntax.specs.declared.Service.{Service}
 use Rattle.grammar.specs.Lists.{Snoc, nil, ◌▷◌, ◌+++◌, joined, list, size, holds, every}
-use Rattle.grammar.specs.ListsLaws.{size-join, every-left, every-right}
+use Rattle.grammar.proofs.ListsLaws.{size-join, every-left, every-right}
 use Rattle.grammar.specs.Grams.{sum, magnitude}
 use Rattle.grammar.specs.Grams as signed
 use Rattle.grammar.specs.Weighed.{forward, back, apart}
@@ -20,9 +20,9 @@ use Rattle.grammar.specs.Interchange.{Leaf, plain, ack, msg, Message, message, i
 use Rattle.grammar.specs.Rules.{amount_s}
 use Rattle.grammar.specs.Valid.{Una, una, Interchange, interchange, Valid, print_una, print_interchange, opening_in}
 use Rattle.grammar.specs.Places.{wide}
-use Rattle.grammar.specs.PlacesLaws.{wide-join, wide-list}
+use Rattle.grammar.proofs.PlacesLaws.{wide-join, wide-list}
 use Rattle.grammar.specs.Verdict.{Verdict, accepted, refused_with, verdict_of, loads_m}
-use Rattle.grammar.specs.VerdictLaws.{verdict-exact}
+use Rattle.grammar.proofs.VerdictLaws.{verdict-exact}
 use Rattle.elements.specs.Amounts.{amount_is, unit_is}
 use Rattle.elements.specs.AmountsLaws.{weighs-below}
 use Rattle.elements.specs.declared.amounts.Amount.TheVariants.{Grams}

@@ -5,9 +5,9 @@ use Rattle.std.proofs.Math.Option.{Option, none, some}
 use Rattle.syntax.specs.Octets.{same}
 use Rattle.syntax.specs.ContentLaws.{same_self}
 use Rattle.grammar.specs.Lists.{Snoc, nil, ◌▷◌, ◌+++◌, each, among, Rule, holds, every, distinct}
-use Rattle.grammar.specs.ListsLaws.{every-left}
+use Rattle.grammar.proofs.ListsLaws.{every-left}
 use Rattle.grammar.specs.TestLaws.{passes, or_left, or_right}
-use Rattle.grammar.specs.PlacingLaws.{same-eq}
+use Rattle.grammar.proofs.PlacingLaws.{same-eq}
 use Rattle.groups.specs.Groups.{Chosen, chosen, chosen_by}
 use Rattle.groups.specs.GroupsLaws.{chosen-among}
 use Rattle.groups.specs.CallsLaws.{none-some}

@@ -45,7 +45,7 @@ use Rattle.grammar.specs.Rules.{inside_s, order, formed_s, subsets, refs, counts
 use Rattle.grammar.specs.Valid.{Una}
 use Rattle.grammar.specs.Placing.{place}
 use Rattle.grammar.specs.Verdict.{on, found_at, Answer, read, refused, tests, decided, then, at_end, unless-done, walk, una_at, accepted, refused_with, Verdict, concluded, verdict_by, verdict_of}
-use Rattle.grammar.specs.WalkLaws.{Finished, walk-runs}
+use Rattle.grammar.proofs.WalkLaws.{Finished, walk-runs}
 use Rattle.grammar.specs.StartLaws.{start-read}
 use Rattle.refusals.specs.OrdinalLaws.{end_is, free-is}
 use Rattle.turns.specs.TurnLaws.{print-some, walk-over, walk_none, walk-bad, Turned, walk_turn}

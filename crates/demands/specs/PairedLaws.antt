@@ -6,17 +6,17 @@ use Rattle.grammar.specs.Grams.{Grams, same_grams, sum}
 use Rattle.grammar.specs.WeighedLaws.{same-grams}
 use Rattle.grammar.specs.Interchange.{Header, Trailer, trailer, Body, plain, ack, msg, Message, message, show_header, show_trailer}
 use Rattle.grammar.specs.Rules.{ref_h, ref_t, one, refs_message, total, size_at, counted, counts_message}
-use Rattle.grammar.specs.ListsLaws.{each-size}
+use Rattle.grammar.proofs.ListsLaws.{each-size}
 use Rattle.grammar.specs.Loads.{loads}
 use Rattle.syntax.specs.declared.Version.{Version}
 use Rattle.groups.specs.Calls.{version_by, version_in}
 use Rattle.grammar.specs.Valid.{Interchange, interchange, Valid}
 use Rattle.grammar.specs.Verdict.{accepted, verdict_of, loads_b}
-use Rattle.grammar.specs.VerdictLaws.{verdict-exact}
+use Rattle.grammar.proofs.VerdictLaws.{verdict-exact}
 use Rattle.grammar.specs.Counted.{messages_in}
 use Rattle.demands.specs.Stated.{In, headers_of, trailers_of, Pairs, number0588, number0036, controls_b, CountsAgree}
 use Rattle.demands.specs.OnceLaws.{every_in, each_in, found-once, one_place, chosen-in, among-chosen}
-use Rattle.grammar.specs.PairLaws.{count_most, pigeons}
+use Rattle.grammar.proofs.PairLaws.{count_most, pigeons}
 
 -- ---- as many trailers as headers
 

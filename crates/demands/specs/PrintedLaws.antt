@@ -10,9 +10,9 @@ use Rattle.grammar.specs.TestLaws.{passes}
 use Rattle.grammar.specs.Segments.{Unh, seg}
 use Rattle.grammar.specs.Interchange.{Header, msg, show_header}
 use Rattle.grammar.specs.Rules.{ref_h, ref_t}
-use Rattle.grammar.specs.PlacingLaws.{same-eq}
+use Rattle.grammar.proofs.PlacingLaws.{same-eq}
 use Rattle.grammar.specs.Places.{wide}
-use Rattle.grammar.specs.PlacesLaws.{wide-join, wide-list}
+use Rattle.grammar.proofs.PlacesLaws.{wide-join, wide-list}
 use Rattle.groups.specs.Parts.{scope_h}
 use Rattle.groups.specs.GroupsLaws.{chosen-among}
 use Rattle.groups.specs.Calls.{given, service_in}

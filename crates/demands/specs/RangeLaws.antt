@@ -13,10 +13,10 @@ use Rattle.grammar.specs.Interchange.{Header, Trailer, plain, msg, Message, Read
 use Rattle.grammar.specs.Rules.{order, ok_header, ok_item, ok_body, ok_trailers}
 use Rattle.grammar.specs.RuleLaws.{free-heads}
 use Rattle.grammar.specs.Placing.{place}
-use Rattle.grammar.specs.PlacingLaws.{shows, Back, first, from, last-free, back, Before, shut-order}
+use Rattle.grammar.proofs.PlacingLaws.{shows, Back, first, from, last-free, back, Before, shut-order}
 use Rattle.groups.specs.StandLaws.{list-join}
 use Rattle.demands.specs.Range.{Grammar, Reads, Range1, range1, scope1, Range2, range2, scope2, f01, scope3}
-use Rattle.grammar.specs.ListsLaws.{size-join, joined-join, every-join}
+use Rattle.grammar.proofs.ListsLaws.{size-join, joined-join, every-join}
 
 -- ---- lists that grow at the end, as plain lists
 

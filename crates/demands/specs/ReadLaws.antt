@@ -22,13 +22,13 @@ use Rattle.grammar.specs.declared.Subset.TheVariants.{None, F01 as AckF01, Gs1 a
 use Rattle.grammar.specs.Rules.{autack, subset, is_autack, ok_header, ok_item, ok_body, ok_message, scope_code, scope_right, scopes_message, ref_m}
 use Rattle.grammar.specs.Valid.{Interchange, interchange, Valid, in_force, opening_in}
 use Rattle.grammar.specs.Verdict.{Verdict, accepted, verdict_of, loads_b, loads_m, totals_in, totals_by, totals_of}
-use Rattle.grammar.specs.VerdictLaws.{verdict-exact, totals-read}
+use Rattle.grammar.proofs.VerdictLaws.{verdict-exact, totals-read}
 use Rattle.grammar.specs.StartLaws.{fit-in-force}
 use Rattle.grammar.specs.Places.{headers_in, trailers_in}
 use Rattle.grammar.specs.Named.{placed, totals_at}
 use Rattle.grammar.specs.Counted.{messages_in}
 use Rattle.grammar.specs.RuleLaws.{check-holds, is-autack}
-use Rattle.grammar.specs.PlacingLaws.{same-eq, regroup}
+use Rattle.grammar.proofs.PlacingLaws.{same-eq, regroup}
 use Rattle.spans.specs.Span.{other, run_right}
 use Rattle.judge.specs.TotalsLaws.{totals-placed}
 use Rattle.groups.specs.StandLaws.{list-join, print-append, well-append, well-parts}
@@ -49,7 +49,7 @@ use Rattle.demands.specs.Scope3Laws.{scope3-printed}
 use Rattle.demands.specs.Range.{Grammar, Reads, Same, total_in, Range1, range1, scope1, Range2, range2, scope2, f01, scope3}
 use Rattle.demands.specs.RangeLaws.{one-reading-1, one-reading-2, one-reading-f01, one-reading-3}
 use Rattle.demands.specs.Read.{syntax_by, syntax_of, totals_for, Read1, tree1, Alike1, Read2, tree2, Alike2, ReadF, AlikeF, Read3, Alike3}
-use Rattle.grammar.specs.ListsLaws.{size-join, joined-join, every-left, every-right}
+use Rattle.grammar.proofs.ListsLaws.{size-join, joined-join, every-left, every-right}
 use Rattle.grammar.specs.TestLaws.{is_true, passes, or_left, or_right}
 
 -- ---- in parts

@@ -8,15 +8,15 @@ use Rattle.syntax.specs.Tree.{Segment}
 use Rattle.syntax.specs.declared.Service.{Service}
 use Rattle.grammar.specs.Lists.{Snoc, nil, ◌▷◌, ◌+++◌, joined, list}
 use Rattle.grammar.specs.TestLaws.{passes}
-use Rattle.grammar.specs.PlacingLaws.{same-eq}
-use Rattle.grammar.specs.ListsLaws.{joined-join}
+use Rattle.grammar.proofs.PlacingLaws.{same-eq}
+use Rattle.grammar.proofs.ListsLaws.{joined-join}
 use Rattle.grammar.specs.Segments.{Unb, Unz, seg, unb0020, usx0020, usx0062_text}
 use Rattle.grammar.specs.Interchange.{Message, idle, done, shown, show_message}
 use Rattle.grammar.specs.Valid.{Interchange, interchange, opening_in, una_of}
 use Rattle.grammar.specs.Verdict.{accepted, verdict_of}
 use Rattle.grammar.specs.Counted.{messages_in}
 use Rattle.grammar.specs.Places.{wide}
-use Rattle.grammar.specs.PlacesLaws.{wide-join, wide-list}
+use Rattle.grammar.proofs.PlacesLaws.{wide-join, wide-list}
 use Rattle.spans.specs.Span.{Parted, parted, parted_of, run_right, Span, span, span_by, span_at}
 use Rattle.spans.specs.SpanLaws as spans
 use Rattle.groups.specs.Stand.{Stand}

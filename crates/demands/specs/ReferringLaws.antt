@@ -6,12 +6,12 @@ use Rattle.syntax.specs.Content.{compared}
 use Rattle.syntax.specs.Octets.{same}
 use Rattle.syntax.specs.ContentLaws.{same_self}
 use Rattle.grammar.specs.TestLaws.{passes}
-use Rattle.grammar.specs.PlacingLaws.{same-eq}
+use Rattle.grammar.proofs.PlacingLaws.{same-eq}
 use Rattle.grammar.specs.Interchange.{Header, Open, msg, Message, message}
 use Rattle.grammar.specs.Rules.{ref_h, ref_m}
 use Rattle.grammar.specs.Valid.{Interchange, Valid}
 use Rattle.grammar.specs.Verdict.{Verdict, accepted, refused_with, verdict_of}
-use Rattle.grammar.specs.VerdictLaws.{verdict-exact}
+use Rattle.grammar.proofs.VerdictLaws.{verdict-exact}
 use Rattle.grammar.specs.Counted.{messages_in}
 use Rattle.grammar.specs.Places.{headers_in}
 use Rattle.grammar.specs.Named.{Placed, placed}

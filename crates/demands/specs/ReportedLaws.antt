@@ -13,7 +13,7 @@ use Rattle.grammar.specs.Rules.{ref_h, ref_t}
 use Rattle.grammar.specs.Valid.{Interchange, interchange, opening_in, una_of}
 use Rattle.grammar.specs.Verdict.{accepted, loads_m}
 use Rattle.grammar.specs.Places.{wide, headers_in}
-use Rattle.grammar.specs.PlacesLaws.{wide-list}
+use Rattle.grammar.proofs.PlacesLaws.{wide-list}
 use Rattle.grammar.specs.Counted.{messages_in}
 use Rattle.groups.specs.Groups.{Chosen, chosen, chosen_by}
 use Rattle.syntax.specs.Content.{compared}

@@ -5,12 +5,12 @@ use Rattle.std.proofs.Math.Option.{Option, none, some}
 use Rattle.syntax.specs.Octets.{octets, same}
 use Rattle.syntax.specs.ContentLaws.{same_self}
 use Rattle.grammar.specs.TestLaws.{passes}
-use Rattle.grammar.specs.PlacingLaws.{same-eq}
+use Rattle.grammar.proofs.PlacingLaws.{same-eq}
 use Rattle.grammar.specs.Segments.{unb0020, usx0020, usx0062_text}
 use Rattle.grammar.specs.Interchange.{Message, message, show_message}
 use Rattle.grammar.specs.Valid.{Interchange, interchange}
 use Rattle.grammar.specs.Verdict.{accepted, verdict_of}
-use Rattle.grammar.specs.VerdictLaws.{verdict-exact}
+use Rattle.grammar.proofs.VerdictLaws.{verdict-exact}
 use Rattle.grammar.specs.Places.{wide}
 use Rattle.grammar.specs.Named.{Placed, placed}
 use Rattle.spans.specs.Span.{autack_m}

@@ -10,7 +10,7 @@ use Rattle.grammar.specs.Lists.{Snoc}
 use Rattle.grammar.specs.Interchange.{Leaf, Header, Trailer, Body, msg, message}
 use Rattle.grammar.specs.Valid.{Interchange, interchange, print_interchange, syntax_in, opening_in}
 use Rattle.grammar.specs.Verdict.{accepted, verdict_of}
-use Rattle.grammar.specs.VerdictLaws.{verdict-exact}
+use Rattle.grammar.proofs.VerdictLaws.{verdict-exact}
 use Rattle.grammar.specs.Named.{Placed, placed}
 use Rattle.grammar.specs.TestLaws.{passes}
 use Rattle.weaving.specs.WovenLaws.{around}

@@ -11,9 +11,9 @@ use Rattle.grammar.specs.Interchange.{Leaf, Header, Trailer, Body, msg, Message,
 use Rattle.grammar.specs.Rules.{ref_h, ref_t}
 use Rattle.grammar.specs.Valid.{Interchange, interchange, opening_in}
 use Rattle.grammar.specs.Verdict.{accepted, verdict_of}
-use Rattle.grammar.specs.VerdictLaws.{accepted-one}
+use Rattle.grammar.proofs.VerdictLaws.{accepted-one}
 use Rattle.grammar.specs.TestLaws.{passes}
-use Rattle.grammar.specs.PlacingLaws.{same-eq, regroup}
+use Rattle.grammar.proofs.PlacingLaws.{same-eq, regroup}
 use Rattle.grammar.specs.Named.{placed, placed_in}
 use Rattle.groups.specs.Groups.{chosen, chosen_by}
 use Rattle.groups.specs.GroupsLaws.{Among, chosen-among}

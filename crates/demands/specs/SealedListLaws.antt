@@ -7,10 +7,10 @@ use Rattle.syntax.specs.Octets.{same}
 use Rattle.syntax.specs.ContentLaws.{same_self}
 use Rattle.syntax.specs.TreeLaws.{off}
 use Rattle.grammar.specs.Lists.{Snoc, nil, ◌▷◌, ◌+++◌, each, joined, among, Rule, holds, every, distinct}
-use Rattle.grammar.specs.ListsLaws.{every-join}
+use Rattle.grammar.proofs.ListsLaws.{every-join}
 use Rattle.grammar.specs.TestLaws.{is_true, passes, or_left, or_right}
 use Rattle.grammar.specs.Rules.{one}
-use Rattle.grammar.specs.PlacingLaws.{same-eq, regroup}
+use Rattle.grammar.proofs.PlacingLaws.{same-eq, regroup}
 use Rattle.groups.specs.Groups.{chosen, chosen_by}
 
 abbrev pub front : {A : Type 0} → A → Snoc A → Snoc A

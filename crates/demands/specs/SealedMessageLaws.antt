@@ -10,7 +10,7 @@ use Rattle.syntax.specs.TreeLaws.{off, and_left, and_right}
 use Rattle.syntax.specs.declared.Service.{Service}
 use Rattle.syntax.specs.declared.Version.{Version}
 use Rattle.grammar.specs.Lists.{Snoc, nil, ◌▷◌, ◌+++◌, each, joined, size, among, Rule, always, test, ◌and◌, holds, every, few, distinct}
-use Rattle.grammar.specs.ListsLaws.{size-join}
+use Rattle.grammar.proofs.ListsLaws.{size-join}
 use Rattle.grammar.specs.TestLaws.{passes}
 use Rattle.grammar.specs.RuleLaws.{free-heads}
 use Rattle.grammar.specs.Segments.{Unh, seg, number, unh0062, unh0057, unt0062, ust0534, ust0588}

@@ -29,7 +29,7 @@ use Rattle.demands.specs.SealedListLaws.{front, joined-front}
 use Rattle.demands.specs.SealedNumberLaws.{plains-content, released-content, decimal-some, decimal-six}
 use Rattle.demands.specs.SealedSymbolLaws.{ush-passes, usa-passes, ust-passes, usr-passes, unt-passes}
 use Rattle.demands.specs.SealedWrittenLaws.{digits-tag, clear_s, ok-passes, clear-passes, value-ok, value-clear, symbols-inside, inside-symbols, well_s, symbols-well, well-symbols}
-use Rattle.grammar.specs.ListsLaws.{every-left, every-right, every-join}
+use Rattle.grammar.proofs.ListsLaws.{every-left, every-right, every-join}
 use Rattle.grammar.specs.TestLaws.{is_true, passes}
 
 -- ---- a rule that the new segments meet, and UNT with its count grown where it met it

@@ -7,7 +7,7 @@ use Rattle.syntax.specs.declared.Service.{Service}
 use Rattle.grammar.specs.Lists.{Snoc, nil, ◌▷◌, each, size, any, Rule, holds, every}
 use Rattle.grammar.specs.Interchange.{Leaf, Header, Trailer, msg, Message, message, idle, shown}
 use Rattle.grammar.specs.Rules.{ref_m}
-use Rattle.grammar.specs.PlacingLaws.{same-eq}
+use Rattle.grammar.proofs.PlacingLaws.{same-eq}
 use Rattle.grammar.specs.Places.{wide}
 use Rattle.grammar.specs.Named.{placed, placed_in}
 use Rattle.weaving.specs.Seals.{sealed_message, sealed_in}

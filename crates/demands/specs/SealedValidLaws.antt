@@ -17,7 +17,7 @@ use Rattle.grammar.specs.Rules.{inside_s, formed_s, amount_s, ok_message, subset
 use Rattle.grammar.specs.Valid.{Una, Interchange, interchange, Valid, print_interchange, print_una, in_force, syntax_in, opening_in}
 use Rattle.grammar.specs.StartLaws.{fit-in-force}
 use Rattle.grammar.specs.Places.{wide}
-use Rattle.grammar.specs.PlacesLaws.{wide-list}
+use Rattle.grammar.proofs.PlacesLaws.{wide-list}
 use Rattle.grammar.specs.Named.{placed, placed_in}
 use Rattle.walk.specs.RunLaws.{long-print}
 use Rattle.groups.specs.Calls.{version_by, service_in, version_in, message_in}
@@ -27,7 +27,7 @@ use Rattle.demands.specs.SealedMessageLaws.{May, may, order-sealed, subsets-seal
 use Rattle.demands.specs.SealedTreeLaws.{refs-same, size_same, any_same, every-sealed}
 use Rattle.demands.specs.SealedWrittenLaws.{well_s, list-well, well-list}
 use Rattle.demands.specs.SealedSegmentLaws.{Takes, most_text, message-takes, takes-well, takes-inside, takes-formed, takes-amount}
-use Rattle.grammar.specs.ListsLaws.{size-join, every-left, every-right, every-join, every-joined, joined-every}
+use Rattle.grammar.proofs.ListsLaws.{size-join, every-left, every-right, every-join, every-joined, joined-every}
 
 -- ---- a segment has four octets at least, so an interchange has few segments
 

@@ -17,15 +17,15 @@ use Rattle.grammar.specs.Interchange.{Leaf, Header, Trailer, Body, Open, msg, Me
 use Rattle.grammar.specs.Valid as valid
 use Rattle.grammar.specs.Valid.{Interchange, interchange, in_force, opening_in, print_una, segments}
 use Rattle.grammar.specs.Verdict.{accepted, verdict_of}
-use Rattle.grammar.specs.VerdictLaws.{verdict-exact}
-use Rattle.grammar.specs.PlacesLaws.{wide-list}
+use Rattle.grammar.proofs.VerdictLaws.{verdict-exact}
+use Rattle.grammar.proofs.PlacesLaws.{wide-list}
 use Rattle.grammar.specs.Named.{placed}
 use Rattle.writing.specs.Decimal.{decimal_of}
 use Rattle.writing.specs.Laid.{together}
 use Rattle.groups.specs.StandLaws.{list-join, print-append}
 use Rattle.groups.specs.Calls.{service_in, version_in, message_in}
 use Rattle.weaving.specs.Seals.{new_header, new_trailer, grown, sealed_message}
-use Rattle.grammar.specs.ListsLaws.{joined-join}
+use Rattle.grammar.proofs.ListsLaws.{joined-join}
 use Rattle.weaving.specs.Seals.{text_by}
 use Rattle.weaving.specs.WovenLaws.{unt_tail, unt-print, grown-print, around}
 use Rattle.grammar.specs.StartLaws.{fit-in-force}

@@ -9,10 +9,10 @@ use Rattle.syntax.specs.Content.{compared}
 use Rattle.syntax.specs.Octets.{same}
 use Rattle.syntax.specs.ContentLaws.{same_self}
 use Rattle.grammar.specs.Lists.{Snoc, nil, ◌▷◌, ◌+++◌}
-use Rattle.grammar.specs.ListsLaws.{last_of, first-of}
+use Rattle.grammar.proofs.ListsLaws.{last_of, first-of}
 use Rattle.grammar.specs.SnocLaws.{not-nil}
 use Rattle.grammar.specs.TestLaws.{passes}
-use Rattle.grammar.specs.PlacingLaws.{same-eq}
+use Rattle.grammar.proofs.PlacingLaws.{same-eq}
 use Rattle.grammar.specs.Segments.{usy0534}
 use Rattle.grammar.specs.Interchange.{Leaf, Link, link, Body, plain, ack}
 use Rattle.message.specs.Summary.{or_else}

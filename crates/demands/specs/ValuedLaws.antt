@@ -10,7 +10,7 @@ use Rattle.grammar.specs.Interchange.{Leaf, Header, Trailer, trailer, Body, Open
 use Rattle.grammar.specs.Rules.{autack, ref_h, ref_t, ref_m, refs_message}
 use Rattle.grammar.specs.Valid.{Interchange, Valid}
 use Rattle.grammar.specs.Verdict.{accepted, verdict_of}
-use Rattle.grammar.specs.VerdictLaws.{verdict-exact}
+use Rattle.grammar.proofs.VerdictLaws.{verdict-exact}
 use Rattle.grammar.specs.Counted.{messages_in}
 use Rattle.grammar.specs.Named.{Placed, placed}
 use Rattle.spans.specs.Span.{autack_m}

@@ -17,7 +17,7 @@ use Rattle.grammar.specs.Segments as named
 use Rattle.grammar.specs.Segments.{Named, Free, Asked, kind_in, tags}
 use Rattle.grammar.specs.Loads.{Shape, shape, amount_right, grams, unit, three_part, control_unit, control_by}
 use Rattle.grammar.specs.Elements.{Range, any_text, not_empty, not_empty_reference, digits, reference, simple, composite, in_range, formed_as, formed, formed_kind}
-use Rattle.grammar.specs.PlacingLaws.{same-eq}
+use Rattle.grammar.proofs.PlacingLaws.{same-eq}
 use Rattle.elements.specs.Octets.{text_at, parts_at, repeated_at, asked_at}
 use Rattle.elements.specs.Kinds.{of_kind, tag_kind}
 use Rattle.elements.specs.Fields.{Fields}

@@ -23,12 +23,5 @@ pub mod Weighed
 pub mod TestLaws
 pub mod SnocLaws
 pub mod RuleLaws
-pub mod PlacingLaws
-pub mod ListsLaws
-pub mod PlacesLaws
-pub mod RunningLaws
-pub mod WalkLaws
 pub mod StartLaws
-pub mod VerdictLaws
-pub mod PairLaws
 pub mod WeighedLaws

@@ -24,10 +24,10 @@ use Rattle.grammar.specs.Interchange.{Leaf, Message, idle, done, shown, show_mes
 use Rattle.grammar.specs.Rules.{ref_m, ok_message, refs_message}
 use Rattle.grammar.specs.Valid.{Interchange, interchange, Valid, syntax_in, in_force, opening_in, una_of, reading, segments, print_interchange}
 use Rattle.grammar.specs.Verdict.{accepted, refused_with, verdict_of, verdict_by, una_at, read}
-use Rattle.grammar.specs.VerdictLaws.{verdict-exact}
+use Rattle.grammar.proofs.VerdictLaws.{verdict-exact}
 use Rattle.grammar.specs.StartLaws.{start-printed, rest-printed, fit-in-force}
-use Rattle.grammar.specs.PlacingLaws.{regroup}
-use Rattle.grammar.specs.PairLaws.{few-headers, few-tails}
+use Rattle.grammar.proofs.PlacingLaws.{regroup}
+use Rattle.grammar.proofs.PairLaws.{few-headers, few-tails}
 use Rattle.grammar.specs.Places.{wide, headers_in, trailers_in}
 use Rattle.grammar.specs.Named.{placed, placed_in}
 use Rattle.walk.specs.RunLaws.{verdict-by}

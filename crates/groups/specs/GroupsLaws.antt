@@ -9,14 +9,14 @@ use Rattle.syntax.specs.Service.{fit}
 use Rattle.syntax.specs.Tree.{Segment}
 use Rattle.syntax.specs.declared.Service.{Service}
 use Rattle.grammar.specs.Lists.{Snoc, nil, ◌▷◌, ◌+++◌, each, joined, size, among}
-use Rattle.grammar.specs.ListsLaws.{last_of, first-of, joined-join}
+use Rattle.grammar.proofs.ListsLaws.{last_of, first-of, joined-join}
 use Rattle.grammar.specs.TestLaws.{passes}
-use Rattle.grammar.specs.PlacingLaws.{same-eq}
+use Rattle.grammar.proofs.PlacingLaws.{same-eq}
 use Rattle.grammar.specs.Segments.{Ush, Usa, Usr, Ust, seg, element_content, Asked}
 use Rattle.grammar.specs.Interchange.{Header, header, Trailer, trailer, show_option, show_certificate, show_header, show_trailer}
 use Rattle.grammar.specs.Rules.{ref_h, ref_t}
 use Rattle.grammar.specs.Places.{wide, starts_of}
-use Rattle.grammar.specs.PlacesLaws.{wide-join}
+use Rattle.grammar.proofs.PlacesLaws.{wide-join}
 use Rattle.message.specs.Heads.{upto}
 use Rattle.groups.specs.Stand.{Stand}
 use Rattle.groups.specs.StandLaws.{stand-front, stand-back, stand-asked}

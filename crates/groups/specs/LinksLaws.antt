@@ -25,10 +25,10 @@ use Rattle.syntax.specs.declared.Found.TheVariants.{At as EndsAt, Nothing}
 use Rattle.grammar.specs.Lists.{Snoc, nil, ◌▷◌, ◌+++◌, each, joined, list, holds, every}
 use Rattle.grammar.specs.Segments.{Usb, Usx, Usy, seg, tags, kind_in, segment_kind, tag_text, elements_of, asked, Asked, usy0534}
 use Rattle.grammar.specs.Rules.{is_free, ok_item, ok_body}
-use Rattle.grammar.specs.PlacingLaws.{same-eq}
+use Rattle.grammar.proofs.PlacingLaws.{same-eq}
 use Rattle.grammar.specs.Interchange.{Leaf, Header, Link, link, Body, plain, ack, show_link, show_body}
 use Rattle.grammar.specs.Places.{wide}
-use Rattle.grammar.specs.PlacesLaws.{wide-list}
+use Rattle.grammar.proofs.PlacesLaws.{wide-list}
 use Rattle.walk.specs.RunLaws.{long-print}
 use Rattle.groups.specs.Stand.{Row, Stand}
 use Rattle.groups.specs.StandLaws.{list-join, stand-front, stand-back, row_first, row-asked, row-rest}

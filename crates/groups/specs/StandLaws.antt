@@ -16,7 +16,7 @@ use Rattle.syntax.specs.declared.Service.{Service}
 use Rattle.grammar.specs.Lists.{Snoc, nil, ◌▷◌, ◌+++◌, list}
 use Rattle.grammar.specs.Segments.{asked}
 use Rattle.grammar.specs.Places.{wide}
-use Rattle.grammar.specs.PlacesLaws.{wide-list}
+use Rattle.grammar.proofs.PlacesLaws.{wide-list}
 use Rattle.elements.specs.Octets.{asked_at}
 use Rattle.turns.specs.TurnLaws.{asked-same}
 use Rattle.groups.specs.Stand.{Row, Stand}

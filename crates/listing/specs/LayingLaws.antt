@@ -13,9 +13,9 @@ use Rattle.grammar.specs.Interchange.{Leaf, Header, header, Trailer, Body, Open,
 use Rattle.grammar.specs.Rules.{ref_h, ok_message, refs_message}
 use Rattle.grammar.specs.Verdict.{loads_m}
 use Rattle.grammar.specs.Places.{wide, starts_of, headers_in, trailers_in}
-use Rattle.grammar.specs.PlacesLaws.{wide-join}
-use Rattle.grammar.specs.ListsLaws.{last_of, first-of}
-use Rattle.grammar.specs.PairLaws.{few-headers, few-tails}
+use Rattle.grammar.proofs.PlacesLaws.{wide-join}
+use Rattle.grammar.proofs.ListsLaws.{last_of, first-of}
+use Rattle.grammar.proofs.PairLaws.{few-headers, few-tails}
 use Rattle.message.specs.Heads.{upto}
 use Rattle.walk.specs.Layout.{heads_at, body_at, tail_at}
 use Rattle.walk.specs.Sections.{PartsLie}

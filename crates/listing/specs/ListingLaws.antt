@@ -16,7 +16,7 @@ use Rattle.grammar.specs.Lists.{Snoc, nil, ◌▷◌, ◌+++◌, joined}
 use Rattle.grammar.specs.Segments.{Unb, Unz, seg, element_content, Asked}
 use Rattle.grammar.specs.Interchange.{Leaf, Message, message, Reading, idle, done, shown, show_open, show_message}
 use Rattle.grammar.specs.Places.{wide}
-use Rattle.grammar.specs.PlacingLaws.{regroup}
+use Rattle.grammar.proofs.PlacingLaws.{regroup}
 use Rattle.grammar.specs.Running.{Good}
 use Rattle.grammar.specs.Valid.{Interchange, interchange, opening_in}
 use Rattle.grammar.specs.Verdict.{read, accepted, refused_with, verdict_of, verdict_by, una_at}

@@ -11,7 +11,7 @@ use Rattle.syntax.specs.TreeLaws.{off}
 use Rattle.syntax.specs.ContentLaws.{same_self}
 use Rattle.grammar.specs.Lists.{Snoc, nil, ◌▷◌, each, size, any, among, Rule, always, test, holds, check, every, distinct}
 use Rattle.grammar.specs.TestLaws.{is_true, passes}
-use Rattle.grammar.specs.ListsLaws.{each-size}
+use Rattle.grammar.proofs.ListsLaws.{each-size}
 use Rattle.grammar.specs.Interchange.{Header, Body, plain, ack, Trailer, trailer}
 use Rattle.grammar.specs.Grams as grams
 use Rattle.grammar.specs.Grams.{Grams, same_grams, magnitude, sum}
@@ -22,7 +22,7 @@ use Rattle.syntax.specs.Opening.{earlier}
 use Rattle.syntax.specs.declared.Version.{Version}
 use Rattle.grammar.specs.Rules.{ref_h, size_at, counted, paired, one, total}
 use Rattle.grammar.specs.RuleLaws.{check-holds, holds-check}
-use Rattle.grammar.specs.PlacingLaws.{same-eq}
+use Rattle.grammar.proofs.PlacingLaws.{same-eq}
 use Rattle.message.specs.Summary.{first_in, agree_in, sums_in, sums_of, pair_of, size_h, flags_of, or_else, free_at, all_named, pairs_right, pairs_counted, total_right, size_in, named, loaded, controlled_by, controlled}
 
 -- ---- tests

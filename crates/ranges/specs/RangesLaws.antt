@@ -18,7 +18,7 @@ use Rattle.grammar.specs.Rules.{ref_h, ref_t}
 use Rattle.grammar.specs.Valid.{Interchange}
 use Rattle.grammar.specs.Verdict.{Verdict, accepted, refused_with, verdict_of}
 use Rattle.grammar.specs.Places.{wide, starts_of, headers_in, trailers_in}
-use Rattle.grammar.specs.PlacesLaws.{wide-join}
+use Rattle.grammar.proofs.PlacesLaws.{wide-join}
 use Rattle.grammar.specs.Named.{Placed, placed}
 use Rattle.message.specs.Heads.{upto}
 use Rattle.walk.specs.Layout.{heads_at, body_at, tail_at, Rows}

@@ -12,7 +12,7 @@ use Rattle.syntax.specs.ContentLaws.{next-steps, next-over, same_self}
 use Rattle.syntax.specs.declared.content.Next.{Next}
 use Rattle.syntax.specs.declared.content.Next.TheVariants.{Octet, Over}
 use Rattle.grammar.specs.Lists.{among}
-use Rattle.grammar.specs.PlacingLaws.{same-eq}
+use Rattle.grammar.proofs.PlacingLaws.{same-eq}
 use Rattle.references.specs.Refs.{packed, octets_in, head_of, tail_of, Named, is_named, ref_at, refs_in, root_of, Leads, here, down, Reached, Indexed, WordOf, NameOf, Grown, Spot, put, kept, Offered, Fitting}
 
 -- ---- the numbers

@@ -20,7 +20,7 @@ use Rattle.syntax.specs.declared.opening.Start.{Start}
 use Rattle.syntax.specs.declared.opening.Begun.{Begun}
 use Rattle.syntax.specs.declared.opening.Begun.TheVariants.{Ready as Begins, Refused as Refuses}
 use Rattle.grammar.specs.Lists.{Snoc, nil, ◌▷◌, ◌+++◌, joined, list, Rule, holds, every}
-use Rattle.grammar.specs.ListsLaws.{every-left, every-right}
+use Rattle.grammar.proofs.ListsLaws.{every-left, every-right}
 use Rattle.grammar.specs.Grams.{Grams}
 use Rattle.grammar.specs.Segments.{Unb, Unh, Unt, seg}
 use Rattle.grammar.specs.Interchange.{Leaf, Body, Open, msg, Message, message, done, shown, show_header, show_trailer, show_body, show_open, show_message}
@@ -28,7 +28,7 @@ use Rattle.grammar.specs.Rules.{amount_s}
 use Rattle.grammar.specs.Loads.{loads}
 use Rattle.grammar.specs.Valid.{Una, una, Interchange, interchange, Valid, opening_in, una_of, print_una, print_interchange, in_force, syntax_in, segments, reading}
 use Rattle.grammar.specs.Verdict.{Verdict, accepted, refused_with, verdict_of, verdict_by, loads_b, loads_m}
-use Rattle.grammar.specs.VerdictLaws.{verdict-exact}
+use Rattle.grammar.proofs.VerdictLaws.{verdict-exact}
 use Rattle.grammar.specs.Named.{Placed, placed}
 use Rattle.groups.specs.Parts.{body_in}
 use Rattle.groups.specs.PartsLaws.{body-row, call-refused, call-missing, call-holds}
@@ -36,7 +36,7 @@ use Rattle.groups.specs.Stand.{Row, Stand}
 use Rattle.groups.specs.StandLaws.{stand-row}
 use Rattle.groups.specs.Calls.{Answered, given, refused_as, or_missing, answered_by, then, message_in, service_in, Holds}
 use Rattle.groups.specs.CallsLaws.{begins, placed-every}
-use Rattle.grammar.specs.PlacesLaws.{wide-list}
+use Rattle.grammar.proofs.PlacesLaws.{wide-list}
 use Rattle.grammar.specs.Places.{wide}
 use Rattle.walk.specs.declared.sections.Layout.{Layout}
 use Rattle.judge.specs.Told.{verdict_as}

@@ -5,7 +5,7 @@ use Rattle.std.proofs.lemmas.Bool.{false≢true}
 use Rattle.std.proofs.Math.Option.{Option, none, some}
 use Rattle.grammar.specs.Lists.{Snoc, nil, ◌▷◌, ◌+++◌, any, Rule, test, holds, every}
 use Rattle.grammar.specs.Interchange.{Message}
-use Rattle.grammar.specs.PlacingLaws.{regroup}
+use Rattle.grammar.proofs.PlacingLaws.{regroup}
 use Rattle.spans.specs.Span.{autack_m, Parted, parted, joined_by, parted_of}
 
 abbrev pub autack : Message → Rule

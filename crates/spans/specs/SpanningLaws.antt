@@ -10,7 +10,7 @@ use Rattle.grammar.specs.Lists.{Snoc, nil, ◌▷◌, ◌+++◌, joined, check, 
 use Rattle.grammar.specs.Segments.{Unb, Unt, seg}
 use Rattle.grammar.specs.Interchange.{Leaf, Open, msg, Message, message, Reading, start, idle, done, shown, show_open, show_message}
 use Rattle.grammar.specs.Places.{wide}
-use Rattle.grammar.specs.PlacesLaws.{wide-join}
+use Rattle.grammar.proofs.PlacesLaws.{wide-join}
 use Rattle.grammar.specs.TestLaws.{is_true}
 use Rattle.grammar.specs.Verdict.{read}
 use Rattle.walk.specs.RunLaws.{ReadAll}

@@ -11,7 +11,7 @@ use Rattle.syntax.specs.declared.Version.{Version}
 use Rattle.grammar.specs.Lists.{Snoc, nil, ◌▷◌, each, size, any, among, Rule, always, test, ◌and◌, holds, check, every, every_before}
 use Rattle.grammar.specs.declared.Subset.{Subset}
 use Rattle.grammar.specs.declared.Subset.TheVariants.{None, F01, Gs1}
-use Rattle.grammar.specs.ListsLaws.{each-size}
+use Rattle.grammar.proofs.ListsLaws.{each-size}
 use Rattle.grammar.specs.Segments as segments
 use Rattle.grammar.specs.Segments.{Name, Named, Free, Asked, asked, elements_of, tag_text, unb0020, unh0062, unt0062, unz0020, ush0534, ust0534, usy0534, unt0074, unz0036}
 use Rattle.grammar.specs.Interchange.{Leaf, certificate, Header, header, Trailer, trailer, link, Body, plain, ack, Open, msg, Message, message, Reading, start, idle, busy, done, show_open}
@@ -19,7 +19,7 @@ use Rattle.grammar.specs.Loads.{loads, controls, load_in, control_in}
 use Rattle.grammar.specs.Rules.{inside_s, order, formed_s, formed_in, subsets, refs, counts, scopes, amount_s, autack, certified, is_autack, subset, ref_h, ref_t, ref_m, is_free, ok_item, whole, filled, one, paired, total, scope_right}
 use Rattle.grammar.specs.RuleLaws.{check-holds, holds-check, is-autack}
 use Rattle.grammar.specs.Placing.{grow_named, grow, place, in_open, in_body, item_b}
-use Rattle.grammar.specs.PlacingLaws.{same-eq}
+use Rattle.grammar.proofs.PlacingLaws.{same-eq}
 use Rattle.grammar.specs.Verdict.{tested, on, found_at, tests, refused, decided}
 use Rattle.grammar.specs.Running.{Good}
 use Rattle.elements.specs.Kinds.{of_name, of_kind, tag_kind}

@@ -23,7 +23,7 @@ use Rattle.grammar.specs.Segments as named
 use Rattle.grammar.specs.Elements.{any_text, digits, reference, simple, composite, row, in_range, formed_as, formed_row, formed}
 use Rattle.grammar.specs.Loads.{load_right}
 use Rattle.grammar.specs.Verdict.{tested}
-use Rattle.grammar.specs.PlacingLaws.{same-eq}
+use Rattle.grammar.proofs.PlacingLaws.{same-eq}
 use Rattle.elements.specs.Kinds.{tag_kind}
 use Rattle.elements.specs.Octets.{text_at, asked_at}
 use Rattle.elements.specs.Fields.{Marked, start_in, end_in}

@@ -9,7 +9,7 @@ use Rattle.grammar.specs.Segments.{Unh, Ush, seg}
 use Rattle.grammar.specs.Interchange.{Leaf, certificate, Header, header, Trailer, trailer, Body, plain, ack, Open, msg, show_header, show_trailer, show_body, show_open}
 use Rattle.grammar.specs.Places.{wide, starts_of, headers_in, trailers_in}
 use Rattle.grammar.specs.Going.{more, begun_b, Where, opens_header, in_header, in_items, opens_trailer, in_trailer}
-use Rattle.grammar.specs.PlacesLaws.{wide-join}
+use Rattle.grammar.proofs.PlacesLaws.{wide-join}
 use Rattle.message.specs.Summary.{group_of}
 use Rattle.message.specs.Heads.{upto}
 use Rattle.message.specs.HeadsLaws.{upto-same}

@@ -30,11 +30,11 @@ use Rattle.grammar.specs.Segments.{Asked, asked}
 use Rattle.grammar.specs.Interchange.{Leaf, Message, Reading, start, idle, busy, done, shown}
 use Rattle.grammar.specs.Placing.{place}
 use Rattle.grammar.specs.Places.{wide}
-use Rattle.grammar.specs.PlacingLaws.{shows}
+use Rattle.grammar.proofs.PlacingLaws.{shows}
 use Rattle.grammar.specs.SnocLaws.{not-nil}
 use Rattle.grammar.specs.Running.{Passed}
-use Rattle.grammar.specs.RunningLaws.{good_start, passed-good}
-use Rattle.grammar.specs.WalkLaws.{step-passed}
+use Rattle.grammar.proofs.RunningLaws.{good_start, passed-good}
+use Rattle.grammar.proofs.WalkLaws.{step-passed}
 use Rattle.grammar.specs.StartLaws.{start-read}
 use Rattle.grammar.specs.Verdict.{Answer, read, refused, tests, decided, then, at_end, unless-done, walk, concluded, verdict_of, verdict_by, una_at}
 use Rattle.elements.specs.Kinds.{tag_kind}

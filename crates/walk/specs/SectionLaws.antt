@@ -17,18 +17,18 @@ use Rattle.grammar.specs.Lists.{Snoc, nil, ◌▷◌, ◌+++◌, size, joined}
 use Rattle.grammar.specs.Grams.{sum, magnitude, below}
 use Rattle.grammar.specs.Weighed.{forward, back, apart}
 use Rattle.grammar.specs.WeighedLaws.{apart-most, sum_below, sum-magnitude}
-use Rattle.grammar.specs.ListsLaws.{each-size}
+use Rattle.grammar.proofs.ListsLaws.{each-size}
 use Rattle.grammar.specs.Segments as segments
 use Rattle.grammar.specs.Segments.{Named, Free, kind_in, tags, seg, elements_of}
 use Rattle.grammar.specs.Interchange.{Leaf, Body, plain, ack, Open, msg, Message, message, Reading, start, idle, busy, done, show_header, show_body, show_trailer, show_open, show_message, shown}
 use Rattle.grammar.specs.Rules.{is_autack, ref_h, ref_o}
 use Rattle.grammar.specs.RuleLaws.{is-autack}
 use Rattle.grammar.specs.Placing.{place}
-use Rattle.grammar.specs.PlacingLaws.{tag-named}
+use Rattle.grammar.proofs.PlacingLaws.{tag-named}
 use Rattle.grammar.specs.Places.{wide, headers_in, trailers_in}
 use Rattle.grammar.specs.Going.{Where}
-use Rattle.grammar.specs.PlacesLaws.{wide-join, leads-placed, begin-placed, open-placed, where-placed, close-placed, end-placed}
-use Rattle.grammar.specs.PairLaws.{few-trailers}
+use Rattle.grammar.proofs.PlacesLaws.{wide-join, leads-placed, begin-placed, open-placed, where-placed, close-placed, end-placed}
+use Rattle.grammar.proofs.PairLaws.{few-trailers}
 use Rattle.grammar.specs.Running.{Good}
 use Rattle.grammar.specs.Verdict.{loads_b, loads_m, refused}
 use Rattle.elements.specs.Kinds.{of_name, of_kind, tag_kind}

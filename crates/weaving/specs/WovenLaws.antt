@@ -32,11 +32,11 @@ use Rattle.grammar.specs.Interchange.{Leaf, Header, Trailer, Body, Open, msg, Me
 use Rattle.grammar.specs.Rules.{ref_m, formed_s}
 use Rattle.grammar.specs.Valid.{Una, una, Interchange, interchange, in_force, syntax_in, opening_in, print_una, una_of, segments, Valid}
 use Rattle.grammar.specs.Verdict.{accepted, verdict_of}
-use Rattle.grammar.specs.VerdictLaws.{verdict-exact}
-use Rattle.grammar.specs.PlacingLaws.{regroup}
+use Rattle.grammar.proofs.VerdictLaws.{verdict-exact}
+use Rattle.grammar.proofs.PlacingLaws.{regroup}
 use Rattle.grammar.specs.TestLaws.{is_true}
 use Rattle.grammar.specs.Places.{wide}
-use Rattle.grammar.specs.PlacesLaws.{wide-list, wide-join}
+use Rattle.grammar.proofs.PlacesLaws.{wide-list, wide-join}
 use Rattle.grammar.specs.Named.{Placed, placed, placed_in}
 use Rattle.elements.specs.AmountsLaws.{tens-below, digits-below}
 use Rattle.message.specs.StepsLaws.{six-is}
@@ -53,7 +53,7 @@ use Rattle.groups.specs.CallsLaws.{placed-every, version-so}
 use Rattle.weaving.specs.Seals.{single, new_header, new_trailer, grown, sealed_message, sealed_in, sealed, signed_text, sealed_text}
 use Rattle.weaving.specs.Woven.{header_text, trailer_text, count_by, count_at, end_by, count_end, rest_pieces, octets_pieces, sealed_pieces}
 use Rattle.weaving.specs.PiecesLaws.{segment-print, single-print}
-use Rattle.grammar.specs.ListsLaws.{every-right, every-joined, joined-join}
+use Rattle.grammar.proofs.ListsLaws.{every-right, every-joined, joined-join}
 
 -- ---- UNT: its count, and where that ends
 

@@ -1,4 +1,4 @@
-use Rattle.grammar.specs.VerdictLaws.{accepted-exactly}
+use Rattle.grammar.proofs.VerdictLaws.{accepted-exactly}
 use Rattle.demands.proofs.accepted_exactly.Goals as goal
 
 pub returns : goal.returns

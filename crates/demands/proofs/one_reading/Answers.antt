@@ -1,4 +1,4 @@
-use Rattle.grammar.specs.VerdictLaws.{one-reading}
+use Rattle.grammar.proofs.VerdictLaws.{one-reading}
 use Rattle.demands.proofs.one_reading.Goals as goal
 
 pub returns : goal.returns

@@ -1,4 +1,4 @@
-use Rattle.grammar.specs.VerdictLaws.{totals-read}
+use Rattle.grammar.proofs.VerdictLaws.{totals-read}
 use Rattle.demands.proofs.totals_are_read.Goals as goal
 
 pub returns : goal.returns

@@ -24,8 +24,8 @@ use Rattle.grammar.specs.Valid.{Una, Interchange, interchange, reading, segments
 use Rattle.grammar.specs.Verdict.{Answer, read, refused, walk, Verdict, accepted, refused_with, una_at, concluded, verdict_by, verdict_of, totals_in, totals_by, totals_of}
 use Rattle.grammar.specs.Counted.{counted_in, messages_in}
 use Rattle.grammar.specs.Running.{Good, Runs}
-use Rattle.grammar.specs.RunningLaws.{runs-good, good-runs}
-use Rattle.grammar.specs.WalkLaws.{walk-sound, walk-complete}
+use Rattle.grammar.proofs.RunningLaws.{runs-good, good-runs}
+use Rattle.grammar.proofs.WalkLaws.{walk-sound, walk-complete}
 use Rattle.grammar.specs.StartLaws.{every_front, StartRead, start-read, syntax-read, behind, unb-first, unb-once, fit-in-force, una-printed, rest-printed, start-printed}
 
 -- ---- a valid interchange is accepted

@@ -9,7 +9,7 @@ use Rattle.grammar.specs.Lists.{Snoc, nil, ◌▷◌, map, ◌+++◌, list}
 use Rattle.grammar.specs.Segments.{Name, Unb, Unh, Unt, Unz, Ush, Usa, Usc, Usr, Ust, Usb, Usx, Usy, Kind, Named, Reserved, Free, elements_of, segment_kind, seg}
 use Rattle.grammar.specs.Interchange.{Leaf, certificate, Header, header, trailer, link, Body, plain, ack, Open, msg, Message, Reading, start, idle, busy, done, show_header, show_body}
 use Rattle.grammar.specs.Placing.{usa_h, usc_h, usr_h, lastly, in_headers, in_body, usb_b, usx_b, usy_b, item_b, usr_o, ust_o, in_open, grow_named, grow, place}
-use Rattle.grammar.specs.PlacingLaws.{kind-named}
+use Rattle.grammar.proofs.PlacingLaws.{kind-named}
 use Rattle.grammar.specs.Places.{wide}
 use Rattle.grammar.specs.Going.{more, begun_b, Where, Goes, leads, Grown, Closed, Opened, Begun, Ended, opens_header, in_header, in_items, opens_trailer, in_trailer, begins, opens, goes_on, closes, ends}
 

@@ -2,7 +2,7 @@
 use Rattle.std.specs.Prelude.{suc, ◌+◌, ◌≡◌, refl}
 use Rattle.std.proofs.Common.{arith, ap, ◌∙◌, sym}
 use Rattle.grammar.specs.Lists.{Snoc, nil, ◌▷◌, ◌+++◌, each, joined, size, Rule, holds, every}
-use Rattle.grammar.specs.PlacingLaws.{regroup}
+use Rattle.grammar.proofs.PlacingLaws.{regroup}
 
 -- equal lists have an equal last one, and the same before it
 pub last_of : {A : Type 0} {xs ys : Snoc A} {a b : A} → xs ▷ a ≡ ys ▷ b → a ≡ b

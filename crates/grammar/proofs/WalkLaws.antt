@@ -15,7 +15,7 @@ use Rattle.grammar.specs.Interchange.{Leaf, Message, Reading, start, idle, busy,
 use Rattle.grammar.specs.Rules.{inside_s, order, formed_s, subsets, refs, counts, scopes, amount_s}
 use Rattle.grammar.specs.RuleLaws.{check-holds, holds-check}
 use Rattle.grammar.specs.Placing.{grow, place}
-use Rattle.grammar.specs.RunningLaws.{done-stops}
+use Rattle.grammar.proofs.RunningLaws.{done-stops}
 use Rattle.grammar.specs.Running.{Passed, Runs, stay, go}
 use Rattle.grammar.specs.Verdict.{Test, tested, on, tests, Answer, read, refused, decided, then, at_end, unless-done, tagged-or, walk}
 

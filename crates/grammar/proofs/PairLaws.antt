@@ -7,9 +7,9 @@ use Rattle.grammar.specs.Lists.{Snoc, nil, ◌▷◌, each, size, among, holds, 
 use Rattle.grammar.specs.Interchange.{Leaf, Open, msg, message}
 use Rattle.grammar.specs.Rules.{ref_h, ref_t, one, ok_message, refs_open, refs_message}
 use Rattle.grammar.specs.Places.{headers_in, trailers_in}
-use Rattle.grammar.specs.PlacingLaws.{same-eq}
+use Rattle.grammar.proofs.PlacingLaws.{same-eq}
 use Rattle.grammar.specs.TestLaws.{is_true}
-use Rattle.grammar.specs.ListsLaws.{each-size}
+use Rattle.grammar.proofs.ListsLaws.{each-size}
 
 -- how many of rs are among ts
 abbrev pub count_in : Snoc (List ℕ) → Snoc (List ℕ) → ℕ

@@ -11,7 +11,7 @@ use Rattle.grammar.specs.Rules.{inside_s, inside, order, formed_s, well_formed, 
 use Rattle.grammar.specs.Placing.{grow_named, grow, place}
 use Rattle.grammar.specs.Running.{Passed, Runs, stay, go, Good}
 use Rattle.grammar.specs.SnocLaws.{onto, list-onto, not-nil}
-use Rattle.grammar.specs.PlacingLaws.{shows, Back, first, from, LastFree, last-free, back, Before, shut-order, shut-subsets, shut-refs, shut-counts, shut-scopes, shut-each}
+use Rattle.grammar.proofs.PlacingLaws.{shows, Back, first, from, LastFree, last-free, back, Before, shut-order, shut-subsets, shut-refs, shut-counts, shut-scopes, shut-each}
 
 -- ---- a run keeps what is good
 
