@@ -6,7 +6,7 @@ use Rattle.syntax.specs.Content.{compared}
 use Rattle.syntax.specs.Refusals.{at_zero}
 use Rattle.syntax.specs.Octets.{all_pass, within}
 use Rattle.syntax.specs.Repertoire.{tag_octet}
-use Rattle.syntax.specs.TreeLaws.{and_left, and_right, and_both}
+use Rattle.syntax.proofs.TreeLaws.{and_left, and_right, and_both}
 use Rattle.syntax.specs.declared.Syntax.{Syntax}
 use Rattle.syntax.specs.declared.Version.{Version}
 use Rattle.grammar.specs.Lists.{Snoc, each, among, size}

@@ -4,7 +4,7 @@ use Rattle.std.proofs.Common.{arith, ap, ◌∙◌, sym, subst}
 use Rattle.std.proofs.Math.Option.{some}
 use Rattle.syntax.specs.Content.{compared}
 use Rattle.syntax.specs.Octets.{octets, same}
-use Rattle.syntax.specs.ContentLaws.{same_self}
+use Rattle.syntax.proofs.ContentLaws.{same_self}
 use Rattle.syntax.specs.declared.Service.{Service}
 use Rattle.grammar.specs.Lists.{Snoc, nil, ◌▷◌, each, among, holds}
 use Rattle.grammar.specs.TestLaws.{passes}

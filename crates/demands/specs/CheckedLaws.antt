@@ -4,7 +4,7 @@ use Rattle.std.proofs.Common.{arith, ap, sym, ◌∙◌, subst, ltb-false, le-lt
 use Rattle.syntax.specs.declared.Refusal.{Refusal}
 use Rattle.syntax.specs.Octets.{same}
 use Rattle.syntax.specs.Refusals.{at_zero}
-use Rattle.syntax.specs.ContentLaws.{same_self}
+use Rattle.syntax.proofs.ContentLaws.{same_self}
 use Rattle.grammar.proofs.PlacingLaws.{same-eq}
 use Rattle.grammar.specs.Verdict.{Verdict, accepted, refused_with, verdict_of}
 use Rattle.writing.specs.Written.{Text, text, no_text, refused_as, Writes}

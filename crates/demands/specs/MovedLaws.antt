@@ -6,7 +6,7 @@ use Rattle.syntax.specs.Octets.{octets, same}
 use Rattle.syntax.specs.Refusals.{at_zero}
 use Rattle.syntax.specs.Tree as syntax
 use Rattle.syntax.specs.Tree.{Segment}
-use Rattle.syntax.specs.TreeLaws.{is_true, and_right}
+use Rattle.syntax.proofs.TreeLaws.{is_true, and_right}
 use Rattle.syntax.specs.declared.Service.{Service}
 use Rattle.grammar.specs.Lists.{Snoc, nil, ◌▷◌, ◌+++◌, joined, list, size, holds, every}
 use Rattle.grammar.proofs.ListsLaws.{size-join, every-left, every-right}

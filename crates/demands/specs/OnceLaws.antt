@@ -3,7 +3,7 @@ use Rattle.std.specs.Prelude.{ℕ, ◌≡◌, refl, List, Bool, true, false, con
 use Rattle.std.proofs.Common.{ap, ◌∙◌, sym, subst, T_not}
 use Rattle.std.proofs.Math.Option.{Option, none, some}
 use Rattle.syntax.specs.Octets.{same}
-use Rattle.syntax.specs.ContentLaws.{same_self}
+use Rattle.syntax.proofs.ContentLaws.{same_self}
 use Rattle.grammar.specs.Lists.{Snoc, nil, ◌▷◌, ◌+++◌, each, among, Rule, holds, every, distinct}
 use Rattle.grammar.proofs.ListsLaws.{every-left}
 use Rattle.grammar.specs.TestLaws.{passes, or_left, or_right}

@@ -8,16 +8,16 @@ use Rattle.syntax.specs.Service.{kind, without_repetition, fit}
 use Rattle.syntax.specs.Repertoire.{outside}
 use Rattle.syntax.specs.Content.{content}
 use Rattle.syntax.specs.Cutting.{stop_from, end_at, ends, first_outside, tag_of}
-use Rattle.syntax.specs.CuttingLaws.{slice-take}
+use Rattle.syntax.proofs.CuttingLaws.{slice-take}
 use Rattle.syntax.specs.Opening.{goes, repeating, starts_una, una_service, read_una, opening_of, level_named, version_named, settled, both_named, is_tag, is_unb, is_there, begun_at, begun_by, begun_of}
 use Rattle.syntax.specs.Ordinal.{ordinal_by, ordinal_of}
 use Rattle.syntax.specs.Refusals.{refusal_at}
 use Rattle.syntax.specs.Segment.{component_at, part_of}
 use Rattle.syntax.specs.Reader.{chain}
-use Rattle.syntax.specs.ReaderLaws.{no_place, same_place, well-cons, well-uncons}
+use Rattle.syntax.proofs.ReaderLaws.{no_place, same_place, well-cons, well-uncons}
 use Rattle.syntax.specs.Tree.{Segment, print_s, print, well}
-use Rattle.syntax.specs.TreeLaws.{print-cons, segment-end}
-use Rattle.syntax.specs.BridgeLaws.{alone}
+use Rattle.syntax.proofs.TreeLaws.{print-cons, segment-end}
+use Rattle.syntax.proofs.BridgeLaws.{alone}
 use Rattle.syntax.specs.declared.Breach.{Breach}
 use Rattle.syntax.specs.declared.Refusal.{Refusal}
 use Rattle.syntax.specs.declared.Service.{Service}

@@ -4,7 +4,7 @@ use Rattle.std.proofs.Common.{arith, ap, ◌∙◌, sym, subst, append_assoc, ap
 use Rattle.std.proofs.Math.Option.{Option, some}
 use Rattle.syntax.specs.Service.{fit}
 use Rattle.syntax.specs.Tree.{Segment, print, well}
-use Rattle.syntax.specs.ReaderLaws.{print-injective}
+use Rattle.syntax.proofs.ReaderLaws.{print-injective}
 use Rattle.syntax.specs.declared.Service.{Service}
 use Rattle.grammar.specs.Lists.{Snoc, nil, ◌▷◌, ◌+++◌, joined, list, size, holds, every, few}
 use Rattle.grammar.specs.SnocLaws.{onto, not-nil}

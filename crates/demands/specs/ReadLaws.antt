@@ -4,13 +4,13 @@ use Rattle.std.proofs.Common.{arith, ap, ◌∙◌, sym, subst, append_assoc, T_
 use Rattle.std.proofs.Math.Option.{Option, some}
 use Rattle.std.proofs.Math.IntN.{+ℤ_idr, +ℤ_assoc}
 use Rattle.std.proofs.Math.Seq.{slice}
-use Rattle.syntax.specs.BareLaws.{compared-twice}
+use Rattle.syntax.proofs.BareLaws.{compared-twice}
 use Rattle.syntax.specs.Content.{compared}
 use Rattle.syntax.specs.Octets.{octets, same}
 use Rattle.syntax.specs.Service.{fit}
 use Rattle.syntax.specs.Tree.{Segment, print, well}
-use Rattle.syntax.specs.ContentLaws.{same_self}
-use Rattle.syntax.specs.TreeLaws.{and_left, and_right}
+use Rattle.syntax.proofs.ContentLaws.{same_self}
+use Rattle.syntax.proofs.TreeLaws.{and_left, and_right}
 use Rattle.syntax.specs.declared.Service.{Service}
 use Rattle.syntax.specs.declared.Syntax.{Syntax}
 use Rattle.grammar.specs.Lists.{Snoc, nil, ◌▷◌, ◌+++◌, joined, list, each, size, any, check, among, holds, every, few, distinct}

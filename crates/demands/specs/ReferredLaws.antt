@@ -3,7 +3,7 @@ use Rattle.std.specs.Prelude.{ℕ, ◌+◌, ◌≡◌, refl, List, ◌↔◌, Bo
 use Rattle.std.proofs.Common.{arith, ap, ◌∙◌, sym, append_assoc}
 use Rattle.std.proofs.Math.Option.{none, some}
 use Rattle.syntax.specs.Octets.{octets, same}
-use Rattle.syntax.specs.ContentLaws.{same_self}
+use Rattle.syntax.proofs.ContentLaws.{same_self}
 use Rattle.syntax.specs.Tree.{Segment}
 use Rattle.syntax.specs.declared.Service.{Service}
 use Rattle.grammar.specs.Lists.{Snoc, nil, ◌▷◌, ◌+++◌, joined, list}

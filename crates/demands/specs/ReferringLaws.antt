@@ -4,7 +4,7 @@ use Rattle.std.proofs.Common.{ap, ◌∙◌}
 use Rattle.std.proofs.Math.Option.{Option, none, some}
 use Rattle.syntax.specs.Content.{compared}
 use Rattle.syntax.specs.Octets.{same}
-use Rattle.syntax.specs.ContentLaws.{same_self}
+use Rattle.syntax.proofs.ContentLaws.{same_self}
 use Rattle.grammar.specs.TestLaws.{passes}
 use Rattle.grammar.proofs.PlacingLaws.{same-eq}
 use Rattle.grammar.specs.Interchange.{Header, Open, msg, Message, message}

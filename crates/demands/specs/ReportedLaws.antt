@@ -17,7 +17,7 @@ use Rattle.grammar.proofs.PlacesLaws.{wide-list}
 use Rattle.grammar.specs.Counted.{messages_in}
 use Rattle.groups.specs.Groups.{Chosen, chosen, chosen_by}
 use Rattle.syntax.specs.Content.{compared}
-use Rattle.syntax.specs.BareLaws.{compared-twice}
+use Rattle.syntax.proofs.BareLaws.{compared-twice}
 use Rattle.groups.specs.GroupsLaws.{chosen-among}
 use Rattle.groups.specs.Parts.{header_at, trailer_at}
 use Rattle.groups.specs.Calls.{given, service_in}

@@ -3,7 +3,7 @@ use Rattle.std.specs.Prelude.{ℕ, ◌+◌, ◌≡◌, refl, List, ◌↔◌, Bo
 use Rattle.std.proofs.Common.{ap, ◌∙◌, sym}
 use Rattle.std.proofs.Math.Option.{Option, none, some}
 use Rattle.syntax.specs.Octets.{octets, same}
-use Rattle.syntax.specs.ContentLaws.{same_self}
+use Rattle.syntax.proofs.ContentLaws.{same_self}
 use Rattle.grammar.specs.TestLaws.{passes}
 use Rattle.grammar.proofs.PlacingLaws.{same-eq}
 use Rattle.grammar.specs.Segments.{unb0020, usx0020, usx0062_text}

@@ -5,7 +5,7 @@ use Rattle.std.proofs.Math.Option.{Option, none, some}
 use Rattle.syntax.specs.Content.{compared}
 use Rattle.syntax.specs.declared.Refusal.{Refusal}
 use Rattle.syntax.specs.Refusals.{at_zero}
-use Rattle.syntax.specs.TreeLaws.{and_left, and_right}
+use Rattle.syntax.proofs.TreeLaws.{and_left, and_right}
 use Rattle.grammar.specs.Lists.{Snoc}
 use Rattle.grammar.specs.Interchange.{Leaf, Header, Trailer, Body, msg, message}
 use Rattle.grammar.specs.Valid.{Interchange, interchange, print_interchange, syntax_in, opening_in}

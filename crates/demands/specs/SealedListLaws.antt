@@ -4,8 +4,8 @@ use Rattle.std.proofs.Common.{arith, ap, ◌∙◌, sym, subst, T_not}
 use Rattle.std.proofs.Math.Option.{some}
 use Rattle.std.proofs.Math.Bool.{or-false, or_assoc}
 use Rattle.syntax.specs.Octets.{same}
-use Rattle.syntax.specs.ContentLaws.{same_self}
-use Rattle.syntax.specs.TreeLaws.{off}
+use Rattle.syntax.proofs.ContentLaws.{same_self}
+use Rattle.syntax.proofs.TreeLaws.{off}
 use Rattle.grammar.specs.Lists.{Snoc, nil, ◌▷◌, ◌+++◌, each, joined, among, Rule, holds, every, distinct}
 use Rattle.grammar.proofs.ListsLaws.{every-join}
 use Rattle.grammar.specs.TestLaws.{is_true, passes, or_left, or_right}

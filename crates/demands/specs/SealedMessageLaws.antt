@@ -5,8 +5,8 @@ use Rattle.std.proofs.Math.Option.{some}
 use Rattle.syntax.specs.Content.{compared}
 use Rattle.syntax.specs.Octets.{octets, same}
 use Rattle.syntax.specs.Opening.{earlier}
-use Rattle.syntax.specs.ContentLaws.{same_self}
-use Rattle.syntax.specs.TreeLaws.{off, and_left, and_right}
+use Rattle.syntax.proofs.ContentLaws.{same_self}
+use Rattle.syntax.proofs.TreeLaws.{off, and_left, and_right}
 use Rattle.syntax.specs.declared.Service.{Service}
 use Rattle.syntax.specs.declared.Version.{Version}
 use Rattle.grammar.specs.Lists.{Snoc, nil, ◌▷◌, ◌+++◌, each, joined, size, among, Rule, always, test, ◌and◌, holds, every, few, distinct}

@@ -2,7 +2,7 @@
 use Rattle.std.specs.Prelude.{ℕ, zero, suc, ◌+◌, ◌*◌, ◌/◌, ◌%◌, ◌≤◌, ◌<◌, ◌≡◌, refl, List, [], ◌∷◌, Bool, true, false, cond, ltb, length}
 use Rattle.std.proofs.Common.{arith, ap, ◌∙◌, lt-ltb}
 use Rattle.syntax.specs.Content.{value_from, compared}
-use Rattle.syntax.specs.ContentLaws.{power}
+use Rattle.syntax.proofs.ContentLaws.{power}
 use Rattle.syntax.specs.Service.{serves}
 use Rattle.syntax.specs.Octets.{octets}
 use Rattle.syntax.specs.Opening.{earlier}

@@ -8,7 +8,7 @@ use Rattle.syntax.specs.Opening.{earlier}
 use Rattle.syntax.specs.Repertoire.{tag_octet}
 use Rattle.syntax.specs.Content.{all_digits, blank}
 use Rattle.syntax.specs.Tree.{Segment, ok, content_in}
-use Rattle.syntax.specs.TreeLaws.{and_left, and_right, and_both}
+use Rattle.syntax.proofs.TreeLaws.{and_left, and_right, and_both}
 use Rattle.syntax.specs.declared.Service.{Service}
 use Rattle.syntax.specs.declared.Syntax.{Syntax}
 use Rattle.syntax.specs.declared.Version.{Version}

@@ -5,7 +5,7 @@ use Rattle.syntax.specs.Opening.{earlier}
 use Rattle.syntax.specs.Repertoire.{tag_octet}
 use Rattle.syntax.specs.Tree.{Component, Element, segment, Symbol, tok, comp, elem, term, each, flat_c, flat_e, flat_s}
 use Rattle.syntax.specs.Tree as syntax
-use Rattle.syntax.specs.TreeLaws.{and_left, and_right, and_both}
+use Rattle.syntax.proofs.TreeLaws.{and_left, and_right, and_both}
 use Rattle.syntax.specs.declared.Service.{Service}
 use Rattle.syntax.specs.declared.Version.{Version}
 use Rattle.grammar.specs.Segments.{Unt, Ush, Usa, Usr, Ust, seg, number}

@@ -7,7 +7,7 @@ use Rattle.syntax.specs.Octets as octets
 use Rattle.syntax.specs.Octets.{same}
 use Rattle.syntax.specs.Tree as syntax
 use Rattle.syntax.specs.Tree.{Segment}
-use Rattle.syntax.specs.TreeLaws.{and_right, and_both}
+use Rattle.syntax.proofs.TreeLaws.{and_right, and_both}
 use Rattle.syntax.specs.declared.Service.{Service}
 use Rattle.syntax.specs.declared.Syntax.{Syntax}
 use Rattle.grammar.specs.Lists.{Snoc, nil, ◌▷◌, ◌+++◌, joined, list, size, Rule, holds, every, distinct}

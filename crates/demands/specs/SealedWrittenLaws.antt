@@ -8,9 +8,9 @@ use Rattle.syntax.specs.Opening.{is_there}
 use Rattle.syntax.specs.Cutting.{first_outside}
 use Rattle.syntax.specs.Tree.{Segment, Symbol, tok, comp, elem, term, flat_c, flat_s, flat, spell, spells, print_s, ok, ok_tag, well}
 use Rattle.syntax.specs.Tree as syntax
-use Rattle.syntax.specs.TreeLaws.{and_left, and_right, and_both, every-reads}
-use Rattle.syntax.specs.ReaderLaws.{tag-data}
-use Rattle.syntax.specs.CleanLaws.{tag-inside}
+use Rattle.syntax.proofs.TreeLaws.{and_left, and_right, and_both, every-reads}
+use Rattle.syntax.proofs.ReaderLaws.{tag-data}
+use Rattle.syntax.proofs.CleanLaws.{tag-inside}
 use Rattle.syntax.specs.declared.Found.TheVariants.{At}
 use Rattle.syntax.specs.declared.Service.{Service}
 use Rattle.syntax.specs.declared.Syntax.{Syntax}

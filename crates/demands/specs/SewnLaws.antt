@@ -7,7 +7,7 @@ use Rattle.std.proofs.Math.Seq.{slice}
 use Rattle.syntax.specs.Content.{compared}
 use Rattle.syntax.specs.Service.{fit}
 use Rattle.syntax.specs.Tree.{Segment, flat_e, spells, print_s, print}
-use Rattle.syntax.specs.TreeLaws.{print-cons}
+use Rattle.syntax.proofs.TreeLaws.{print-cons}
 use Rattle.syntax.specs.declared.Service.{Service}
 use Rattle.syntax.specs.declared.Syntax.{Syntax}
 use Rattle.grammar.specs.Lists as grammar

@@ -7,7 +7,7 @@ use Rattle.std.proofs.Math.Bool.{true, false}
 use Rattle.std.proofs.lemmas.Bool.{false≢true}
 use Rattle.syntax.specs.Content.{compared}
 use Rattle.syntax.specs.Octets.{same}
-use Rattle.syntax.specs.ContentLaws.{same_self}
+use Rattle.syntax.proofs.ContentLaws.{same_self}
 use Rattle.grammar.specs.Lists.{Snoc, nil, ◌▷◌, ◌+++◌}
 use Rattle.grammar.proofs.ListsLaws.{last_of, first-of}
 use Rattle.grammar.specs.SnocLaws.{not-nil}

@@ -10,7 +10,7 @@ use Rattle.syntax.specs.Cutting.{end_at}
 use Rattle.syntax.specs.Refusals.{at_zero}
 use Rattle.syntax.specs.Segment.{pieces_at, at_element, component_at, part_of, repeats}
 use Rattle.syntax.specs.Tree.{Segment, print, print_s}
-use Rattle.syntax.specs.TreeLaws.{print-cons}
+use Rattle.syntax.proofs.TreeLaws.{print-cons}
 use Rattle.syntax.specs.declared.Refusal.{Refusal}
 use Rattle.syntax.specs.declared.Service.{Service}
 use Rattle.syntax.specs.declared.Syntax.{Syntax}

@@ -5,7 +5,7 @@ use Rattle.std.proofs.Common.{arith, add-one, ◌∙◌, eq-eqb, ne_eqb, length-
 use Rattle.std.proofs.Math.Option.{none}
 use Rattle.syntax.specs.Content.{content}
 use Rattle.syntax.specs.Scanning.{next_of}
-use Rattle.syntax.specs.ContentLaws.{next-steps, next-over}
+use Rattle.syntax.proofs.ContentLaws.{next-steps, next-over}
 use Rattle.syntax.specs.declared.content.Next.{Next}
 use Rattle.syntax.specs.declared.content.Next.TheVariants.{Octet, Over}
 use Rattle.filters.specs.Decoding.{Decodes}

@@ -7,8 +7,8 @@ use Rattle.std.proofs.lemmas.Bool.{lt-leb}
 use Rattle.syntax.specs.Octets.{octets, same, within, digit}
 use Rattle.syntax.specs.Content.{content, all_digits, value_from}
 use Rattle.syntax.specs.Scanning.{next_of}
-use Rattle.syntax.specs.TreeLaws.{and_left, and_right}
-use Rattle.syntax.specs.ContentLaws.{Stepped, next-steps, next-over}
+use Rattle.syntax.proofs.TreeLaws.{and_left, and_right}
+use Rattle.syntax.proofs.ContentLaws.{Stepped, next-steps, next-over}
 use Rattle.syntax.specs.declared.content.Next.{Next}
 use Rattle.syntax.specs.declared.content.Next.TheVariants.{Octet, Over}
 use Rattle.grammar.specs.Grams as number

@@ -4,9 +4,9 @@ use Rattle.std.proofs.Common.{arith, ap, sym, ◌∙◌, subst, true≢false, lt
 use Rattle.std.proofs.Math.Bool.{or-false, or-true, or_assoc}
 use Rattle.std.proofs.lemmas.Bool.{eqb-false}
 use Rattle.syntax.specs.Segment.{Piece, piece, pieces, pieces_at, edge_of, edge_at, at_element, at_component, component_at, part_of, components, repeats, elements, any_repeats}
-use Rattle.syntax.specs.ContentLaws.{part-inside}
+use Rattle.syntax.proofs.ContentLaws.{part-inside}
 use Rattle.syntax.specs.Service.{kind}
-use Rattle.syntax.specs.SegmentLaws.{Stepped, edge-steps, edge-over, after}
+use Rattle.syntax.proofs.SegmentLaws.{Stepped, edge-steps, edge-over, after}
 use Rattle.syntax.specs.declared.Service.{Service}
 use Rattle.syntax.specs.declared.Syntax.{Syntax}
 use Rattle.syntax.specs.declared.reading.Edge.{Edge}
@@ -15,7 +15,7 @@ use Rattle.syntax.specs.declared.reading.Span.{Span}
 use Rattle.syntax.specs.declared.reading.Span.TheVariants.{Part, Absent}
 use Rattle.syntax.specs.Scanning.{cut_at}
 use Rattle.syntax.specs.Clean.{sound, Clean, CleanEdge, TagAt}
-use Rattle.syntax.specs.CleanLaws.{tidy-start, tidy-separator}
+use Rattle.syntax.proofs.CleanLaws.{tidy-start, tidy-separator}
 use Rattle.syntax.specs.Classes.{class_of}
 use Rattle.syntax.specs.declared.cutting.Cut.TheVariants.{Ends}
 use Rattle.elements.specs.declared.fields.Shape.{Shape}

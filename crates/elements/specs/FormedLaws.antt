@@ -7,7 +7,7 @@ use Rattle.std.proofs.Math.Option.{Option}
 use Rattle.syntax.specs.Octets.{octets, same, within}
 use Rattle.syntax.specs.Content.{releases, content_from, content, all_digits, blank}
 use Rattle.syntax.specs.Scanning.{next_of}
-use Rattle.syntax.specs.ContentLaws.{Digital, digital-end, digital-below, digital-above, digital-on, Lengthening, lengthening-end, lengthening-less, lengthening-fits, lengthening-on}
+use Rattle.syntax.proofs.ContentLaws.{Digital, digital-end, digital-below, digital-above, digital-on, Lengthening, lengthening-end, lengthening-less, lengthening-fits, lengthening-on}
 use Rattle.syntax.specs.Segment.{pieces_at, at_element, component_at, part_of, components, repeats, any_repeats}
 use Rattle.syntax.specs.declared.content.Next.{Next}
 use Rattle.syntax.specs.declared.content.Next.TheVariants.{Octet, Over}

@@ -2,7 +2,7 @@
 use Rattle.std.specs.Prelude.{ℕ, zero, suc, ◌<◌, ◌≡◌, refl, Bool, true, false, ◌&&◌, T, eqb}
 use Rattle.std.proofs.Common.{arith, eqb-true}
 use Rattle.std.proofs.lemmas.Bool.{eqb-false}
-use Rattle.syntax.specs.TreeLaws.{and_left, and_right}
+use Rattle.syntax.proofs.TreeLaws.{and_left, and_right}
 
 abbrev pub below : (ℕ → Bool) → ℕ → Bool
 below p zero = true

@@ -4,7 +4,7 @@ use Rattle.std.proofs.Common.{arith, ◌∙◌, lt-ltb, le-ltb}
 use Rattle.std.proofs.Math.Option.{none, some}
 use Rattle.syntax.specs.Content.{content}
 use Rattle.syntax.specs.Scanning.{next_of}
-use Rattle.syntax.specs.ContentLaws.{next-steps, next-over}
+use Rattle.syntax.proofs.ContentLaws.{next-steps, next-over}
 use Rattle.syntax.specs.declared.content.Next.{Next}
 use Rattle.syntax.specs.declared.content.Next.TheVariants.{Octet, Over as NoOctet}
 use Rattle.filters.specs.Hex.{half_of, pair_of, hex_pairs, hex_value}

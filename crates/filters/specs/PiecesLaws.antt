@@ -3,7 +3,7 @@ use Rattle.std.specs.Prelude.{ℕ, suc, ◌-◌, List, [], ◌∷◌, ◌≡◌,
 use Rattle.std.proofs.Common.{arith, ap, sym, ◌∙◌, ne_eqb}
 use Rattle.syntax.specs.Content.{content}
 use Rattle.syntax.specs.Scanning.{next_of}
-use Rattle.syntax.specs.ContentLaws.{next-steps, next-over}
+use Rattle.syntax.proofs.ContentLaws.{next-steps, next-over}
 use Rattle.syntax.specs.declared.content.Next.{Next}
 use Rattle.syntax.specs.declared.content.Next.TheVariants.{Octet, Over as NoOctet}
 use Rattle.filters.specs.Pieces.{Taken, Few, PairBy, PairAt, FourAt}

@@ -5,7 +5,7 @@ use Rattle.std.proofs.lemmas.Bool.{false≢true}
 use Rattle.std.proofs.Math.Option.{none, some}
 use Rattle.std.proofs.Math.Seq.{slice, paste, paste-zero, paste-suc}
 use Rattle.syntax.specs.Octets.{same}
-use Rattle.syntax.specs.BareLaws.{compared-twice}
+use Rattle.syntax.proofs.BareLaws.{compared-twice}
 use Rattle.syntax.specs.Content.{content, compared}
 use Rattle.syntax.specs.declared.Service.{Service}
 use Rattle.syntax.specs.declared.Syntax.{Syntax}

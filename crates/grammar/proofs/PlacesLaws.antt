@@ -3,7 +3,7 @@ use Rattle.std.specs.Prelude.{ℕ, ◌+◌, List, [], ◌∷◌, ◌++◌, ◌�
 use Rattle.std.proofs.Common.{arith, ap, ◌∙◌, sym, subst, length-append}
 use Rattle.std.proofs.Math.Option.{Option, none, some, none-ne-some}
 use Rattle.syntax.specs.Tree.{Segment, print_s, print}
-use Rattle.syntax.specs.TreeLaws.{print-cons}
+use Rattle.syntax.proofs.TreeLaws.{print-cons}
 use Rattle.syntax.specs.declared.Service.{Service}
 use Rattle.grammar.specs.Lists.{Snoc, nil, ◌▷◌, map, ◌+++◌, list}
 use Rattle.grammar.specs.Segments.{Name, Unb, Unh, Unt, Unz, Ush, Usa, Usc, Usr, Ust, Usb, Usx, Usy, Kind, Named, Reserved, Free, elements_of, segment_kind, seg}

@@ -5,7 +5,7 @@ use Rattle.std.proofs.Math.Option.{Option, none, some}
 use Rattle.syntax.specs.Octets as octets
 use Rattle.syntax.specs.Octets.{same}
 use Rattle.syntax.specs.Tree.{Segment, segment}
-use Rattle.syntax.specs.TreeLaws.{and_left, and_right}
+use Rattle.syntax.proofs.TreeLaws.{and_left, and_right}
 use Rattle.syntax.specs.declared.Version.{Version}
 use Rattle.grammar.specs.Lists.{Snoc, nil, ◌▷◌, map, ◌+++◌, joined, size, Rule, holds, every}
 use Rattle.grammar.specs.Segments.{Name, Unb, Unh, Unt, Unz, Ush, Usa, Usc, Usr, Ust, Usb, Usx, Usy, Kind, Named, Reserved, Free, Entry, entry, tags, kind_in, elements_of, segment_kind, text_of, with_tag, seg}

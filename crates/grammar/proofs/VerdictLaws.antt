@@ -7,8 +7,8 @@ use Rattle.syntax.specs.Octets.{within}
 use Rattle.syntax.specs.Opening.{begun_of}
 use Rattle.syntax.specs.Tree as syntax
 use Rattle.syntax.specs.Tree.{Segment, print_s, well, repeats_of}
-use Rattle.syntax.specs.TreeLaws.{print-cons}
-use Rattle.syntax.specs.ReaderLaws.{well-uncons}
+use Rattle.syntax.proofs.TreeLaws.{print-cons}
+use Rattle.syntax.proofs.ReaderLaws.{well-uncons}
 use Rattle.syntax.specs.Reader.{chain}
 use Rattle.syntax.specs.declared.Refusal.{Refusal}
 use Rattle.syntax.specs.declared.Syntax.{Syntax}

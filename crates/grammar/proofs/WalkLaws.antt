@@ -7,7 +7,7 @@ use Rattle.syntax.specs.Service.{fit}
 use Rattle.syntax.specs.Tree as syntax
 use Rattle.syntax.specs.Tree.{Component, Repeat, Element, Segment, print_s, well}
 use Rattle.syntax.specs.Reader.{Chain, over, left, open', chain, cut, before, gathered}
-use Rattle.syntax.specs.ReaderLaws.{chain-print, read_back}
+use Rattle.syntax.proofs.ReaderLaws.{chain-print, read_back}
 use Rattle.syntax.specs.declared.Syntax.{Syntax}
 use Rattle.grammar.specs.Lists.{Snoc, Rule, check}
 use Rattle.grammar.specs.Segments.{Unb, Unh, Unt, Unz, Ush, Usa, Usc, Usr, Ust, Usb, Usx, Usy, Kind, Named, Reserved, Free, segment_kind}

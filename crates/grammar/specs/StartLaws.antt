@@ -9,13 +9,13 @@ use Rattle.syntax.specs.Cutting.{stop_from, end_at, tag_of}
 use Rattle.syntax.specs.Segment.{Piece, piece, pieces, pieces_at, at_element, at_component, component_at, part_of, repeats}
 use Rattle.syntax.specs.Content.{content}
 use Rattle.syntax.specs.Opening.{starts_una, una_service, read_una, opening_of, level_named, version_named, both_named, declared_at, refused_unb, is_tag, is_unb, is_there, begun_at, begun_by, begun_of, goes, repeating}
-use Rattle.syntax.specs.ContentLaws.{drop-short}
+use Rattle.syntax.proofs.ContentLaws.{drop-short}
 use Rattle.syntax.specs.TagLaws.{no-repetition}
 use Rattle.syntax.specs.Tree as syntax
 use Rattle.syntax.specs.Tree.{Segment, print_s, well, repeats_of}
-use Rattle.syntax.specs.TreeLaws.{off, and_left, and_right, and_both, print-cons}
-use Rattle.syntax.specs.BridgeLaws.{Agrees, bridge}
-use Rattle.syntax.specs.ReaderLaws.{well-uncons}
+use Rattle.syntax.proofs.TreeLaws.{off, and_left, and_right, and_both, print-cons}
+use Rattle.syntax.proofs.BridgeLaws.{Agrees, bridge}
+use Rattle.syntax.proofs.ReaderLaws.{well-uncons}
 use Rattle.syntax.specs.declared.Breach.{Breach}
 use Rattle.syntax.specs.declared.Service.{Service}
 use Rattle.syntax.specs.declared.Syntax.{Syntax}

@@ -1,7 +1,7 @@
 -- A test that is passed, told as a truth value and as what it says.
 use Rattle.std.specs.Prelude.{Bool, true, false, ◌||◌, ◌≡◌, T}
 use Rattle.std.proofs.lemmas.Bool.{false≢true}
-pub use Rattle.syntax.specs.TreeLaws.{is_true}
+pub use Rattle.syntax.proofs.TreeLaws.{is_true}
 
 pub passes : (b : Bool) → b ≡ true → T b
 passes true e = tt

@@ -2,14 +2,14 @@
 use Rattle.std.specs.Prelude.{ℕ, ◌+◌, ◌≤◌, ◌≡◌, List, [], ◌++◌, Bool, true, false, cond, T, leb, length, drop}
 use Rattle.std.proofs.Common.{arith, ap, ◌∙◌, sym, subst, append-nil, leb→le}
 use Rattle.std.proofs.Math.Option.{none, some, none-ne-some}
-use Rattle.syntax.specs.ContentLaws.{plain-content}
+use Rattle.syntax.proofs.ContentLaws.{plain-content}
 use Rattle.syntax.specs.Content.{content, compared}
 use Rattle.syntax.specs.Octets.{same}
 use Rattle.syntax.specs.Service.{fit}
 use Rattle.syntax.specs.Opening.{begun_of}
 use Rattle.syntax.specs.Classes.{Table}
 use Rattle.syntax.specs.Tree.{print, well}
-use Rattle.syntax.specs.TreeLaws.{and_right}
+use Rattle.syntax.proofs.TreeLaws.{and_right}
 use Rattle.syntax.specs.declared.Service.{Service}
 use Rattle.syntax.specs.declared.Syntax.{Syntax}
 use Rattle.syntax.specs.Refusals.{refusal_at}

@@ -2,7 +2,7 @@
 use Rattle.std.specs.Prelude.{ℕ, zero, suc, ◌+◌, ◌-◌, ◌≤◌, ◌<◌, ◌≡◌, refl, List, Bool, true, false, cond, T, get_or}
 use Rattle.std.proofs.Common.{arith, ap, ◌∙◌, sym, subst}
 use Rattle.std.proofs.Math.Option.{some}
-use Rattle.syntax.specs.ContentLaws.{plain-content}
+use Rattle.syntax.proofs.ContentLaws.{plain-content}
 use Rattle.syntax.specs.Octets.{same}
 use Rattle.syntax.specs.Content.{content, compared}
 use Rattle.syntax.specs.Service.{fit}

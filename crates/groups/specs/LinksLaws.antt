@@ -9,16 +9,16 @@ use Rattle.std.proofs.Math.Option.{Option, none, some}
 use Rattle.std.proofs.Math.Bool.{true, false, cond}
 use Rattle.std.proofs.Math.ListN.{length, length-append}
 use Rattle.std.proofs.Math.Seq.{slice}
-use Rattle.syntax.specs.ContentLaws.{plain-content}
+use Rattle.syntax.proofs.ContentLaws.{plain-content}
 use Rattle.syntax.specs.Octets.{octets, same}
 use Rattle.syntax.specs.Service.{fit}
-use Rattle.syntax.specs.BareLaws.{compared-twice}
+use Rattle.syntax.proofs.BareLaws.{compared-twice}
 use Rattle.syntax.specs.Content.{content, compared}
 use Rattle.syntax.specs.Cutting.{end_at}
 use Rattle.syntax.specs.Segment.{component_at, part_of}
 use Rattle.syntax.specs.Tree.{Segment, print_s, print}
-use Rattle.syntax.specs.TreeLaws.{print-cons}
-use Rattle.syntax.specs.CuttingLaws.{stop-in}
+use Rattle.syntax.proofs.TreeLaws.{print-cons}
+use Rattle.syntax.proofs.CuttingLaws.{stop-in}
 use Rattle.syntax.specs.declared.Service.{Service}
 use Rattle.syntax.specs.declared.Found.{Found}
 use Rattle.syntax.specs.declared.Found.TheVariants.{At as EndsAt, Nothing}

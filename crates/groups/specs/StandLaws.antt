@@ -8,10 +8,10 @@ use Rattle.std.proofs.Math.ListN.{drop}
 use Rattle.std.proofs.Math.Seq.{slice, drop-append-add}
 use Rattle.syntax.specs.Service.{fit}
 use Rattle.syntax.specs.Tree.{Segment, print_s, print, well}
-use Rattle.syntax.specs.TreeLaws.{print-cons}
-use Rattle.syntax.specs.BridgeLaws.{Agrees, bridge}
-use Rattle.syntax.specs.CuttingLaws.{slice-take}
-use Rattle.syntax.specs.ReaderLaws.{well-cons, well-uncons}
+use Rattle.syntax.proofs.TreeLaws.{print-cons}
+use Rattle.syntax.proofs.BridgeLaws.{Agrees, bridge}
+use Rattle.syntax.proofs.CuttingLaws.{slice-take}
+use Rattle.syntax.proofs.ReaderLaws.{well-cons, well-uncons}
 use Rattle.syntax.specs.declared.Service.{Service}
 use Rattle.grammar.specs.Lists.{Snoc, nil, ◌▷◌, ◌+++◌, list}
 use Rattle.grammar.specs.Segments.{asked}

@@ -2,7 +2,7 @@
 use Rattle.std.specs.Prelude.{ℕ, ◌+◌, ◌≡◌, refl, Bool, true, false, cond, List}
 use Rattle.std.proofs.Common.{ap, sym, ◌∙◌, subst}
 use Rattle.std.proofs.Math.Option.{Option, some}
-use Rattle.syntax.specs.ContentLaws.{plain-content}
+use Rattle.syntax.proofs.ContentLaws.{plain-content}
 use Rattle.syntax.specs.Content.{content, compared}
 use Rattle.syntax.specs.Octets.{same}
 use Rattle.syntax.specs.Opening.{begun_of}

@@ -3,7 +3,7 @@ use Rattle.std.specs.Prelude.{ℕ, ◌+◌, ◌-◌, ◌≤◌, ◌<◌, List, [
 use Rattle.std.proofs.Common.{arith, ap, sym, ◌∙◌, length-append, length-take, length-drop}
 use Rattle.syntax.specs.Content.{content}
 use Rattle.syntax.specs.Scanning.{next_of}
-use Rattle.syntax.specs.ContentLaws.{next-steps, next-over}
+use Rattle.syntax.proofs.ContentLaws.{next-steps, next-over}
 use Rattle.syntax.specs.Segment.{component_at, part_of}
 use Rattle.syntax.specs.declared.Service.{Service}
 use Rattle.syntax.specs.declared.reading.Span.{Span}

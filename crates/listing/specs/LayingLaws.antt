@@ -2,7 +2,7 @@
 use Rattle.std.specs.Prelude.{ℕ, suc, ◌+◌, ◌-◌, ◌≤◌, ◌<◌, Bool, true, false, cond, List, ◌++◌, ◌≡◌, refl, T, ltb, length, get_or}
 use Rattle.std.proofs.Common.{arith, ap, sym, ◌∙◌, subst, ltb-true, ltb-false}
 use Rattle.std.proofs.Math.Option.{Option, none, some}
-use Rattle.syntax.specs.BareLaws.{compared-twice}
+use Rattle.syntax.proofs.BareLaws.{compared-twice}
 use Rattle.syntax.specs.Content.{compared}
 use Rattle.syntax.specs.Service.{fit}
 use Rattle.syntax.specs.declared.Service.{Service}

@@ -7,8 +7,8 @@ use Rattle.std.proofs.Math.Option.{Option, none, some}
 use Rattle.std.proofs.Math.Dec.{eqb_refl, eqb-suc-suc, leb-zero, leb-suc-suc}
 use Rattle.std.proofs.Math.IntN.{sub_ℕ}
 use Rattle.syntax.specs.Octets.{same}
-use Rattle.syntax.specs.TreeLaws.{off}
-use Rattle.syntax.specs.ContentLaws.{same_self}
+use Rattle.syntax.proofs.TreeLaws.{off}
+use Rattle.syntax.proofs.ContentLaws.{same_self}
 use Rattle.grammar.specs.Lists.{Snoc, nil, ◌▷◌, each, size, any, among, Rule, always, test, holds, check, every, distinct}
 use Rattle.grammar.specs.TestLaws.{is_true, passes}
 use Rattle.grammar.proofs.ListsLaws.{each-size}

@@ -3,7 +3,7 @@ use Rattle.std.specs.Prelude.{ℕ, zero, suc, ◌+◌, ◌-◌, ◌*◌, ◌/◌
 use Rattle.std.proofs.Common.{arith, sym, ap, subst, ◌∙◌, lt-ltb, le-ltb, le-leb, ltb-true, leb-false, eq-eqb, ne_eqb, eqb-true}
 use Rattle.std.proofs.lemmas.Bool.{lt-leb, eqb-false}
 use Rattle.syntax.specs.Refusals.{at_zero}
-use Rattle.syntax.specs.TreeLaws.{is_true}
+use Rattle.syntax.proofs.TreeLaws.{is_true}
 use Rattle.grammar.specs.Grams.{Grams, signed, below, magnitude}
 use Rattle.grammar.specs.WeighedLaws.{signed_back}
 use Rattle.writing.specs.Written.{text, no_text}

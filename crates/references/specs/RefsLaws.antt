@@ -8,7 +8,7 @@ use Rattle.std.proofs.Math.Seq.{take-nil, drop-nil}
 use Rattle.syntax.specs.Octets.{same}
 use Rattle.syntax.specs.Content.{content}
 use Rattle.syntax.specs.Scanning.{next_of}
-use Rattle.syntax.specs.ContentLaws.{next-steps, next-over, same_self}
+use Rattle.syntax.proofs.ContentLaws.{next-steps, next-over, same_self}
 use Rattle.syntax.specs.declared.content.Next.{Next}
 use Rattle.syntax.specs.declared.content.Next.TheVariants.{Octet, Over}
 use Rattle.grammar.specs.Lists.{among}

@@ -2,8 +2,8 @@
 use Rattle.std.specs.Prelude.{ℕ, ◌+◌, ◌-◌, ◌*◌, ◌≤◌, ◌<◌, Bool, true, false, cond, ◌||◌, List, [], ◌∷◌, ◌++◌, ◌≡◌, refl, length, replicate}
 use Rattle.std.proofs.Common.{arith, append-nil, ap, sym, ◌∙◌, subst, length-append, lt-ltb, le-ltb}
 use Rattle.std.proofs.Math.Seq.{slice}
-use Rattle.syntax.specs.ContentLaws.{plain-content}
-use Rattle.syntax.specs.CuttingLaws.{slice-take}
+use Rattle.syntax.proofs.ContentLaws.{plain-content}
+use Rattle.syntax.proofs.CuttingLaws.{slice-take}
 use Rattle.syntax.specs.Octets.{same}
 use Rattle.syntax.specs.Content.{content}
 use Rattle.syntax.specs.Opening.{begun_of}

@@ -8,7 +8,7 @@ use Rattle.syntax.specs.Content.{content}
 use Rattle.syntax.specs.Cutting.{end_at}
 use Rattle.syntax.specs.Segment.{component_at, part_of}
 use Rattle.syntax.specs.Tree.{Segment, print_s, print}
-use Rattle.syntax.specs.TreeLaws.{print-cons}
+use Rattle.syntax.proofs.TreeLaws.{print-cons}
 use Rattle.syntax.specs.declared.Service.{Service}
 use Rattle.syntax.specs.declared.Found.{Found}
 use Rattle.syntax.specs.declared.Found.TheVariants.{At as EndsAt, Nothing as NoEnd}

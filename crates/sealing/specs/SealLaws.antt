@@ -6,7 +6,7 @@ use Rattle.std.proofs.Math.Seq.{slice}
 use Rattle.syntax.specs.Refusals.{at_zero}
 use Rattle.syntax.specs.Octets.{all_pass, within}
 use Rattle.syntax.specs.RepertoireLaws.{and_l, and_r}
-use Rattle.syntax.specs.CuttingLaws.{slice-take}
+use Rattle.syntax.proofs.CuttingLaws.{slice-take}
 use Rattle.syntax.specs.declared.Refusal.{Refusal}
 use Rattle.syntax.specs.Opening.{earlier}
 use Rattle.syntax.specs.declared.Syntax.{Syntax}

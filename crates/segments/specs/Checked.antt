@@ -2,11 +2,11 @@
 use Rattle.std.specs.Prelude.{ℕ, ◌+◌, ◌-◌, ◌≤◌, ◌<◌, List, ◌≡◌, length, drop}
 use Rattle.std.proofs.Common.{arith, sym, ◌∙◌, subst}
 use Rattle.syntax.specs.Scanning.{cut_at}
-use Rattle.syntax.specs.CuttingLaws.{CutIn, cut_in}
+use Rattle.syntax.proofs.CuttingLaws.{CutIn, cut_in}
 use Rattle.syntax.specs.Scanning.{next_of}
-use Rattle.syntax.specs.ContentLaws.{next-steps}
+use Rattle.syntax.proofs.ContentLaws.{next-steps}
 use Rattle.syntax.specs.Segment.{edge_at}
-use Rattle.syntax.specs.SegmentLaws.{edge-steps}
+use Rattle.syntax.proofs.SegmentLaws.{edge-steps}
 use Rattle.syntax.specs.declared.Breach.{Breach}
 use Rattle.syntax.specs.declared.Service.{Service}
 use Rattle.syntax.specs.declared.Syntax.{Syntax}

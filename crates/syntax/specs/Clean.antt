@@ -1,16 +1,36 @@
 -- A segment that is cut while its pieces are read.
-use Rattle.std.specs.Prelude.{ℕ, ◌+◌, ◌≤◌, ◌-◌, ◌<◌, ◌≡◌, List, Bool, true, false, length, drop, get_or}
+use Rattle.std.specs.Prelude.{ℕ, ◌+◌, ◌≤◌, ◌-◌, ◌<◌, ◌≡◌, List, Bool, true, false, cond, eqb, leb, suc, [], ◌∷◌, length, drop, get_or}
+use Rattle.syntax.specs.Service.{kind}
+use Rattle.syntax.specs.Repertoire.{outside}
 use Rattle.syntax.specs.Cutting.{stop_from}
-use Rattle.syntax.specs.Scanning.{cut_at}
+use Rattle.syntax.specs.Scanning.{cut_by, cut_at}
 use Rattle.syntax.specs.Segment.{edge_at}
 use Rattle.syntax.specs.declared.Syntax.{Syntax}
+use Rattle.syntax.specs.declared.Found.{Found}
+use Rattle.syntax.specs.declared.Found.TheVariants.{At, Nothing}
 use Rattle.syntax.specs.declared.cutting.Cut.{Cut}
 use Rattle.syntax.specs.declared.cutting.Cut.TheVariants.{Ends, Spoilt, Open}
 use Rattle.syntax.specs.declared.reading.Edge.{Edge}
 use Rattle.syntax.specs.declared.reading.Edge.TheVariants.{On, Off}
 use Rattle.syntax.specs.Octets.{octets}
 use Rattle.syntax.specs.Classes.{class_of}
-use Rattle.syntax.specs.CuttingLaws.{Going, Cutting}
+
+-- a scan under way: x, the stop to be found, is the first at or after i
+pub record Going (y : Syntax) (n : ℕ) (x : Found) (s : List ℕ) (i : ℕ) : Type 0 where
+  pub finds : x ≡ stop_from y.service n false (drop i s) i
+
+-- the first octet outside the repertoire that stands before the terminator
+abbrev pub bad_from : Syntax → Bool → List ℕ → ℕ → Found
+bad_from y f [] i = Nothing
+bad_from y f (b ∷ s) i =
+    cond (leb 5 (kind y.service f b)) Nothing (cond (outside y b) (At i) (bad_from y (eqb (kind y.service f b) 0) s (suc i)))
+
+abbrev pub cut_from : Syntax → Bool → List ℕ → ℕ → Cut
+cut_from y f s i = cut_by (stop_from y.service 5 f s i) (bad_from y f s i)
+
+-- a cut under way
+pub record Cutting (y : Syntax) (x : Cut) (s : List ℕ) (i : ℕ) : Type 0 where
+  pub finds : x ≡ cut_from y false (drop i s) i
 
 -- a segment that ends, with nothing in it that is outside the repertoire
 abbrev pub sound : Cut → Bool

@@ -17,12 +17,4 @@ pub mod Scanning
 pub mod Clean
 -- what is proved
 pub mod RepertoireLaws
-pub mod CuttingLaws
 pub mod TagLaws
-pub mod ContentLaws
-pub mod BareLaws
-pub mod SegmentLaws
-pub mod TreeLaws
-pub mod ReaderLaws
-pub mod CleanLaws
-pub mod BridgeLaws

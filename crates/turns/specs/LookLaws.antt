@@ -6,7 +6,7 @@ use Rattle.syntax.specs.Service.{fit}
 use Rattle.syntax.specs.Cutting.{tag_of}
 use Rattle.syntax.specs.Scanning.{cut_at}
 use Rattle.syntax.specs.Clean.{sound}
-use Rattle.syntax.specs.CleanLaws.{tag-here}
+use Rattle.syntax.proofs.CleanLaws.{tag-here}
 use Rattle.syntax.specs.declared.Breach.{Breach}
 use Rattle.syntax.specs.declared.Syntax.{Syntax}
 use Rattle.syntax.specs.declared.cutting.Cut.{Cut}

@@ -9,13 +9,13 @@ use Rattle.syntax.specs.Service.{fit, kind_of, kind}
 use Rattle.syntax.specs.Repertoire.{tag_octet, outside}
 use Rattle.syntax.specs.Cutting.{stop_from, end_at, first_outside, tag_of}
 use Rattle.syntax.specs.Scanning.{cut_by, stretch, cut_at}
-use Rattle.syntax.specs.CuttingLaws.{slice-take, stop-in}
+use Rattle.syntax.proofs.CuttingLaws.{slice-take, stop-in}
 use Rattle.syntax.specs.Opening.{is_there}
 use Rattle.syntax.specs.Tree.{plain, freed, ne, Component, Repeat, Element, Segment, segment, flat_s, spells, print_s, print, well}
-use Rattle.syntax.specs.TreeLaws.{segment-end, tag-print}
+use Rattle.syntax.proofs.TreeLaws.{segment-end, tag-print}
 use Rattle.syntax.specs.Reader.{Chain, over, left, open', emit, chain, cut, before, gathered}
-use Rattle.syntax.specs.ReaderLaws.{chain-print, read_back, no_place, same_place, ends-here, first-there}
-use Rattle.syntax.specs.BridgeLaws.{alone, bridge}
+use Rattle.syntax.proofs.ReaderLaws.{chain-print, read_back, no_place, same_place, ends-here, first-there}
+use Rattle.syntax.proofs.BridgeLaws.{alone, bridge}
 use Rattle.syntax.specs.declared.Service.{Service}
 use Rattle.syntax.specs.declared.Syntax.{Syntax}
 use Rattle.syntax.specs.declared.Found.{Found}

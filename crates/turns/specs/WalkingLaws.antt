@@ -6,7 +6,7 @@ use Rattle.std.proofs.Math.Bool.{and-true}
 use Rattle.std.proofs.Math.Seq.{slice}
 use Rattle.syntax.specs.Octets.{octets, same, within}
 use Rattle.syntax.specs.Content.{content, value_from, compared, blank}
-use Rattle.syntax.specs.BareLaws.{compared-short}
+use Rattle.syntax.proofs.BareLaws.{compared-short}
 use Rattle.syntax.specs.RepertoireLaws.{and_l, and_r}
 use Rattle.syntax.specs.Segment.{component_at, part_of}
 use Rattle.syntax.specs.declared.Found.{Found}

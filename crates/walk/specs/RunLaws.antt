@@ -10,7 +10,7 @@ use Rattle.syntax.specs.Cutting.{end_at, tag_of}
 use Rattle.syntax.specs.Scanning.{cut_at}
 use Rattle.syntax.specs.Opening.{begun_of}
 use Rattle.syntax.specs.Tree.{Segment, segment, print_s}
-use Rattle.syntax.specs.TreeLaws.{and_right}
+use Rattle.syntax.proofs.TreeLaws.{and_right}
 use Rattle.syntax.specs.Reader.{chain}
 use Rattle.syntax.specs.declared.Breach.{Breach}
 use Rattle.syntax.specs.declared.Service.{Service}

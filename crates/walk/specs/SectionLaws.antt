@@ -5,10 +5,10 @@ use Rattle.std.proofs.lemmas.Bool.{false≢true}
 use Rattle.std.proofs.Math.Option.{some}
 use Rattle.std.proofs.Math.Seq.{slice}
 use Rattle.syntax.specs.Octets.{octets, same}
-use Rattle.syntax.specs.CuttingLaws.{slice-take}
+use Rattle.syntax.proofs.CuttingLaws.{slice-take}
 use Rattle.syntax.specs.Service.{fit}
 use Rattle.syntax.specs.Content.{content, compared}
-use Rattle.syntax.specs.ContentLaws.{plain-content}
+use Rattle.syntax.proofs.ContentLaws.{plain-content}
 use Rattle.syntax.specs.Tree.{Segment, print_s}
 use Rattle.syntax.specs.declared.Service.{Service}
 use Rattle.syntax.specs.declared.Syntax.{Syntax}

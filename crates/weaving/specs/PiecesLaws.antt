@@ -9,7 +9,7 @@ use Rattle.syntax.specs.Service.{serves}
 use Rattle.syntax.specs.Octets.{octets}
 use Rattle.syntax.specs.Opening.{earlier}
 use Rattle.syntax.specs.Tree.{Octet, plain, freed, Element, Segment, segment, Symbol, tok, elem, term, flat_c, flat_e, each, spells, print_s}
-use Rattle.syntax.specs.TreeLaws.{spells-append, print-cons}
+use Rattle.syntax.proofs.TreeLaws.{spells-append, print-cons}
 use Rattle.syntax.specs.declared.Service.{Service}
 use Rattle.syntax.specs.declared.Version.{Version}
 use Rattle.grammar.specs.Segments.{Ust, Usr, seg}

@@ -13,10 +13,10 @@ use Rattle.syntax.specs.Service.{kind_of, fit}
 use Rattle.syntax.specs.Content.{content, all_digits, value_from, compared}
 use Rattle.syntax.specs.Scanning.{number_in}
 use Rattle.syntax.specs.Cutting.{stop_from}
-use Rattle.syntax.specs.CuttingLaws.{slice-take}
+use Rattle.syntax.proofs.CuttingLaws.{slice-take}
 use Rattle.syntax.specs.Segment.{component_at, part_of}
 use Rattle.syntax.specs.Tree.{Element, Segment, Octet, plain, freed, Symbol, tok, elem, term, comp, rep, flat_e, each, spells, print_s, print, well}
-use Rattle.syntax.specs.TreeLaws.{and_left, and_right, sym_kind, Reads, All, all_left, all_e, ok-reads, well-reads, spells-append, print-cons, pass}
+use Rattle.syntax.proofs.TreeLaws.{and_left, and_right, sym_kind, Reads, All, all_left, all_e, ok-reads, well-reads, spells-append, print-cons, pass}
 use Rattle.syntax.specs.declared.Service.{Service}
 use Rattle.syntax.specs.declared.Syntax.{Syntax}
 use Rattle.syntax.specs.declared.Version.{Version}

@@ -2,7 +2,7 @@
 use Rattle.std.specs.Prelude.{ℕ, zero, suc, ◌+◌, ◌-◌, ◌*◌, ◌/◌, ◌%◌, ◌≤◌, ◌<◌, List, [], ◌∷◌, ◌≡◌, refl, Bool, true, false, cond, ltb, length, get_or, set, take, drop}
 use Rattle.std.proofs.Common.{arith, ap, sym, ◌∙◌, drop_of_length-le, length-set, length-drop, drop-cons, take_all, lt-length-set, drop-set-lt, get_or-set_same, lt-ltb, le-ltb, ltb-true, ltb-false, le-leb}
 use Rattle.syntax.specs.Content.{value_from, all_digits}
-use Rattle.syntax.specs.ContentLaws.{power}
+use Rattle.syntax.proofs.ContentLaws.{power}
 use Rattle.writing.specs.Laid.{Laid}
 use Rattle.writing.specs.LaidLaws.{laid_same}
 use Rattle.writing.specs.Decimal.{digits_before, decimal_of, Filled}

@@ -3,7 +3,7 @@ use mathlib.Core.Path.{refl, sym, ap, ◌∙◌}
 use mathlib.Core.List.{[], ◌∷◌}
 use mathlib.Core.Bool.{true, false}
 use borrow.Author.Rules.{rules}
-use Rattle.syntax.specs.CuttingLaws.{slice-take}
+use Rattle.syntax.proofs.CuttingLaws.{slice-take}
 use Rattle.ranges.proofs.scopes.own_part.Goals as goal
 
 pub returns : goal.returns

@@ -1,7 +1,7 @@
 use Prim.Native.Nat.{◌-◌}
 use lib.ListN.{length}
 use mathlib.Core.Bool.{false≢true}
-use Rattle.syntax.specs.ContentLaws.{Alike, alike-on, alike_end}
+use Rattle.syntax.proofs.ContentLaws.{Alike, alike-on, alike_end}
 use borrow.Author.Rules.{rules}
 use Rattle.syntax.proofs.content.alike.Given as goal
 

@@ -2,7 +2,7 @@ use Prim.Native.Nat.{◌-◌}
 use mathlib.Core.Path.{refl}
 use lib.ListN.{length}
 use Rattle.syntax.specs.Content.{content, all_digits}
-use Rattle.syntax.specs.ContentLaws.{Digital, digital-end, digital-less, digital-below, digital-above, digital-on}
+use Rattle.syntax.proofs.ContentLaws.{Digital, digital-end, digital-less, digital-below, digital-above, digital-on}
 use borrow.Author.Rules.{rules}
 use Rattle.syntax.proofs.content.all_digits.Given as goal
 

@@ -1,5 +1,5 @@
 use borrow.Author.Rules.{rules}
-use Rattle.syntax.specs.BareLaws.{Trailing, trailing-start, trailing-hit, trailing-on, trailing-none}
+use Rattle.syntax.proofs.BareLaws.{Trailing, trailing-start, trailing-hit, trailing-on, trailing-none}
 use Rattle.syntax.proofs.content.bare.Goals as goal
 
 pub loop-n-init : goal.loop-n-init

@@ -1,5 +1,5 @@
 use borrow.Author.Rules.{rules}
-use Rattle.syntax.specs.BareLaws.{Trailing, trailing-start, trailing-hit, trailing-on, trailing-none}
+use Rattle.syntax.proofs.BareLaws.{Trailing, trailing-start, trailing-hit, trailing-on, trailing-none}
 use Rattle.syntax.proofs.content.bare.Given as goal
 
 abbrev pub invariant-loop-n : goal.invariant-loop-n

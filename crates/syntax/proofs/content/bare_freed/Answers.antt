@@ -1,7 +1,7 @@
 use borrow.Author.Rules.{rules}
 use Prim.Native.Nat.{◌-◌}
 use lib.ListN.{length}
-use Rattle.syntax.specs.BareLaws.{Baring, baring-start, baring-part, baring-less, baring-space, baring-other}
+use Rattle.syntax.proofs.BareLaws.{Baring, baring-start, baring-part, baring-less, baring-space, baring-other}
 use Rattle.syntax.proofs.content.bare_freed.Goals as goal
 
 pub loop-b-init : goal.loop-b-init

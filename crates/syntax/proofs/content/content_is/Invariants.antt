@@ -3,7 +3,7 @@ use mathlib.Core.Path.{refl}
 use lib.ListN.{length}
 use Rattle.syntax.specs.Content.{content}
 use Rattle.syntax.specs.Octets.{same}
-use Rattle.syntax.specs.ContentLaws.{Spelling, spelling-end, spelling-less, spelling-short, spelling-other, spelling-on}
+use Rattle.syntax.proofs.ContentLaws.{Spelling, spelling-end, spelling-less, spelling-short, spelling-other, spelling-on}
 use borrow.Author.Rules.{rules}
 use Rattle.syntax.proofs.content.content_is.Given as goal
 

@@ -3,7 +3,7 @@ use native.Mathlib.Nat.{zero-add}
 use mathlib.Core.Path.{sym}
 use lib.ListN.{length}
 use Rattle.syntax.specs.Content.{content}
-use Rattle.syntax.specs.ContentLaws.{Lengthening, lengthening-end, lengthening-less, lengthening-fits, lengthening-on}
+use Rattle.syntax.proofs.ContentLaws.{Lengthening, lengthening-end, lengthening-less, lengthening-fits, lengthening-on}
 use borrow.Author.Rules.{rules}
 use Rattle.syntax.proofs.content.content_length.Given as goal
 

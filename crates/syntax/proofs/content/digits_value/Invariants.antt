@@ -2,7 +2,7 @@ use Prim.Native.Nat.{◌-◌}
 use lib.ListN.{length}
 use Rattle.syntax.specs.Content.{content}
 use Rattle.syntax.specs.Scanning.{number_in}
-use Rattle.syntax.specs.ContentLaws.{Numbering, numbering-starts, numbering-fits, numbering-none, numbering-end, numbering-less, numbering-below, numbering-above, numbering-long, numbering-on}
+use Rattle.syntax.proofs.ContentLaws.{Numbering, numbering-starts, numbering-fits, numbering-none, numbering-end, numbering-less, numbering-below, numbering-above, numbering-long, numbering-on}
 use borrow.Author.Rules.{rules}
 use Rattle.syntax.proofs.content.digits_value.Given as goal
 

@@ -1,4 +1,4 @@
-use Rattle.syntax.specs.BareLaws.{blank-told}
+use Rattle.syntax.proofs.BareLaws.{blank-told}
 use borrow.Author.Rules.{rules}
 use Rattle.syntax.proofs.content.is_blank.Goals as goal
 

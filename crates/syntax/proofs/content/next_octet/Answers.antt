@@ -1,4 +1,4 @@
-use Rattle.syntax.specs.ContentLaws.{next-none, next-other, next-space, next-cut, next-freed}
+use Rattle.syntax.proofs.ContentLaws.{next-none, next-other, next-space, next-cut, next-freed}
 use borrow.Author.Rules.{rules}
 use Rattle.syntax.proofs.content.next_octet.Goals as goal
 

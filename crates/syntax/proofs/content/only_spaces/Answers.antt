@@ -3,7 +3,7 @@ use Prim.Native.Nat.{◌-◌}
 use mathlib.Core.Path.{refl}
 use lib.ListN.{length, drop}
 use Rattle.syntax.specs.Content.{content, blank}
-use Rattle.syntax.specs.BareLaws.{Blanking, blanking-less, blanking-other, blanking-on, blanking-end}
+use Rattle.syntax.proofs.BareLaws.{Blanking, blanking-less, blanking-other, blanking-on, blanking-end}
 use Rattle.syntax.proofs.content.only_spaces.Goals as goal
 
 pub loop-b-init : goal.loop-b-init

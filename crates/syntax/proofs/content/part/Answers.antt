@@ -1,4 +1,4 @@
-use Rattle.syntax.specs.ContentLaws.{part-inside, part-crossed, part-beyond, part-outside}
+use Rattle.syntax.proofs.ContentLaws.{part-inside, part-crossed, part-beyond, part-outside}
 use borrow.Author.Rules.{rules}
 use Rattle.syntax.proofs.content.part.Goals as goal
 

@@ -1,4 +1,4 @@
-use Rattle.syntax.specs.BareLaws.{same-given}
+use Rattle.syntax.proofs.BareLaws.{same-given}
 use borrow.Author.Rules.{rules}
 use Rattle.syntax.proofs.content.reference_is.Goals as goal
 

@@ -4,7 +4,7 @@ use mathlib.Core.Path.{refl}
 use lib.ListN.{length}
 use Rattle.syntax.specs.Octets.{same}
 use Rattle.syntax.specs.Content.{content, compared}
-use Rattle.syntax.specs.BareLaws.{Comparing, comparing-less, comparing-other, comparing-on, comparing-left, comparing-right}
+use Rattle.syntax.proofs.BareLaws.{Comparing, comparing-less, comparing-other, comparing-on, comparing-left, comparing-right}
 use Rattle.syntax.proofs.content.same_bare.Given as goal
 
 abbrev pub invariant-loop-b : goal.invariant-loop-b

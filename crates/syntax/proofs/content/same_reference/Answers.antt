@@ -1,4 +1,4 @@
-use Rattle.syntax.specs.BareLaws.{compared-alike}
+use Rattle.syntax.proofs.BareLaws.{compared-alike}
 use borrow.Author.Rules.{rules}
 use Rattle.syntax.proofs.content.same_reference.Goals as goal
 

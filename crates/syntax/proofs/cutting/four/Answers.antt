@@ -1,6 +1,6 @@
 use borrow.Author.Rules.{rules}
 use native.Mathlib.Omega.{arith}
-use Rattle.syntax.specs.CuttingLaws.{four-of}
+use Rattle.syntax.proofs.CuttingLaws.{four-of}
 use Rattle.syntax.proofs.cutting.four.Goals as goal
 
 pub returns : goal.returns

@@ -4,7 +4,8 @@ use native.Mathlib.Omega.{arith}
 use mathlib.Core.Path.{◌≡◌, refl}
 use lib.ListN.{length}
 use Rattle.syntax.specs.Scanning.{cut_at}
-use Rattle.syntax.specs.CuttingLaws.{Cutting, cutting-at, cutting-from, cutting-four, cutting-eight}
+use Rattle.syntax.specs.Clean.{Cutting}
+use Rattle.syntax.proofs.CuttingLaws.{cutting-at, cutting-from, cutting-four, cutting-eight}
 use Rattle.syntax.proofs.cutting.run.Goals as goal
 
 pub returns-then-s-lt8 : goal.returns-then-s-lt8

@@ -4,7 +4,8 @@ use mathlib.Core.Path.{◌≡◌, refl, sym, ◌∙◌}
 use mathlib.Core.Bool.{true, false}
 use lib.ListN.{length, drop}
 use Rattle.syntax.specs.Scanning.{cut_at}
-use Rattle.syntax.specs.CuttingLaws.{Cutting, cutting-at, cutting-none, cutting-on, cutting-end, cutting-bad, cutting-short, cutting-freed, cutting-freed-bad}
+use Rattle.syntax.specs.Clean.{Cutting}
+use Rattle.syntax.proofs.CuttingLaws.{cutting-at, cutting-none, cutting-on, cutting-end, cutting-bad, cutting-short, cutting-freed, cutting-freed-bad}
 use Rattle.syntax.proofs.cutting.scan.Goals as goal
 
 pub loop-i-init : goal.loop-i-init

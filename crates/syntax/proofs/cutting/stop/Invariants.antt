@@ -4,7 +4,8 @@ use mathlib.Core.Path.{◌≡◌, refl, sym, ◌∙◌}
 use mathlib.Core.Bool.{true, false}
 use lib.ListN.{length, drop}
 use Rattle.syntax.specs.Cutting.{stop_from}
-use Rattle.syntax.specs.CuttingLaws.{Going, going-none, class-on, class-bad, class-hit, class-freed, class-cut}
+use Rattle.syntax.specs.Clean.{Going}
+use Rattle.syntax.proofs.CuttingLaws.{going-none, class-on, class-bad, class-hit, class-freed, class-cut}
 use Rattle.syntax.proofs.cutting.stop.Given as goal
 
 abbrev pub invariant-loop-i : goal.invariant-loop-i

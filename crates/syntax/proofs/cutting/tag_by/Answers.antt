@@ -1,6 +1,6 @@
 use mathlib.Core.Path.{◌∙◌}
 use borrow.Author.Tests.{eq-eqb, ne_eqb}
-use Rattle.syntax.specs.CleanLaws.{tags-by, tags-none}
+use Rattle.syntax.proofs.CleanLaws.{tags-by, tags-none}
 use borrow.Author.Rules.{rules}
 use Rattle.syntax.proofs.cutting.tag_by.Goals as goal
 

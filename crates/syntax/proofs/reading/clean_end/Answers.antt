@@ -1,6 +1,6 @@
 use Prim.Native.Nat.{◌-◌}
 use lib.ListN.{length}
-use Rattle.syntax.specs.CleanLaws.{tidy-start, tidy-then, tidy-none, tidy-separator, tidy-end, tidy-bad, tidy-short, tidy-freed-bad, tidy-freed}
+use Rattle.syntax.proofs.CleanLaws.{tidy-start, tidy-then, tidy-none, tidy-separator, tidy-end, tidy-bad, tidy-short, tidy-freed-bad, tidy-freed}
 use Rattle.syntax.specs.Clean.{Tidy}
 use borrow.Author.Rules.{rules}
 use Rattle.syntax.proofs.reading.clean_end.Goals as goal

@@ -4,7 +4,7 @@ use mathlib.Core.Bool.{Bool, true, false}
 use borrow.Author.Rules.{rules}
 use lib.ListN.{length}
 use Rattle.syntax.specs.Segment.{pieces_at, at_component}
-use Rattle.syntax.specs.SegmentLaws.{edge-steps, Nearing, nearing-over, nearing-there, nearing-gone, nearing-on}
+use Rattle.syntax.proofs.SegmentLaws.{edge-steps, Nearing, nearing-over, nearing-there, nearing-gone, nearing-on}
 use Rattle.syntax.proofs.reading.component_from.Goals as goal
 
 pub loop-q-init : goal.loop-q-init

@@ -1,7 +1,7 @@
 use mathlib.Core.Path.{◌≡◌, refl, sym, ap, ◌∙◌}
 use mathlib.Core.List.{List, []}
 use Rattle.syntax.specs.Segment.{pieces_at, at_element, at_component}
-use Rattle.syntax.specs.SegmentLaws.{reached, unreached, no-component}
+use Rattle.syntax.proofs.SegmentLaws.{reached, unreached, no-component}
 use borrow.Author.Rules.{rules}
 use Rattle.syntax.proofs.reading.component_span.Goals as goal
 

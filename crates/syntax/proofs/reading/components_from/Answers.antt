@@ -4,7 +4,7 @@ use mathlib.Core.Bool.{Bool, true, false}
 use borrow.Author.Rules.{rules}
 use lib.ListN.{length}
 use Rattle.syntax.specs.Segment.{pieces_at, components}
-use Rattle.syntax.specs.SegmentLaws.{edge-steps, Counting, counting-over, counting-end, counting-on, counting-fits}
+use Rattle.syntax.proofs.SegmentLaws.{edge-steps, Counting, counting-over, counting-end, counting-on, counting-fits}
 use Rattle.syntax.proofs.reading.components_from.Goals as goal
 
 pub loop-q-init : goal.loop-q-init

@@ -1,7 +1,7 @@
 use mathlib.Core.Path.{◌≡◌, refl, sym, ap, ◌∙◌}
 use mathlib.Core.List.{List, []}
 use Rattle.syntax.specs.Segment.{pieces_at, at_element, components}
-use Rattle.syntax.specs.SegmentLaws.{reached, unreached}
+use Rattle.syntax.proofs.SegmentLaws.{reached, unreached}
 use borrow.Author.Rules.{rules}
 use Rattle.syntax.proofs.reading.count_components.Goals as goal
 

@@ -4,7 +4,7 @@ use mathlib.Core.Bool.{Bool, true, false}
 use borrow.Author.Rules.{rules}
 use lib.ListN.{length}
 use Rattle.syntax.specs.Segment.{pieces_at, elements}
-use Rattle.syntax.specs.SegmentLaws.{edge-steps, Numbering, numbering-over, numbering-end, numbering-next, numbering-on, numbering-fits}
+use Rattle.syntax.proofs.SegmentLaws.{edge-steps, Numbering, numbering-over, numbering-end, numbering-next, numbering-on, numbering-fits}
 use Rattle.syntax.proofs.reading.count_elements.Goals as goal
 
 pub loop-q-init : goal.loop-q-init

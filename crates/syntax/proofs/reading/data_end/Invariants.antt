@@ -1,6 +1,6 @@
 use Prim.Native.Nat.{◌-◌}
 use lib.ListN.{length}
-use Rattle.syntax.specs.CleanLaws.{tidy-start, tidy-data, tidy-stop, stopping-none}
+use Rattle.syntax.proofs.CleanLaws.{tidy-start, tidy-data, tidy-stop, stopping-none}
 use Rattle.syntax.specs.Clean.{Tidy}
 use borrow.Author.Rules.{rules}
 use Rattle.syntax.proofs.reading.data_end.Given as goal

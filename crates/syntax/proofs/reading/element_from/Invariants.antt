@@ -4,7 +4,7 @@ use mathlib.Core.Bool.{Bool, true, false}
 use borrow.Author.Rules.{rules}
 use lib.ListN.{length}
 use Rattle.syntax.specs.Segment.{pieces_at, at_element}
-use Rattle.syntax.specs.SegmentLaws.{edge-steps, Passing, passing-there, passing-over, passing-end, passing-next, passing-on}
+use Rattle.syntax.proofs.SegmentLaws.{edge-steps, Passing, passing-there, passing-over, passing-end, passing-next, passing-on}
 use Rattle.syntax.proofs.reading.element_from.Given as goal
 
 abbrev pub invariant-loop-n : goal.invariant-loop-n

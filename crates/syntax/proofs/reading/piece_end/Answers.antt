@@ -1,4 +1,4 @@
-use Rattle.syntax.specs.SegmentLaws.{edge_in, edge_on, edge-end}
+use Rattle.syntax.proofs.SegmentLaws.{edge_in, edge_on, edge-end}
 use mathlib.Core.Path.{sym}
 use borrow.Author.Rules.{rules}
 use Rattle.syntax.proofs.reading.piece_end.Goals as goal

@@ -4,7 +4,7 @@ use mathlib.Core.Bool.{Bool, true, false}
 use borrow.Author.Rules.{rules}
 use lib.ListN.{length}
 use Rattle.syntax.specs.Segment.{pieces_at, repeats}
-use Rattle.syntax.specs.SegmentLaws.{edge-steps, Repeating, repeating-over, repeating-yes, repeating-no, repeating-on}
+use Rattle.syntax.proofs.SegmentLaws.{edge-steps, Repeating, repeating-over, repeating-yes, repeating-no, repeating-on}
 use Rattle.syntax.proofs.reading.repeats_from.Given as goal
 
 abbrev pub invariant-loop-q : goal.invariant-loop-q

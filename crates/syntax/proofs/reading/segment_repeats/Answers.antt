@@ -4,7 +4,7 @@ use mathlib.Core.Bool.{Bool, true, false}
 use borrow.Author.Rules.{rules}
 use lib.ListN.{length}
 use Rattle.syntax.specs.Segment.{pieces_at, any_repeats}
-use Rattle.syntax.specs.SegmentLaws.{edge-steps, Anywhere, anywhere-over, anywhere-yes, anywhere-end, anywhere-on}
+use Rattle.syntax.proofs.SegmentLaws.{edge-steps, Anywhere, anywhere-over, anywhere-yes, anywhere-end, anywhere-on}
 use Rattle.syntax.proofs.reading.segment_repeats.Goals as goal
 
 pub loop-q-init : goal.loop-q-init

@@ -1,5 +1,5 @@
 use mathlib.Core.Path.{sym, ◌∙◌}
-use Rattle.syntax.specs.CleanLaws.{tag-here}
+use Rattle.syntax.proofs.CleanLaws.{tag-here}
 use Rattle.turns.specs.LookLaws.{sight-bad, sight-entered, sight-passed}
 use borrow.Author.Rules.{rules}
 use Rattle.turns.proofs.state.look.Goals as goal

@@ -9,7 +9,7 @@ use Rattle.syntax.specs.Service.{servant, fit, kind_of, kind}
 use Rattle.syntax.specs.Repertoire.{tag_octet}
 use Rattle.syntax.specs.Cutting.{stop_from, end_at, tag_of}
 use Rattle.syntax.specs.Tree.{plain, freed, ne, Component, Repeat, Element, Segment, segment, Symbol, tok, comp, rep, elem, term, each, flat_c, flat_r, flat_e, flat_s, flat, spell, spells, print_s, print, ok, ok_tag, well}
-use Rattle.syntax.specs.TreeLaws.{and_left, and_right, and_both, is_true, sym_kind, Reads, All, ok-reads, well-reads, print-cons, segment-end, tag-print}
+use Rattle.syntax.proofs.TreeLaws.{and_left, and_right, and_both, is_true, sym_kind, Reads, All, ok-reads, well-reads, print-cons, segment-end, tag-print}
 use Rattle.syntax.specs.Reader.{Chain, over, left, open', push, emit, chain, cut, before, gathered, segments_of}
 use Rattle.syntax.specs.declared.Service.{Service}
 use Rattle.syntax.specs.declared.Found.TheVariants.{At, Nothing}

@@ -6,7 +6,7 @@ use Rattle.syntax.specs.Repertoire.{inside}
 use Rattle.syntax.specs.Classes.{end_class, class_of}
 use Rattle.syntax.specs.RepertoireLaws.{Sorted, is-data, is-bad, is-release, is-separator, is-end, sorted, kind-le}
 use Rattle.syntax.specs.Cutting.{stop_from, end_at}
-use Rattle.syntax.specs.CuttingLaws.{drop-tail, drop_head, stop-in}
+use Rattle.syntax.proofs.CuttingLaws.{drop-tail, drop_head, stop-in}
 use Rattle.syntax.specs.Segment.{Piece, piece, pieces, pieces_at, edge_of, edge_at, at_element, at_component, components, repeats, elements, any_repeats, Reaches}
 use Rattle.syntax.specs.declared.Service.{Service}
 use Rattle.syntax.specs.declared.Syntax.{Syntax}

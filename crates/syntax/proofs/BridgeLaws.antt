@@ -11,12 +11,12 @@ use Rattle.std.proofs.Math.Seq.{slice, slice_empty, take-append_seam, drop-appen
 use Rattle.syntax.specs.Octets.{all_pass}
 use Rattle.syntax.specs.Service.{fit, kind_of}
 use Rattle.syntax.specs.Cutting.{stop_from, end_at, tag_of}
-use Rattle.syntax.specs.CuttingLaws.{slice-take}
+use Rattle.syntax.proofs.CuttingLaws.{slice-take}
 use Rattle.syntax.specs.Content.{content}
 use Rattle.syntax.specs.Segment.{Piece, piece, pieces_at, edge_of, edge_at, at_element, at_component, component_at, part_of, components, repeats, elements, any_repeats}
-use Rattle.syntax.specs.SegmentLaws.{after, edge-steps}
+use Rattle.syntax.proofs.SegmentLaws.{after, edge-steps}
 use Rattle.syntax.specs.Tree.{Octet, plain, freed, Ne, ne, Component, Repeat, Element, Segment, segment, Symbol, tok, comp, rep, elem, term, each, separated, flat_c, flat_r, flat_e, tag_element, flat_s, spell, spells, print_s, content_in, ok, ok_tag, well, elements_in, first_repeat, components_in, repeats_in, component_of, component_in, content_of, tag_in, count_elements, count_of, repeats_of, any_repeats_in}
-use Rattle.syntax.specs.TreeLaws.{and_right, sym_kind, Reads, All, ok-reads, every-reads, spells-append, all_append, all_left, all_right, all_c, pass, segment-end, content-print, tag-print}
+use Rattle.syntax.proofs.TreeLaws.{and_right, sym_kind, Reads, All, ok-reads, every-reads, spells-append, all_append, all_left, all_right, all_c, pass, segment-end, content-print, tag-print}
 use Rattle.syntax.specs.declared.Service.{Service}
 use Rattle.syntax.specs.declared.Found.{Found}
 use Rattle.syntax.specs.declared.Found.TheVariants.{At, Nothing}

@@ -8,7 +8,7 @@ use Rattle.std.proofs.Math.Seq.{slice, take-length, take-nil}
 use Rattle.syntax.specs.Octets.{same, within}
 use Rattle.syntax.specs.Content.{releases, content_from, content, all_digits, value_from}
 use Rattle.syntax.specs.Scanning.{released, next_of, number_in}
-use Rattle.syntax.specs.CuttingLaws.{drop-tail, slice-take}
+use Rattle.syntax.proofs.CuttingLaws.{drop-tail, slice-take}
 use Rattle.syntax.specs.declared.content.Next.{Next}
 use Rattle.syntax.specs.declared.content.Next.TheVariants.{Octet, Over}
 use Rattle.syntax.specs.declared.content.Number.{Number}

@@ -6,7 +6,7 @@ use Rattle.std.proofs.Math.Seq.{take-append_seam, take-length}
 use Rattle.syntax.specs.Octets.{same}
 use Rattle.syntax.specs.Content.{releases, content_from, content, leading, bare_of, compared, blank}
 use Rattle.syntax.specs.Scanning.{released, next_of}
-use Rattle.syntax.specs.ContentLaws.{next-steps, next-over, not-over, plain-content, same_self}
+use Rattle.syntax.proofs.ContentLaws.{next-steps, next-over, not-over, plain-content, same_self}
 use Rattle.syntax.specs.declared.content.Next.{Next}
 use Rattle.syntax.specs.declared.content.Next.TheVariants.{Octet, Over}
 

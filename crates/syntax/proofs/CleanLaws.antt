@@ -8,10 +8,10 @@ use Rattle.syntax.specs.Classes.{end_class, outside_class, class_of}
 use Rattle.syntax.specs.RepertoireLaws.{Sorted, is-data, is-bad, is-release, is-separator, is-end, sorted, class-tag}
 use Rattle.syntax.specs.Cutting.{stop_from, tag_of}
 use Rattle.syntax.specs.Scanning.{cut_by, cut_at}
-use Rattle.syntax.specs.CuttingLaws.{drop-tail, drop_head, class-on, class-hit, class-freed, cutting-at, cutting-from, cutting-none, cutting-on, cutting-end, cutting-bad, cutting-short, cutting-freed, cutting-freed-bad}
-use Rattle.syntax.specs.SegmentLaws.{edge_on, edge-end}
-use Rattle.syntax.specs.TreeLaws.{and_left, and_right, and_both, is_true}
-use Rattle.syntax.specs.ReaderLaws.{tag-data, Tagged, tag_split}
+use Rattle.syntax.proofs.CuttingLaws.{drop-tail, drop_head, class-on, class-hit, class-freed, cutting-at, cutting-from, cutting-none, cutting-on, cutting-end, cutting-bad, cutting-short, cutting-freed, cutting-freed-bad}
+use Rattle.syntax.proofs.SegmentLaws.{edge_on, edge-end}
+use Rattle.syntax.proofs.TreeLaws.{and_left, and_right, and_both, is_true}
+use Rattle.syntax.proofs.ReaderLaws.{tag-data, Tagged, tag_split}
 use Rattle.syntax.specs.Clean.{sound, Clean, TagAt, Stopping, Tidy}
 use Rattle.syntax.specs.declared.Syntax.{Syntax}
 use Rattle.syntax.specs.declared.Level.{Level}

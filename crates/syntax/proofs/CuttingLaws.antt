@@ -12,6 +12,7 @@ use Rattle.syntax.specs.Classes.{end_class, release_class, outside_class, class_
 use Rattle.syntax.specs.RepertoireLaws.{Sorted, is-data, is-bad, is-release, is-separator, is-end, sorted}
 use Rattle.syntax.specs.Cutting.{stop_from, end_at, ends, first_outside}
 use Rattle.syntax.specs.Scanning.{cut_by, stretch, cut_at, Four}
+use Rattle.syntax.specs.Clean.{Going, Cutting, bad_from, cut_from}
 use Rattle.syntax.specs.declared.Service.{Service}
 use Rattle.syntax.specs.declared.Syntax.{Syntax}
 use Rattle.syntax.specs.declared.Found.{Found}
@@ -51,10 +52,6 @@ module _ (σ : Service) (n : ℕ) (f : Bool) (s : List ℕ) (i : ℕ) where
   stop-on : {k : ℕ} → i < length s → k ≡ kind σ f (get_or s i 0) → k < n →
       stop_from σ n f (drop i s) i ≡ stop_from σ n (eqb k 0) (drop (i + 1) s) (i + 1)
   stop-on h e hk = rw (add-one, drop-cons s i 0 h, ← e, lt-leb _ _ hk)
-
--- a scan under way: x, the stop to be found, is the first at or after i
-pub record Going (y : Syntax) (n : ℕ) (x : Found) (s : List ℕ) (i : ℕ) : Type 0 where
-  pub finds : x ≡ stop_from y.service n false (drop i s) i
 
 pub going-none : {y : Syntax} {n : ℕ} {x : Found} {s : List ℕ} {i : ℕ} → Going y n x s i → length s ≤ i → Nothing ≡ x
 going-none {y} {n} {x} {s} {i} g h = sym (g.finds ∙ stop-none y.service n false s i h)
@@ -125,15 +122,6 @@ module _ {y : Syntax} {n : ℕ} {x : Found} {s : List ℕ} {i : ℕ} (g : Going 
 
 -- ---- a cut
 
--- the first octet outside the repertoire that stands before the terminator
-abbrev bad_from : Syntax → Bool → List ℕ → ℕ → Found
-bad_from y f [] i = Nothing
-bad_from y f (b ∷ s) i =
-    cond (leb 5 (kind y.service f b)) Nothing (cond (outside y b) (At i) (bad_from y (eqb (kind y.service f b) 0) s (suc i)))
-
-abbrev pub cut_from : Syntax → Bool → List ℕ → ℕ → Cut
-cut_from y f s i = cut_by (stop_from y.service 5 f s i) (bad_from y f s i)
-
 module _ (y : Syntax) (s : List ℕ) (i : ℕ) where
   cut-none : (f : Bool) → length s ≤ i → cut_from y f (drop i s) i ≡ Open
   cut-none f h = rw (drop_of_length-le s h)
@@ -156,10 +144,6 @@ module _ (y : Syntax) (s : List ℕ) (i : ℕ) where
     freed-bad : outside y (get_or s i 0) ≡ true →
         cut_from y true (drop i s) i ≡ cut_by (stop_from y.service 5 false (drop (i + 1) s) (i + 1)) (At i)
     freed-bad q = rw (add-one, drop-cons s i 0 h, q)
-
--- a cut under way
-pub record Cutting (y : Syntax) (x : Cut) (s : List ℕ) (i : ℕ) : Type 0 where
-  pub finds : x ≡ cut_from y false (drop i s) i
 
 pub cutting-none : {y : Syntax} {x : Cut} {s : List ℕ} {i : ℕ} → Cutting y x s i → length s ≤ i → Open ≡ x
 cutting-none {y} {x} {s} {i} g h = sym (g.finds ∙ cut-none y s i false h)
