@@ -1,4 +1,4 @@
-use Rattle.turns.specs.WalkingLaws.{counts-wrong, counts-pairs-wrong, counts-pairs-right}
+use Rattle.turns.proofs.WalkingLaws.{counts-wrong, counts-pairs-wrong, counts-pairs-right}
 use borrow.Author.Rules.{rules}
 use Rattle.std.proofs.lemmas.Bool.{not_from_false, not_from_true}
 use Rattle.turns.proofs.state.counts_right.Goals as goal

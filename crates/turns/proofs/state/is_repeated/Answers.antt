@@ -1,4 +1,4 @@
-use Rattle.turns.specs.WalkingLaws.{ref-same}
+use Rattle.turns.proofs.WalkingLaws.{ref-same}
 use borrow.Author.Rules.{rules}
 use Rattle.turns.proofs.state.is_repeated.Goals as goal
 

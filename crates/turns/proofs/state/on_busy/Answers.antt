@@ -1,4 +1,4 @@
-use Rattle.turns.specs.BusyLaws.{busy-7, busy-8, busy-room, busy-passed, busy-bad, busy-on}
+use Rattle.turns.proofs.BusyLaws.{busy-7, busy-8, busy-room, busy-passed, busy-bad, busy-on}
 use borrow.Author.Rules.{rules}
 use Rattle.std.proofs.lemmas.Bool.{not_from_false, not_from_true}
 use Rattle.turns.proofs.state.on_busy.Goals as goal

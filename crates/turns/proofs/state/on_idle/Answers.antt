@@ -2,7 +2,7 @@ use Rattle.std.proofs.Common.{◌≡◌, Bool, true, false, refl}
 use Rattle.elements.specs.declared.Kind.{Kind}
 use Rattle.elements.specs.declared.Kind.TheVariants.{Unh, Unz}
 use Rattle.message.specs.Summary.{at_idle}
-use Rattle.turns.specs.BusyLaws.{ready_at, idle-7}
+use Rattle.turns.proofs.BusyLaws.{ready_at, idle-7}
 use borrow.Author.Rules.{rules}
 use Rattle.turns.proofs.state.on_idle.Goals as goal
 

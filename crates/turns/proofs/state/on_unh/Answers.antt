@@ -3,7 +3,7 @@ use mathlib.Core.Path.{refl}
 use Rattle.elements.specs.Octets.{asked_at}
 use Rattle.elements.specs.FormedLaws.{formed-at}
 use Rattle.elements.specs.declared.Kind.TheVariants.{Unh}
-use Rattle.turns.specs.WalkingLaws.{offer-at, unh-bad, unh-name, unh-again, unh-read}
+use Rattle.turns.proofs.WalkingLaws.{offer-at, unh-bad, unh-name, unh-again, unh-read}
 use borrow.Author.Rules.{rules}
 use Rattle.std.proofs.lemmas.Bool.{not_from_false, not_from_true}
 use Rattle.turns.proofs.state.on_unh.Goals as goal

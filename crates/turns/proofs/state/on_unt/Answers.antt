@@ -2,7 +2,7 @@ use mathlib.Core.Path.{refl}
 use Rattle.elements.specs.Octets.{asked_at}
 use Rattle.elements.specs.FormedLaws.{formed-at}
 use Rattle.elements.specs.declared.Kind.TheVariants.{Unt}
-use Rattle.turns.specs.WalkingLaws.{unt-none, unt-bad, unt-six, unt-sums, unt-other, unt-wrong, unt-offered, unt-read}
+use Rattle.turns.proofs.WalkingLaws.{unt-none, unt-bad, unt-six, unt-sums, unt-other, unt-wrong, unt-offered, unt-read}
 use borrow.Author.Rules.{rules}
 use Rattle.std.proofs.lemmas.Bool.{not_from_false, not_from_true}
 use Rattle.turns.proofs.state.on_unt.Goals as goal

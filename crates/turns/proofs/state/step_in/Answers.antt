@@ -1,7 +1,7 @@
 use mathlib.Core.Path.{refl, sym, ◌∙◌}
 use Rattle.elements.specs.Octets.{asked_at}
 use Rattle.message.specs.StepsLaws.{ush-room}
-use Rattle.turns.specs.BusyLaws.{may-to, cnt-right, step-arm, usa-arm, usc-arm, usx-arm}
+use Rattle.turns.proofs.BusyLaws.{may-to, cnt-right, step-arm, usa-arm, usc-arm, usx-arm}
 use Rattle.elements.specs.declared.Kind.TheVariants.{Unb, Unh, Unt, Unz, Ush, Usa, Usc, Usr, Ust, Usb, Usx, Usy, Reserved, Qty, Cnt, Other}
 use Rattle.message.specs.declared.steps.Moved.TheVariants.{Bad}
 use borrow.Author.Rules.{rules}

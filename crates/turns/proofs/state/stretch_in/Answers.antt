@@ -1,4 +1,4 @@
-use Rattle.turns.specs.WalkingLaws.{stretch-is}
+use Rattle.turns.proofs.WalkingLaws.{stretch-is}
 use borrow.Author.Rules.{rules}
 use Rattle.turns.proofs.state.stretch_in.Goals as goal
 

@@ -1,5 +1,5 @@
 use mathlib.Core.Bool.{true, false}
-use Rattle.turns.specs.WalkingLaws.{no-subset, subset-by}
+use Rattle.turns.proofs.WalkingLaws.{no-subset, subset-by}
 use borrow.Author.Rules.{rules}
 use Rattle.turns.proofs.state.subset_in.Goals as goal
 

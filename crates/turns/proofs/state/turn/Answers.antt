@@ -2,7 +2,7 @@ use Rattle.std.proofs.Common.{◌≡◌, Bool, true, false, refl}
 use Rattle.elements.specs.declared.Kind.{Kind}
 use Rattle.elements.specs.declared.Kind.TheVariants.{Unb, Unt}
 use Rattle.message.specs.Summary.{at_start, at_busy}
-use Rattle.turns.specs.BusyLaws.{ready_at, start-7, done-7}
+use Rattle.turns.proofs.BusyLaws.{ready_at, start-7, done-7}
 use borrow.Author.Rules.{rules}
 use Rattle.turns.proofs.state.turn.Goals as goal
 

@@ -25,7 +25,7 @@ use Rattle.message.specs.Summary.{Summary, StateS, busy_s, order_s, subset_s, re
 use Rattle.message.specs.Steps.{AnswerM, to_m, bad_m, ust_m, step_m, summary_in, Roomy, MovedIs}
 use Rattle.message.specs.StepsLaws.{moved_to, roomy-small, roomy-grown}
 use Rattle.message.specs.ItemsLaws.{cnt-tag, not-true, not-false}
-use Rattle.turns.specs.WalkingLaws.{free-load, at_7, at_8, stop}
+use Rattle.turns.proofs.WalkingLaws.{free-load, at_7, at_8, stop}
 use Rattle.turns.specs.Held.{phased, state_in, after_other, open_size, Held, Ready, decided_from, StepIs}
 use Rattle.elements.specs.declared.Kind.{Kind}
 use Rattle.elements.specs.declared.Kind.TheVariants.{Unb, Unh, Unt, Unz, Ush, Usa, Usc, Usr, Ust, Usb, Usx, Usy, Reserved, Qty, Cnt, Other}
