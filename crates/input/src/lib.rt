@@ -1,18 +1,47 @@
-// Standard input, for the programs: what they read and do not keep.
-use libc::STDIN_FILENO;
+#![tactic(auto)]
+
+// Reading, for the programs: standard input and files, and what they read and do not keep.
+ghost use Rattle.std.specs.Prelude.{◌≤◌, length};
+
+use std::io::Read;
+
+// One read, of what has come: how many octets now stand at the start of `buf`. A read that fails ends the input.
+pub fn read_some(from: &mut impl Read, buf: &mut [u8]) -> usize
+    ensures { result ≤ length buf.new }
+{
+    match from.read(buf) {
+        Ok(n) => n,
+        Err(_) => 0,
+    }
+}
+
+// Reads until `buf` is full, the input ends or a read fails: how many octets now stand at the start of `buf`.
+pub fn read_full(from: &mut impl Read, buf: &mut [u8]) -> usize
+    ensures { result ≤ length buf.new }
+{
+    let mut done: usize = 0;
+    while done < buf.len() {
+        let n = read_some(&mut *from, &mut buf[done..]);
+        if n == 0 {
+            return done;
+        }
+        done += n;
+    }
+    done
+}
 
 // Reads a part of what is left of the input, and keeps nothing: how many octets there were.
-fn read_away() -> usize {
-    let mut chunk = io::large_buffer();
-    io::read_full(STDIN_FILENO, &mut chunk)
+fn read_away(rt: &impl Input) -> usize {
+    let mut chunk = [0u8; 65536];
+    read_full(&mut rt.reader(), &mut chunk)
 }
 
 // Reads to the end of the input, so that whoever sends more than a program keeps can send it all. A proved loop has to end, and
 // nothing says that the input does: so the loop counts its turns down, from a number that no run uses up.
-pub fn drain() {
+pub fn drain(rt: &impl Input) {
     let mut turns = u64::MAX;
     while turns > 0 {
-        if read_away() == 0 {
+        if read_away(rt) == 0 {
             return;
         }
         turns -= 1;

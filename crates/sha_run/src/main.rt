@@ -1,6 +1,8 @@
+#![tactic(auto)]
+
 // SHA-1 run on FIPS's messages, a digest a line: the empty one, "abc", those of 448 and of 896 bits, one million `a`; then whether every cutting in two, the cutting in single
 // octets and the limit of 2^32 - 1 octets are as they should be; last the digest of standard input, fed as it comes.
-use libc::{STDIN_FILENO, STDOUT_FILENO};
+use input::read_full;
 use sha::Sha;
 
 // Half an octet as a digit of hex.
@@ -11,7 +13,12 @@ fn half(n: u8) -> u8 {
     87 + n % 16
 }
 
-fn show(d: [u8; 20]) {
+// What cannot be written is lost, and nothing stops for it.
+fn print(rt: &impl Print, octets: &[u8]) {
+    let _ = rt.write_all(octets);
+}
+
+fn show(rt: &impl Print, d: [u8; 20]) {
     let mut out = [0u8; 41];
     let mut i: usize = 0;
     while i < 20 {
@@ -20,15 +27,15 @@ fn show(d: [u8; 20]) {
         i += 1;
     }
     out[40] = b'\n';
-    io::write_all(STDOUT_FILENO, &out);
+    print(rt, &out);
 }
 
-fn tell(what: &[u8], holds: bool) {
-    io::write_all(STDOUT_FILENO, what);
+fn tell(rt: &impl Print, what: &[u8], holds: bool) {
+    print(rt, what);
     if holds {
-        io::write_all(STDOUT_FILENO, b": yes\n");
+        print(rt, b": yes\n");
     } else {
-        io::write_all(STDOUT_FILENO, b": NO\n");
+        print(rt, b": NO\n");
     }
 }
 
@@ -116,12 +123,12 @@ fn holds_limit() -> bool {
 }
 
 // What is left of standard input, fed to a state. A proved loop has to end, and nothing says that the input does: so it counts its turns down.
-fn digest_of_input() -> [u8; 20] {
+fn digest_of_input(rt: &impl Input) -> [u8; 20] {
     let mut s = sha::start();
     let mut turns = u64::MAX;
     while turns > 0 {
-        let mut chunk = io::large_buffer();
-        let n = io::read_full(STDIN_FILENO, &mut chunk);
+        let mut chunk = [0u8; 65536];
+        let n = read_full(&mut rt.reader(), &mut chunk);
         if n == 0 {
             return sha::finish(s);
         }
@@ -131,20 +138,25 @@ fn digest_of_input() -> [u8; 20] {
     sha::finish(s)
 }
 
-fn main() {
+fn main(rt: HostRuntime) {
     let medium = b"abcdbcdecdefdefgefghfghighijhijkijkljklmklmnlmnomnopnopq";
     let long =
         b"abcdefghbcdefghicdefghijdefghijkefghijklfghijklmghijklmnhijklmnoijklmnopjklmnopqklmnopqrlmnopqrsmnopqrstnopqrstu";
-    show(whole(b""));
-    show(whole(b"abc"));
-    show(whole(medium));
-    show(whole(long));
-    show(million());
-    tell(b"every cutting in two gives the same", every_cut(medium));
+    show(&rt, whole(b""));
+    show(&rt, whole(b"abc"));
+    show(&rt, whole(medium));
+    show(&rt, whole(long));
+    show(&rt, million());
     tell(
+        &rt,
+        b"every cutting in two gives the same",
+        every_cut(medium),
+    );
+    tell(
+        &rt,
         b"and so do single octets",
         same(in_octets(long), whole(long)),
     );
-    tell(b"2^32 - 1 octets are the most", holds_limit());
-    show(digest_of_input());
+    tell(&rt, b"2^32 - 1 octets are the most", holds_limit());
+    show(&rt, digest_of_input(&rt));
 }
