@@ -5,7 +5,7 @@ use borrow.Author.Rules.{rules}
 use Rattle.sha_run.proofs.show.Given as goal
 
 abbrev pub invariant-loop-i : goal.invariant-loop-i
-invariant-loop-i l = (l.i ≤ 20) × (length l.out ≡ 41)
+invariant-loop-i g l = (l.i ≤ 20) × (length l.out ≡ 41)
 
 abbrev pub decreases-loop-i : goal.decreases-loop-i
-decreases-loop-i l = 20 - l.i
+decreases-loop-i g l = 20 - l.i
