@@ -6,7 +6,7 @@ ghost use Rattle.std.specs.Prelude.{◌≤◌, length};
 use std::io::Read;
 
 // One read, of what has come: how many octets now stand at the start of `buf`. A read that fails ends the input.
-pub fn read_some(from: &mut impl Read, buf: &mut [u8]) -> usize
+pub fn read_once(from: &mut impl Read, buf: &mut [u8]) -> usize
     ensures { result ≤ length buf.new }
 {
     match from.read(buf) {
@@ -21,7 +21,7 @@ pub fn read_full(from: &mut impl Read, buf: &mut [u8]) -> usize
 {
     let mut done: usize = 0;
     while done < buf.len() {
-        let n = read_some(&mut *from, &mut buf[done..]);
+        let n = read_once(&mut *from, &mut buf[done..]);
         if n == 0 {
             return done;
         }

@@ -1,3 +1,5 @@
+#![tactic(auto)]
+
 // For an interchange on standard input: each segment's place and tag, and its components as content, or the refusal that the
 // syntax alone can tell (1, 2, 4, 5, 6, and 3 after them).
 ghost use Rattle.std.specs.Prelude.{◌≡◌};
@@ -5,7 +7,7 @@ ghost use Rattle.syntax.specs.Classes.{Table};
 ghost use Rattle.segments.specs.Checked.{CheckedIn};
 
 use beginning::begin;
-use libc::STDIN_FILENO;
+use input::read_full;
 use printing::{flush, number, print_refusal_at, put, text};
 use refusals::refusal;
 use syntax::content::{Next, next_octet, part};
@@ -30,13 +32,13 @@ enum Checked {
     Refused(Breach),
 }
 
-fn print_content(out: &mut [u8; 4096], n: usize, x: &[u8], release: u8) -> usize {
+fn print_content(rt: &impl Print, out: &mut [u8; 4096], n: usize, x: &[u8], release: u8) -> usize {
     let mut k = n;
     let mut i: usize = 0;
     loop {
         match next_octet(x, i, release) {
             Next::Octet(b, j) => {
-                k = put(out, k, b);
+                k = put(rt, out, k, b);
                 i = j;
             }
             Next::Over => {
@@ -46,22 +48,29 @@ fn print_content(out: &mut [u8; 4096], n: usize, x: &[u8], release: u8) -> usize
     }
 }
 
-fn print_place(out: &mut [u8; 4096], n: usize, w: Place) -> usize {
-    let mut k = text(out, n, b"  ");
-    k = number(out, k, w.element);
+fn print_place(rt: &impl Print, out: &mut [u8; 4096], n: usize, w: Place) -> usize {
+    let mut k = text(rt, out, n, b"  ");
+    k = number(rt, out, k, w.element);
     if 1 < w.repetition {
-        k = put(out, k, 42);
-        k = number(out, k, w.repetition);
+        k = put(rt, out, k, 42);
+        k = number(rt, out, k, w.repetition);
     }
-    k = put(out, k, 46);
-    k = number(out, k, w.component);
-    put(out, k, 32)
+    k = put(rt, out, k, 46);
+    k = number(rt, out, k, w.component);
+    put(rt, out, k, 32)
 }
 
-fn print_piece(out: &mut [u8; 4096], n: usize, x: &[u8], release: u8, w: Place) -> usize {
-    let mut k = print_place(out, n, w);
-    k = print_content(out, k, x, release);
-    put(out, k, 10)
+fn print_piece(
+    rt: &impl Print,
+    out: &mut [u8; 4096],
+    n: usize,
+    x: &[u8],
+    release: u8,
+    w: Place,
+) -> usize {
+    let mut k = print_place(rt, out, n, w);
+    k = print_content(rt, out, k, x, release);
+    put(rt, out, k, 10)
 }
 
 // An interchange has at most 65535 octets, so no count passes the bound.
@@ -94,6 +103,7 @@ fn next_place(w: Place, k: u8) -> Place {
 
 // The elements of the segment at `at`. Its tag is the first piece, element 0, and is not printed here.
 fn print_elements(
+    rt: &impl Print,
     out: &mut [u8; 4096],
     n: usize,
     s: &[u8],
@@ -115,7 +125,7 @@ fn print_elements(
         match piece_end(s, i, t, y) {
             Edge::On(q, c) => {
                 if 0 < w.element {
-                    k = print_piece(out, k, part(s, i, q), v.release, w);
+                    k = print_piece(rt, out, k, part(s, i, q), v.release, w);
                 }
                 if c == 5 {
                     return k;
@@ -158,18 +168,19 @@ fn segment_at(s: &[u8], at: usize, t: &[u8; 256], y: Syntax) -> Checked
     }
 }
 
-fn print_tag(out: &mut [u8; 4096], n: usize, g: Tag) -> usize {
+fn print_tag(rt: &impl Print, out: &mut [u8; 4096], n: usize, g: Tag) -> usize {
     match g {
         Tag::Is(a, b, c) => {
-            let mut k = put(out, n, a);
-            k = put(out, k, b);
-            put(out, k, c)
+            let mut k = put(rt, out, n, a);
+            k = put(rt, out, k, b);
+            put(rt, out, k, c)
         }
         Tag::Bad => n,
     }
 }
 
 fn print_segment(
+    rt: &impl Print,
     out: &mut [u8; 4096],
     n: usize,
     s: &[u8],
@@ -179,11 +190,11 @@ fn print_segment(
 ) -> usize
     requires { Table y t.now }
 {
-    let mut k = number(out, n, at as u64);
-    k = put(out, k, 32);
-    k = print_tag(out, k, tag_at(s, at, y.service));
-    k = put(out, k, 10);
-    print_elements(out, k, s, at, t, y)
+    let mut k = number(rt, out, n, at as u64);
+    k = put(rt, out, k, 32);
+    k = print_tag(rt, out, k, tag_at(s, at, y.service));
+    k = put(rt, out, k, 10);
+    print_elements(rt, out, k, s, at, t, y)
 }
 
 // The first refusal of the segments from `at` on. Where there is none, the place after the last.
@@ -206,6 +217,7 @@ fn first_bad(s: &[u8], at: usize, t: &[u8; 256], y: Syntax) -> Checked
 
 // Called where none is bad, so the loop ends by its test.
 fn print_segments(
+    rt: &impl Print,
     out: &mut [u8; 4096],
     n: usize,
     s: &[u8],
@@ -220,7 +232,7 @@ fn print_segments(
     while i < s.len() {
         match segment_at(s, i, t, y) {
             Checked::Good(e) => {
-                k = print_segment(out, k, s, i, t, y);
+                k = print_segment(rt, out, k, s, i, t, y);
                 i = e + 1;
             }
             Checked::Refused(_) => {
@@ -232,30 +244,30 @@ fn print_segments(
 }
 
 // Nothing is printed of an interchange that is refused but the refusal, so the segments are read twice.
-fn list(out: &mut [u8; 4096], s: &[u8]) -> usize {
+fn list(rt: &impl Print, out: &mut [u8; 4096], s: &[u8]) -> usize {
     match begin(s) {
         Begun::Ready(b) => {
             let y = b.syntax;
             let at = b.at;
             let t = table(y);
             match first_bad(s, at, &t, y) {
-                Checked::Good(_) => print_segments(out, 0, s, at, &t, y),
-                Checked::Refused(f) => print_refusal_at(out, 0, refusal(s, f)),
+                Checked::Good(_) => print_segments(rt, out, 0, s, at, &t, y),
+                Checked::Refused(f) => print_refusal_at(rt, out, 0, refusal(s, f)),
             }
         }
-        Begun::Refused(f) => print_refusal_at(out, 0, refusal(s, f)),
+        Begun::Refused(f) => print_refusal_at(rt, out, 0, refusal(s, f)),
     }
 }
 
-fn list_all(out: &mut [u8; 4096], s: &[u8]) {
-    let n = list(out, s);
-    flush(out, n);
+fn list_all(rt: &impl Print, out: &mut [u8; 4096], s: &[u8]) {
+    let n = list(rt, out, s);
+    flush(rt, out, n);
 }
 
 // The buffer has one octet more than an interchange may have, so one that is too long is told.
-fn main() {
-    let mut space = io::large_buffer();
-    let n = io::read_full(STDIN_FILENO, &mut space);
+fn main(rt: HostRuntime) {
+    let mut space = [0u8; 65536];
+    let n = read_full(&mut rt.reader(), &mut space);
     let mut out = [0u8; 4096];
-    list_all(&mut out, &space[..n]);
+    list_all(&rt, &mut out, &space[..n]);
 }
