@@ -4,4 +4,4 @@ use borrow.Author.Rules.{rules}
 use Rattle.desk.proofs.write_sealed.Goals as goal
 
 pub slice_bounds-seal-end-2 : goal.slice_bounds-seal-end-2
-slice_bounds-seal-end-2 c = sym (length-take-le c.capacity-most.result c.args.written.now c.capacity-most.ensures)
+slice_bounds-seal-end-2 g c = sym (length-take-le c.capacity-most.result c.args.written.now c.capacity-most.ensures)

@@ -5,4 +5,4 @@ use borrow.Author.Rules.{rules}
 use Rattle.segments.proofs.print_content.Goals as goal
 
 pub loop-b-smaller : goal.loop-b-smaller
-loop-b-smaller c = search (next-less, rules)
+loop-b-smaller g c = search (next-less, rules)

@@ -5,7 +5,7 @@ use Rattle.segments.specs.Checked.{edge_in, edge-less}
 use Rattle.segments.proofs.print_elements.Goals as goal
 
 pub overflow_add-i : goal.overflow_add-i
-overflow_add-i c =
+overflow_add-i g c =
     let g = c in
     let l = g in
     let a = l.args in
@@ -13,4 +13,4 @@ overflow_add-i c =
     search rules
 
 pub loop-q-smaller : goal.loop-q-smaller
-loop-q-smaller c = search (edge-less, rules)
+loop-q-smaller g c = search (edge-less, rules)

@@ -5,7 +5,7 @@ use Rattle.segments.specs.Checked.{edge_in, edge-less}
 use Rattle.segments.proofs.print_elements.Given as goal
 
 abbrev pub invariant-loop-q : goal.invariant-loop-q
-invariant-loop-q l = Unit {0}
+invariant-loop-q g l = Unit {0}
 
 abbrev pub decreases-loop-q : goal.decreases-loop-q
-decreases-loop-q l = length l.s - l.i
+decreases-loop-q g l = length l.s - l.i
