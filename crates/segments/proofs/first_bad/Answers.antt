@@ -1,6 +1,4 @@
 use Rattle.segments.specs.Checked.{good-in, good-less}
-use Prim.Native.Nat.{◌-◌}
-use lib.ListN.{length}
 use borrow.Author.Rules.{rules}
 use Rattle.segments.proofs.first_bad.Goals as goal
 

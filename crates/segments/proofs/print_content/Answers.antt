@@ -1,6 +1,4 @@
 use Rattle.segments.specs.Checked.{next-less}
-use Prim.Native.Nat.{◌-◌}
-use lib.ListN.{length}
 use borrow.Author.Rules.{rules}
 use Rattle.segments.proofs.print_content.Goals as goal
 

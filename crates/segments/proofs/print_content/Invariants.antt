@@ -1,7 +1,5 @@
-use Rattle.segments.specs.Checked.{next-less}
 use Prim.Native.Nat.{◌-◌}
 use lib.ListN.{length}
-use borrow.Author.Rules.{rules}
 use Rattle.segments.proofs.print_content.Given as goal
 
 abbrev pub invariant-loop-b : goal.invariant-loop-b

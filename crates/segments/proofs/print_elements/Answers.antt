@@ -1,5 +1,3 @@
-use Prim.Native.Nat.{◌-◌}
-use lib.ListN.{length}
 use borrow.Author.Rules.{rules}
 use Rattle.segments.specs.Checked.{edge_in, edge-less}
 use Rattle.segments.proofs.print_elements.Goals as goal

@@ -1,7 +1,5 @@
 use Prim.Native.Nat.{◌-◌}
 use lib.ListN.{length}
-use borrow.Author.Rules.{rules}
-use Rattle.segments.specs.Checked.{edge_in, edge-less}
 use Rattle.segments.proofs.print_elements.Given as goal
 
 abbrev pub invariant-loop-q : goal.invariant-loop-q

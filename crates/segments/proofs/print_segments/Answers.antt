@@ -1,5 +1,3 @@
-use Prim.Native.Nat.{◌-◌}
-use lib.ListN.{length}
 use borrow.Author.Rules.{rules}
 use Rattle.segments.specs.Checked.{good-in, good-less}
 use Rattle.segments.proofs.print_segments.Goals as goal

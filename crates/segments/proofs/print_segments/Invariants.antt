@@ -1,7 +1,5 @@
 use Prim.Native.Nat.{◌-◌}
 use lib.ListN.{length}
-use borrow.Author.Rules.{rules}
-use Rattle.segments.specs.Checked.{good-in, good-less}
 use Rattle.segments.proofs.print_segments.Given as goal
 
 abbrev pub invariant-loop-i : goal.invariant-loop-i

@@ -1,5 +1,4 @@
 use Rattle.segments.specs.Checked.{refused-in, ends-in}
-use borrow.Author.Rules.{rules}
 use Rattle.segments.proofs.segment_at.Goals as goal
 
 pub tagged-requires : goal.tagged-requires

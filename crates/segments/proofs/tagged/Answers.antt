@@ -1,5 +1,4 @@
 use Rattle.segments.specs.Checked.{refused-in}
-use borrow.Author.Rules.{rules}
 use Rattle.segments.proofs.tagged.Goals as goal
 
 pub returns-in-Bad : goal.returns-in-Bad

@@ -1,4 +1,3 @@
-use borrow.Author.Rules.{rules}
 use Rattle.sha_run.proofs.digest_of_input.Given as goal
 
 abbrev pub invariant-loop-turns : goal.invariant-loop-turns
