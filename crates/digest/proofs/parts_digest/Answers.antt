@@ -8,10 +8,10 @@ use borrow.Author.Rules.{rules}
 use Rattle.digest.proofs.parts_digest.Goals as goal
 
 pub digest_two-d-requires : goal.digest_two-d-requires
-digest_two-d-requires c = let x = ap length c.own_part.ensures.result_value ∙ length-slice c.args.p.header.start c.args.p.header.end c.args.s.now c.pre.0.1 in let y = ap length c.own_part-then-named.ensures.result_value ∙ length-slice c.args.p.body.start c.args.p.body.end c.args.s.now c.pre.0.3 in omega (arith, x, y, c.pre.0.1, c.pre.0.3, c.pre.1)
+digest_two-d-requires c = let x = ap length c.own_part.ensures.result_value ∙ length-slice c.args.p.header.start c.args.p.header.end c.args.s.now c.requires.start_le_end.1 in let y = ap length c.own_part-then-named.ensures.result_value ∙ length-slice c.args.p.body.start c.args.p.body.end c.args.s.now c.requires.start_le_end.3 in omega (arith, x, y, c.requires.start_le_end.1, c.requires.start_le_end.3, c.requires.s_len_bound)
 
 pub returns-then-named : goal.returns-then-named
-returns-then-named c = digest-parts c.at_zero.ensures c.args.s.now c.args.p c.if-named.taken c.own_part.ensures.result_value c.own_part-then-named.ensures.result_value c.digest_two-d.ensures
+returns-then-named c = digest-parts c.at_zero.ensures c.args.s.now c.args.p c.if-named.true c.own_part.ensures.result_value c.own_part-then-named.ensures.result_value c.digest_two-d.ensures
 
 pub returns : goal.returns
-returns c = digest-unnamed (slice c.args.p.header.start c.args.p.header.end c.args.s.now ++ slice c.args.p.body.start c.args.p.body.end c.args.s.now) c.if-named.left c.at_zero-2.ensures c.refused_with.ensures
+returns c = digest-unnamed (slice c.args.p.header.start c.args.p.header.end c.args.s.now ++ slice c.args.p.body.start c.args.p.body.end c.args.s.now) c.if-named.false c.at_zero-2.ensures c.refused_with.ensures

@@ -7,10 +7,10 @@ use borrow.Author.Rules.{rules}
 use Rattle.digest.proofs.run_digest.Goals as goal
 
 pub digest_one-d-requires : goal.digest_one-d-requires
-digest_one-d-requires c = let x = ap length c.own_part.ensures.result_value ∙ length-slice c.args.x.start c.args.x.end c.args.s.now c.pre.0.1 in omega (arith, x, c.pre.0.1, c.pre.1)
+digest_one-d-requires c = let x = ap length c.own_part.ensures.result_value ∙ length-slice c.args.x.start c.args.x.end c.args.s.now c.requires.start_le_end.1 in omega (arith, x, c.requires.start_le_end.1, c.requires.s_len_bound)
 
 pub returns-then-named : goal.returns-then-named
-returns-then-named c = digest-run c.at_zero.ensures c.args.s.now c.args.x c.if-named.taken c.own_part.ensures.result_value c.digest_one-d.ensures
+returns-then-named c = digest-run c.at_zero.ensures c.args.s.now c.args.x c.if-named.true c.own_part.ensures.result_value c.digest_one-d.ensures
 
 pub returns : goal.returns
-returns c = digest-unnamed (slice c.args.x.start c.args.x.end c.args.s.now) c.if-named.left c.at_zero-2.ensures c.refused_with.ensures
+returns c = digest-unnamed (slice c.args.x.start c.args.x.end c.args.s.now) c.if-named.false c.at_zero-2.ensures c.refused_with.ensures
