@@ -1,49 +1,40 @@
-/* The exported calls over the module that bench/module makes of crates/gurandepi: there a slice goes by a pointer to its place and length, and a
-   struct goes in and comes back by a pointer. `rt staticlib` makes these wrappers itself, once the crate is proved. */
+/* The exported calls over what module makes of crates/gurandepi_c: there a struct goes in and comes back by a pointer. `rt lib` makes such wrappers itself,
+   once the crate is proved. */
 #include "gurandepi.h"
 
-struct octets {
-    const uint8_t *place;
-    uint64_t length;
-};
-struct room {
-    uint8_t *place;
-    uint64_t length;
-};
-
-void inner_judge(struct gurandepi_answer *, const struct octets *);
-void inner_totals(struct gurandepi_loads *, const struct octets *, const struct octets *);
-void inner_scope1(struct gurandepi_parts *, const struct octets *, const struct octets *, const struct octets *);
-void inner_scope2(struct gurandepi_range *, const struct octets *, const struct octets *, const struct octets *);
-void inner_f01(struct gurandepi_range *, const struct octets *, const struct octets *, const struct octets *, const struct octets *);
-void inner_scope3(struct gurandepi_range *, const struct octets *, const struct octets *, const struct octets *, const struct octets *);
-void inner_value(struct gurandepi_written *, const struct octets *, const struct octets *, const struct octets *, const struct room *);
-void inner_seal_octets(struct gurandepi_written *, const struct octets *, const struct octets *, const struct octets *, uint64_t, const struct room *);
-void inner_seal(struct gurandepi_written *, const struct octets *, const struct octets *, const struct octets *, uint64_t, const struct octets *, const struct room *);
-void inner_register_write(struct gurandepi_written *, const struct octets *, const struct room *);
-void inner_register_write_signed(struct gurandepi_written *, const struct octets *, const struct room *);
-void inner_register_check(struct gurandepi_answer *, const struct octets *, const struct octets *);
-void inner_register_check_small(struct gurandepi_answer *, const struct octets *, const struct octets *);
-void inner_register_check_signed(struct gurandepi_answer *, const struct octets *, const struct octets *);
-void inner_register_old_to_signed(struct gurandepi_written *, const struct octets *, const struct room *);
-void inner_register_signed_to_old(struct gurandepi_written *, const struct octets *, const struct room *);
-void inner_register_small_to_signed(struct gurandepi_written *, const struct octets *, const struct room *);
-void inner_register_small_to_old(struct gurandepi_written *, const struct octets *, const struct room *);
+void inner_judge(struct gurandepi_answer *, const uint8_t *, size_t);
+void inner_totals(struct gurandepi_loads *, const uint8_t *, size_t, const uint8_t *, size_t);
+void inner_scope1(struct gurandepi_parts *, const uint8_t *, size_t, const uint8_t *, size_t, const uint8_t *, size_t);
+void inner_scope2(struct gurandepi_range *, const uint8_t *, size_t, const uint8_t *, size_t, const uint8_t *, size_t);
+void inner_f01(struct gurandepi_range *, const uint8_t *, size_t, const uint8_t *, size_t, const uint8_t *, size_t, const uint8_t *, size_t);
+void inner_scope3(struct gurandepi_range *, const uint8_t *, size_t, const uint8_t *, size_t, const uint8_t *, size_t, const uint8_t *, size_t);
+void inner_value(struct gurandepi_written *, const uint8_t *, size_t, const uint8_t *, size_t, const uint8_t *, size_t, uint8_t *, size_t);
+void inner_seal_octets(struct gurandepi_written *, const uint8_t *, size_t, const uint8_t *, size_t, const uint8_t *, size_t, uint64_t, uint8_t *, size_t);
+void inner_seal(struct gurandepi_written *, const uint8_t *, size_t, const uint8_t *, size_t, const uint8_t *, size_t, uint64_t, const uint8_t *, size_t, uint8_t *, size_t);
+void inner_register_write(struct gurandepi_written *, const uint8_t *, size_t, uint8_t *, size_t);
+void inner_register_write_signed(struct gurandepi_written *, const uint8_t *, size_t, uint8_t *, size_t);
+void inner_register_check(struct gurandepi_answer *, const uint8_t *, size_t, const uint8_t *, size_t);
+void inner_register_check_small(struct gurandepi_answer *, const uint8_t *, size_t, const uint8_t *, size_t);
+void inner_register_check_signed(struct gurandepi_answer *, const uint8_t *, size_t, const uint8_t *, size_t);
+void inner_register_old_to_signed(struct gurandepi_written *, const uint8_t *, size_t, uint8_t *, size_t);
+void inner_register_signed_to_old(struct gurandepi_written *, const uint8_t *, size_t, uint8_t *, size_t);
+void inner_register_small_to_signed(struct gurandepi_written *, const uint8_t *, size_t, uint8_t *, size_t);
+void inner_register_small_to_old(struct gurandepi_written *, const uint8_t *, size_t, uint8_t *, size_t);
 
 void inner_sha1_start(struct gurandepi_sha1 *);
-void inner_sha1_feed(struct gurandepi_fed *, const struct gurandepi_sha1 *, const struct octets *);
+void inner_sha1_feed(struct gurandepi_fed *, const struct gurandepi_sha1 *, const uint8_t *, size_t);
 void inner_sha1_finish(struct gurandepi_digest *, const struct gurandepi_sha1 *);
-void inner_digest_scope1(struct gurandepi_digest *, const struct octets *, const struct octets *, const struct octets *);
-void inner_digest_scope2(struct gurandepi_digest *, const struct octets *, const struct octets *, const struct octets *);
-void inner_digest_f01(struct gurandepi_digest *, const struct octets *, const struct octets *, const struct octets *, const struct octets *);
-void inner_digest_scope3(struct gurandepi_digest *, const struct octets *, const struct octets *, const struct octets *, const struct octets *);
-void inner_old_sum(struct gurandepi_oldsum *, const struct octets *, float);
-void inner_old_sum_bits(struct gurandepi_oldsum *, const struct octets *, uint32_t);
-void inner_message_old_sum(struct gurandepi_oldsum *, const struct octets *, const struct octets *, float);
-void inner_message_old_sum_bits(struct gurandepi_oldsum *, const struct octets *, const struct octets *, uint32_t);
+void inner_digest_scope1(struct gurandepi_digest *, const uint8_t *, size_t, const uint8_t *, size_t, const uint8_t *, size_t);
+void inner_digest_scope2(struct gurandepi_digest *, const uint8_t *, size_t, const uint8_t *, size_t, const uint8_t *, size_t);
+void inner_digest_f01(struct gurandepi_digest *, const uint8_t *, size_t, const uint8_t *, size_t, const uint8_t *, size_t, const uint8_t *, size_t);
+void inner_digest_scope3(struct gurandepi_digest *, const uint8_t *, size_t, const uint8_t *, size_t, const uint8_t *, size_t, const uint8_t *, size_t);
+void inner_old_sum(struct gurandepi_oldsum *, const uint8_t *, size_t, float);
+void inner_old_sum_bits(struct gurandepi_oldsum *, const uint8_t *, size_t, uint32_t);
+void inner_message_old_sum(struct gurandepi_oldsum *, const uint8_t *, size_t, const uint8_t *, size_t, float);
+void inner_message_old_sum_bits(struct gurandepi_oldsum *, const uint8_t *, size_t, const uint8_t *, size_t, uint32_t);
 
-#define OCTETS(name) &(struct octets){name, name##_length}
-#define ROOM &(struct room){out, out_length}
+#define OCTETS(name) name, name##_length
+#define ROOM out, out_length
 
 struct gurandepi_answer gurandepi_judge(const uint8_t *interchange, size_t interchange_length) {
     struct gurandepi_answer r;
