@@ -5,15 +5,17 @@
 #include <stdlib.h>
 #include <string.h>
 #include <time.h>
+#include "gurandepi.h"
 
-typedef struct { const uint8_t *p; uint64_t n; } slice;    // how Rattle passes &[u8]
-uint64_t rattle_judge(const slice *s);
 uint64_t plain_judge(const uint8_t *s, size_t n);
 
 enum { ROUNDS = 41, ROOM = 1 << 20 };
 static uint8_t octets[ROOM];
 
-static uint64_t ours(const uint8_t *s, size_t n) { return rattle_judge(&(slice){s, n}); }
+static uint64_t ours(const uint8_t *s, size_t n) {
+    struct gurandepi_answer a = gurandepi_judge(s, n);
+    return a.number << 40 | a.segment << 20 | a.place;
+}
 
 static double now(void) {
     struct timespec t;

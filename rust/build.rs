@@ -1,5 +1,5 @@
 //! Links the static library. GURANDEPI_LIB names the folder that has it; else it is taken from the repository, and built by
-//! `rt staticlib gurandepi` where it is not there or older than its sources. Where it is not to be had the crate is compiled
+//! `rt lib` in crates/gurandepi_c where it is not there or older than its sources. Where it is not to be had the crate is compiled
 //! all the same, for `cargo check`; only what calls it does not link.
 use std::path::{Path, PathBuf};
 use std::process::Command;
@@ -30,13 +30,16 @@ fn from_repository() -> Option<PathBuf> {
     println!("cargo:rerun-if-changed={}", top.join("crates.txt").display());
     let sources = newest(&top.join("crates")).max(newest(&top.join("crates.txt")));
     if changed(&folder.join("libgurandepi.a")).map_or(true, |built| built < sources) {
-        let said = Command::new("rt").args(["staticlib", "gurandepi"]).current_dir(&top).output().ok()?;
+        let crate_folder = top.join("crates/gurandepi_c");
+        let said = Command::new("rt").arg("lib").current_dir(&crate_folder).output().ok()?;
         assert!(
             said.status.success(),
-            "rt staticlib gurandepi:\n{}{}",
+            "rt lib in crates/gurandepi_c:\n{}{}",
             String::from_utf8_lossy(&said.stdout),
             String::from_utf8_lossy(&said.stderr)
         );
+        fs::create_dir_all(&folder).unwrap();
+        fs::copy(crate_folder.join("out/libgurandepi_c.a"), folder.join("libgurandepi.a")).unwrap();
     }
     Some(folder)
 }
@@ -45,9 +48,10 @@ fn changed(path: &Path) -> Option<SystemTime> {
     fs::metadata(path).and_then(|about| about.modified()).ok()
 }
 
-/// The last change of a file, or of any in a folder.
+/// The last change of a file, or of any in a folder, but for what `rt` keeps in the folders out.
 fn newest(path: &Path) -> SystemTime {
-    let below = fs::read_dir(path).into_iter().flatten().flatten().map(|entry| newest(&entry.path()));
+    let entries = fs::read_dir(path).into_iter().flatten().flatten().filter(|entry| entry.file_name() != "out");
+    let below = entries.map(|entry| newest(&entry.path()));
     let own = if path.is_file() { changed(path) } else { None };
     below.chain(own).max().unwrap_or(SystemTime::UNIX_EPOCH)
 }
