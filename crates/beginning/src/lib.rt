@@ -15,7 +15,7 @@ use syntax::reading::component_part;
 use syntax::repertoire::{OUTSIDE, classes};
 use syntax::{Breach, Found, Level, Service, Syntax, Version};
 
-// A printable octet 0x21 to 0x7_e, no letter or digit.
+// A printable octet 0x21 to 0x7E, no letter or digit.
 fn servant_octet(b: u8) -> bool
     ensures { result ≡ servant b }
 {

@@ -125,7 +125,7 @@ pub fn handed_in(sum: f32) -> Running
     Running::Refused(24)
 }
 
-// The same by its 32 bits. From 0x7_f800001 on they are those of no number, or of one with a sign.
+// The same by its 32 bits. From 0x7F800001 on they are those of no number, or of one with a sign.
 pub fn handed_bits(bits: u32) -> Running
     ensures { result ≡ running_as (handed_bits bits) }
 {

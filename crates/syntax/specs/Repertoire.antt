@@ -18,7 +18,7 @@ inside_a b = capital b || digit b || eqb b (octet " ") || one_of (octets ".,-()/
 abbrev pub inside_c : ℕ → Bool
 inside_c b = within 32 126 b || within 160 255 b
 
--- "UNOB adds a to z. UNOC: 0x20 to 0x7_e and 0xA0 to 0xFF." "UNOD (octets as for UNOC)"
+-- "UNOB adds a to z. UNOC: 0x20 to 0x7E and 0xA0 to 0xFF." "UNOD (octets as for UNOC)"
 unfoldable pub inside : Level → ℕ → Bool
 inside A b = inside_a b
 inside B b = inside_a b || small b

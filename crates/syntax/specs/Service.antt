@@ -13,7 +13,7 @@ abbrev pub without_repetition : Service → Service
 without_repetition σ =
     record { component = σ.component; element = σ.element; release = σ.release; repetition = octet " "; terminator = σ.terminator }
 
--- "a printable octet 0x21 to 0x7_e, no letter or digit"
+-- "a printable octet 0x21 to 0x7E, no letter or digit"
 abbrev pub servant : ℕ → Bool
 servant b = within 33 126 b && not (digit b) && not (capital b) && not (small b)
 

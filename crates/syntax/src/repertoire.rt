@@ -43,15 +43,15 @@ pub fn is_inside(l: Level, b: u8) -> bool
             b'A'..=b'Z' | b'a'..=b'z' => true,
             _ => false,
         },
-        // "UNOC: 0x20 to 0x7_e and 0xA0 to 0xFF."
+        // "UNOC: 0x20 to 0x7E and 0xA0 to 0xFF."
         Level::C => match b {
-            0x20..=0x7_e => true, // the printable octets of the lower half
+            0x20..=0x7E => true, // the printable octets of the lower half
             0xA0..=0xFF => true, // and of the upper one
             _ => false,
         },
         // "UNOD (octets as for UNOC)"
         Level::D => match b {
-            0x20..=0x7_e => true,
+            0x20..=0x7E => true,
             0xA0..=0xFF => true,
             _ => false,
         },
