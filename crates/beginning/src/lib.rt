@@ -1,4 +1,6 @@
 // The start of an interchange: UNA or none, then what UNB's first element says. Its definitions are in Opening.antt of `syntax`.
+#![tactic(auto)]
+
 ghost use Rattle.std.specs.Prelude.{◌≡◌, Bool, true, false, cond, eqb, length, drop, ◌≤◌};
 ghost use Rattle.syntax.specs.Classes.{Table};
 ghost use Rattle.syntax.specs.Service.{servant, differ, repetition_differs, fit, without_repetition};

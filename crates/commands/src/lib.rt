@@ -1,4 +1,6 @@
 // The words of a command line: octets in lower-case hex, where `-` is the empty string, and numbers.
+#![tactic(auto)]
+
 ghost use Rattle.std.specs.Prelude.{◌≤◌, ◌<◌, length};
 
 use syntax::content::{Number, digits_value, part};

@@ -4,6 +4,8 @@
 // of `ranges` `scope1_of`, `scope2_of` (Ranges.antt), of `f01` `f01_of` (F01.antt), of `scope3` `scope3_of` (Scope3.antt); of `values` `value_of` (Values.antt); of `sealing` `seal_of`,
 // `seal_octets_of` and `sealed` (Sealing.antt); of `register` `register_of`, `check_numbers`, `told_check` (Register.antt), of `forms` `register_text`
 // (Forms.antt), of `moves` `move_of` (Stored.antt); of `writing` `Writes` (Written.antt); and here `Printed.antt`, `Companion.antt`, `Reported.antt`, `Sealed.antt`, `Range.antt` (the grammars of what is sealed) and `Read.antt`.
+#![tactic(auto)]
+
 pub mod years;
 
 ghost use Rattle.std.specs.Prelude.{ℕ, ◌+◌, ◌-◌, ◌≤◌, false, ◌≡◌, List, ◌++◌, ◌↔◌, T, neg_ℤ, length, take, drop};

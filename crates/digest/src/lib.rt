@@ -1,5 +1,7 @@
 // The digest of a named range: SHA-1 of exactly the octets that the range call hands back, where the header's first USA names it. Nothing is copied: the parts
 // of the lent interchange are fed.
+#![tactic(auto)]
+
 ghost use Rattle.std.specs.Prelude.{◌≡◌, List, ◌++◌, ℕ, ◌+◌, ◌<◌, ◌≤◌, T, length};
 ghost use Rattle.std.proofs.Math.Seq.{slice};
 ghost use Rattle.syntax.specs.Service.{fit};

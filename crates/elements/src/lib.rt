@@ -1,4 +1,6 @@
 // What one segment says: its kind, its fields, its checked elements (8), the amount of a load.
+#![tactic(auto)]
+
 pub mod amounts;
 pub mod fields;
 pub mod formed;

@@ -1,4 +1,6 @@
 // F01: the run of messages that an AUTACK seals in the interchange which it refers to. What it finds in the AUTACK serves scope 3 too (crates/scope3).
+#![tactic(auto)]
+
 ghost use Rattle.std.specs.Prelude.{◌≡◌, List, ℕ, ◌+◌, ◌≤◌, T, length};
 ghost use Rattle.std.proofs.Math.Option.{some};
 ghost use Rattle.std.proofs.Math.Seq.{slice};

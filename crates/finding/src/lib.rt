@@ -1,4 +1,6 @@
 // The message that a call names by its 0062: the interchange is judged, and of that message it is told where its parts stand.
+#![tactic(auto)]
+
 ghost use Rattle.std.specs.Prelude.{◌≡◌, ◌≤◌, T, length};
 ghost use Rattle.syntax.specs.Content.{compared, content};
 ghost use Rattle.syntax.specs.Service.{fit};

@@ -1,4 +1,6 @@
 // The forms of a register: what it is made of, and how its count and entries are laid into a buffer in each form.
+#![tactic(auto)]
+
 ghost use Rattle.std.specs.Prelude.{false, ◌||◌, ◌≡◌, ◌+◌, ◌/◌, ◌%◌, ◌≤◌, ◌<◌};
 ghost use Rattle.grammar.specs.Grams.{below};
 ghost use Rattle.writing.specs.Laid.{Laid};

@@ -1,4 +1,6 @@
 // The grammar of interchanges and the verdict on octets: definitions in specs/. Of code only what it shares with them.
+#![tactic(auto)]
+
 ghost use Rattle.std.specs.Prelude.{◌≡◌};
 ghost use Rattle.grammar.specs.Rules.{is_autack, is_gs1};
 

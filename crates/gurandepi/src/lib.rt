@@ -2,6 +2,8 @@
 // c/interface compares. Each call takes slices, a pointer and a length in C, and gives a struct of numbers: the number of
 // the refusal, 0 for none, its place, the ordinal of the segment there, then the call's own. Any octets of any length are allowed everywhere; no call keeps
 // anything. A library gives C no symbols: crates/gurandepi_c, a static library over this one, does.
+#![tactic(auto)]
+
 ghost use Rattle.std.specs.Prelude.{◌≡◌, ◌∷◌, ◌<◌};
 ghost use Rattle.grammar.specs.Grams.{signed};
 ghost use Rattle.grammar.specs.Verdict.{verdict_of, numbers, totals_of, total_numbers, total_grams};

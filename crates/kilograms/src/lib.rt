@@ -1,4 +1,6 @@
 // The old sum, just as it ran: kilograms in single precision, one rounding for each addition.
+#![tactic(auto)]
+
 ghost use Rattle.std.specs.Prelude.{◌≡◌, ℕ, ◌+◌, ◌≤◌, true, false, not, T, pos, is_nan, to_bits};
 ghost use Rattle.std.proofs.Math.Option.{Option, some};
 ghost use Rattle.std.specs.Float.{binary32, fin};

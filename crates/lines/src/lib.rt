@@ -1,4 +1,6 @@
 // The lines of the report: a refusal, the interchange, a message; in `seals` those of its seals.
+#![tactic(auto)]
+
 pub mod seals;
 pub mod words;
 

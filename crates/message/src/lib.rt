@@ -1,4 +1,6 @@
 // The open message as a small state, and what a segment does to it: 7, 9, 11 and 12.
+#![tactic(auto)]
+
 pub mod heads;
 pub mod items;
 pub mod kept;

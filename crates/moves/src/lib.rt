@@ -1,3 +1,5 @@
 // The moves of a stored register from form to form.
+#![tactic(auto)]
+
 pub mod moving;
 pub mod reading;

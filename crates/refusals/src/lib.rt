@@ -1,4 +1,6 @@
 // A breach that was found in an interchange, as a call gives it back.
+#![tactic(auto)]
+
 pub mod ordinal;
 
 ghost use Rattle.std.specs.Prelude.{◌≡◌};

@@ -1,4 +1,6 @@
 // Scope 3, the GS1 subset of AUTACK: the message that an AUTACK seals in the interchange which it refers to.
+#![tactic(auto)]
+
 ghost use Rattle.std.specs.Prelude.{◌≡◌, ◌+◌, length};
 ghost use Rattle.std.proofs.Math.Option.{none};
 ghost use Rattle.std.proofs.Math.Seq.{slice};

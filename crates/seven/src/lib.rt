@@ -1,4 +1,6 @@
 // Numbers in groups of seven bits, in the shortest form: how long, written, read.
+#![tactic(auto)]
+
 ghost use Rattle.std.specs.Prelude.{◌≡◌, ◌+◌, ◌-◌, ◌*◌, ◌≤◌, ◌<◌, length, drop};
 ghost use Rattle.writing.specs.Laid.{Laid};
 ghost use Rattle.seven.specs.Groups.{shortest, joined, read_from};

@@ -1,5 +1,7 @@
 // SHA-1 by FIPS 180-4, fed by parts as they come: `start`, `feed` for each part, `finish`. specs/Sha.antt is FIPS's page, specs/Feeding.antt
 // says what the three calls make of a state, any state.
+#![tactic(auto)]
+
 pub mod block;
 pub mod words;
 

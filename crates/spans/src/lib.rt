@@ -1,2 +1,4 @@
 // The F01 run of an interchange.
+#![tactic(auto)]
+
 pub mod span;

@@ -1,5 +1,7 @@
 // The octets of one EDIFACT interchange: service characters, repertoire, segments, elements, components, content.
 // specs/ says what each call means. No call has a `requires` but those that read by the class table, which `table` makes, and `classes`, which fills one.
+#![tactic(auto)]
+
 pub mod content;
 pub mod cutting;
 pub mod opening;

@@ -1,4 +1,6 @@
 // Signature values: what the seal of a header carries, recovered by the filter that the header names.
+#![tactic(auto)]
+
 pub mod filter;
 
 ghost use Rattle.std.specs.Prelude.{◌≡◌, List, ℕ, ◌+◌, ◌≤◌, T, length};

@@ -1,5 +1,7 @@
 // Writing into a lent buffer. Every writer lays its text from a place on, as far as the buffer has room, and answers the
 // place after it: laid into no room, a text is measured by the very call that writes it.
+#![tactic(auto)]
+
 ghost use Rattle.std.specs.Prelude.{◌≡◌, ◌+◌, ◌%◌, ◌≤◌, ◌<◌, length, set};
 ghost use Rattle.writing.specs.Decimal.{decimal_of, Filled};
 ghost use Rattle.writing.specs.Laid.{Laid, Fits};
