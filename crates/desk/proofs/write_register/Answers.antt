@@ -1,6 +1,5 @@
 use mathlib.Core.Path.{sym}
 use lib.Seq.{length-take-le}
-use borrow.Author.Rules.{rules}
 use Rattle.desk.proofs.write_register.Goals as goal
 
 pub slice_bounds-register_write-end-2 : goal.slice_bounds-register_write-end-2

@@ -1,6 +1,5 @@
 use mathlib.Core.Path.{sym}
 use lib.Seq.{length-take-le}
-use borrow.Author.Rules.{rules}
 use Rattle.desk.proofs.write_sealed.Goals as goal
 
 pub slice_bounds-seal-end-2 : goal.slice_bounds-seal-end-2

@@ -1,6 +1,5 @@
 use Prim.Native.Nat.{◌-◌}
 use lib.ListN.{length}
-use borrow.Author.Rules.{rules}
 use Rattle.desk.proofs.digests.answer_sha1.Given as goal
 
 abbrev pub invariant-loop-end : goal.invariant-loop-end
