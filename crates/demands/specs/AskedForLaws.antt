@@ -24,7 +24,7 @@ use Rattle.groups.specs.GroupsLaws.{chosen-among}
 use Rattle.groups.specs.Calls.{given, service_in, message_in}
 use Rattle.groups.specs.CallsLaws.{none-some}
 use Rattle.ranges.specs.Ranges.{Parts, parts, scope1_of, Run, run, scope2_of}
-use Rattle.weaving.specs.WovenLaws.{una-length}
+use Rattle.weaving.proofs.WovenLaws.{una-length}
 use Rattle.demands.specs.AskedLaws.{Asks, asks1, asks2}
 use Rattle.demands.specs.GivenLaws.{there1, there2}
 use Rattle.demands.specs.Stated.{In, headers_of, place_behind, HasHeader}

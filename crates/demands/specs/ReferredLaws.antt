@@ -24,7 +24,7 @@ use Rattle.groups.specs.StandLaws.{list-join, stand-front, stand-back}
 use Rattle.groups.specs.Calls.{given, then, service_in}
 use Rattle.groups.specs.CallsLaws.{none-some}
 use Rattle.ranges.specs.Ranges.{Run, run}
-use Rattle.weaving.specs.WovenLaws.{una-length}
+use Rattle.weaving.proofs.WovenLaws.{una-length}
 use Rattle.f01.specs.Targets.{target}
 use Rattle.f01.specs.F01.{run_of, run_in, f01_of}
 use Rattle.demands.specs.AskedLaws.{then-so, read-stands, stand-as, Part, part, part_at}

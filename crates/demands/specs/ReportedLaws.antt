@@ -22,7 +22,7 @@ use Rattle.groups.specs.GroupsLaws.{chosen-among}
 use Rattle.groups.specs.Parts.{header_at, trailer_at}
 use Rattle.groups.specs.Calls.{given, service_in}
 use Rattle.ranges.specs.Ranges.{parts, scope1_of, run, scope2_of}
-use Rattle.weaving.specs.WovenLaws.{una-length}
+use Rattle.weaving.proofs.WovenLaws.{una-length}
 use Rattle.lines.specs.Words.{accepted_line, message_line, seal_line}
 use Rattle.listing.specs.Listing.{written_o, written_h, type_o, to_trailer, seal_line_of, seals_of, message_of, messages_of, accepted_of, listing_by}
 use Rattle.demands.specs.Stated.{unb_of, place_behind}

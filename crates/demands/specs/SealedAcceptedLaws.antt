@@ -13,7 +13,7 @@ use Rattle.grammar.specs.Verdict.{accepted, verdict_of}
 use Rattle.grammar.proofs.VerdictLaws.{verdict-exact}
 use Rattle.grammar.specs.Named.{Placed, placed}
 use Rattle.grammar.specs.TestLaws.{passes}
-use Rattle.weaving.specs.WovenLaws.{around}
+use Rattle.weaving.proofs.WovenLaws.{around}
 use Rattle.writing.specs.Written.{Text, text, no_text}
 use Rattle.groups.specs.Calls.{Answered, given, refused_as, answered_by, then, service_in, version_in, message_in}
 use Rattle.values.specs.Values.{answered}

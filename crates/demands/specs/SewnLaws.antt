@@ -27,7 +27,7 @@ use Rattle.groups.specs.Calls.{service_in, version_in, message_in}
 use Rattle.weaving.specs.Seals.{new_header, new_trailer, grown, sealed_message}
 use Rattle.grammar.proofs.ListsLaws.{joined-join}
 use Rattle.weaving.specs.Seals.{text_by}
-use Rattle.weaving.specs.WovenLaws.{unt_tail, unt-print, grown-print, around}
+use Rattle.weaving.proofs.WovenLaws.{unt_tail, unt-print, grown-print, around}
 use Rattle.grammar.specs.StartLaws.{fit-in-force}
 use Rattle.sealing.specs.Sealing.{seal_of}
 use Rattle.writing.specs.Written as writing
@@ -35,7 +35,7 @@ use Rattle.demands.specs.Sealed.{sealed_by}
 use Rattle.demands.specs.SealedAcceptedLaws.{succeeds}
 use Rattle.demands.specs.AskedForLaws.{message-of}
 use Rattle.demands.specs.Sewn.{Sewn}
-use Rattle.weaving.specs.WovenLaws.{cut_at, inner, una-length, unt-digits, old-parts, new-parts}
+use Rattle.weaving.proofs.WovenLaws.{cut_at, inner, una-length, unt-digits, old-parts, new-parts}
 
 module _ (σ : Service) where
   one-print : (g : Segment) → print σ (g ∷ []) ≡ print_s σ g

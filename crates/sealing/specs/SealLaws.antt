@@ -29,7 +29,7 @@ use Rattle.groups.specs.CallsLaws.{read_short, version-so}
 use Rattle.values.specs.Values.{answered}
 use Rattle.weaving.specs.Seals.{may_seal, length_right, text_by, may_write, writable, signed_text, sealed_text}
 use Rattle.weaving.specs.Woven.{octets_pieces, sealed_pieces, woven_or, sized_or}
-use Rattle.weaving.specs.WovenLaws.{woven, signed}
+use Rattle.weaving.proofs.WovenLaws.{woven, signed}
 use Rattle.writing.specs.WrittenLaws.{writes_as}
 use Rattle.sealing.specs.Sealing.{octets_at, seal_octets_of, or_unwritten, seal_at, seal_of}
 

@@ -3,4 +3,3 @@ pub mod Woven
 pub mod ValueLaws
 pub mod AllowedLaws
 pub mod PiecesLaws
-pub mod WovenLaws

@@ -1,6 +1,6 @@
 use mathlib.Core.Path.{◌≡◌, refl, sym, ap, ◌∙◌}
 use Rattle.syntax.specs.Content.{content}
-use Rattle.weaving.specs.WovenLaws.{count-told, count_none, count_low}
+use Rattle.weaving.proofs.WovenLaws.{count-told, count_none, count_low}
 use borrow.Author.Rules.{rules}
 use Rattle.sealing.proofs.seal.grown.Goals as goal
 
