@@ -1,3 +1,2 @@
 pub mod Register
 pub mod Laying
-pub mod RegisterLaws

@@ -1,6 +1,6 @@
 use mathlib.Core.Path.{◌∙◌}
 use Rattle.returns.specs.Returns.{message_old_sum_bits_of}
-use Rattle.returns.specs.ReturnsLaws.{single-told}
+use Rattle.returns.proofs.ReturnsLaws.{single-told}
 use borrow.Author.Rules.{rules}
 use Rattle.gurandepi.proofs.gurandepi_message_old_sum_bits.Goals as goal
 

@@ -1,4 +1,4 @@
-use Rattle.returns.specs.YearsLaws.{whole_again}
+use Rattle.returns.proofs.YearsLaws.{whole_again}
 use Rattle.demands.proofs.years.each_sum_is_whole.Goals as goal
 
 pub returns : goal.returns

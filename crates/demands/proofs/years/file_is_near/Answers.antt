@@ -1,4 +1,4 @@
-use Rattle.returns.specs.YearsLaws.{file-leaves}
+use Rattle.returns.proofs.YearsLaws.{file-leaves}
 use Rattle.demands.proofs.years.file_is_near.Goals as goal
 
 pub returns : goal.returns

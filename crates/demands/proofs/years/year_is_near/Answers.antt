@@ -1,4 +1,4 @@
-use Rattle.returns.specs.YearsLaws.{year-near}
+use Rattle.returns.proofs.YearsLaws.{year-near}
 use Rattle.demands.proofs.years.year_is_near.Goals as goal
 
 pub returns : goal.returns

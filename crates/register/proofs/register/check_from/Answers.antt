@@ -1,5 +1,5 @@
 use mathlib.Core.Path.{sym, ◌∙◌}
-use Rattle.register.specs.RegisterLaws.{measured, check-refused, check-negative, check-long, check-same, check-other}
+use Rattle.register.proofs.RegisterLaws.{measured, check-refused, check-negative, check-long, check-same, check-other}
 use borrow.Author.Rules.{rules}
 use Rattle.register.proofs.register.check_from.Goals as goal
 

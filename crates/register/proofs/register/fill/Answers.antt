@@ -1,4 +1,4 @@
-use Rattle.register.specs.RegisterLaws.{laid-all, laid-refused, filled, unrefused}
+use Rattle.register.proofs.RegisterLaws.{laid-all, laid-refused, filled, unrefused}
 use borrow.Author.Rules.{rules}
 use Rattle.register.proofs.register.fill.Goals as goal
 

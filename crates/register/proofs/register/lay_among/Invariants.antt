@@ -4,7 +4,7 @@ use mathlib.Core.Path.{sym, ◌∙◌}
 use lib.ListN.{length}
 use Rattle.writing.specs.LaidLaws.{laid-length}
 use Rattle.walk.specs.SectionLaws.{between-so, passed, starts, nearer, read_all, stopped}
-use Rattle.register.specs.RegisterLaws.{Registering, registering-start, registering-fits, passed-forward, registering-on, lays-told, lays-stopped}
+use Rattle.register.proofs.RegisterLaws.{Registering, registering-start, registering-fits, passed-forward, registering-on, lays-told, lays-stopped}
 use Rattle.register.proofs.register.lay_among.Given as goal
 
 abbrev pub invariant-loop-f : goal.invariant-loop-f

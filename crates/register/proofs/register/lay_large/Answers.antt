@@ -1,6 +1,6 @@
 use native.Mathlib.Omega.{arith}
 use mathlib.Core.Path.{refl}
-use Rattle.register.specs.RegisterLaws.{begun_fresh, begun-short}
+use Rattle.register.proofs.RegisterLaws.{begun_fresh, begun-short}
 use borrow.Author.Rules.{rules}
 use Rattle.register.proofs.register.lay_large.Goals as goal
 

@@ -1,6 +1,6 @@
 use native.Mathlib.Omega.{arith}
 use mathlib.Core.Path.{refl}
-use Rattle.register.specs.RegisterLaws.{begun_fresh}
+use Rattle.register.proofs.RegisterLaws.{begun_fresh}
 use borrow.Author.Rules.{rules}
 use Rattle.register.proofs.register.lay_small.Goals as goal
 

@@ -1,5 +1,5 @@
 use native.Mathlib.Omega.{arith}
-use Rattle.register.specs.RegisterLaws.{laid-all, laid-refused, measured-fits, measured-so}
+use Rattle.register.proofs.RegisterLaws.{laid-all, laid-refused, measured-fits, measured-so}
 use borrow.Author.Rules.{rules}
 use Rattle.register.proofs.register.measure.Goals as goal
 

@@ -1,6 +1,6 @@
 use mathlib.Core.Path.{sym, ap, ◌∙◌}
 use Rattle.register.specs.Register.{told_check}
-use Rattle.register.specs.RegisterLaws.{unbegun, check-refused}
+use Rattle.register.proofs.RegisterLaws.{unbegun, check-refused}
 use borrow.Author.Rules.{rules}
 use Rattle.register.proofs.register.register_check.Goals as goal
 

@@ -1,5 +1,5 @@
 use mathlib.Core.Path.{sym, ◌∙◌}
-use Rattle.register.specs.RegisterLaws.{unbegun, write-refused}
+use Rattle.register.proofs.RegisterLaws.{unbegun, write-refused}
 use borrow.Author.Rules.{rules}
 use Rattle.register.proofs.register.register_write.Goals as goal
 

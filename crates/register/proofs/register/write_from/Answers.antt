@@ -1,5 +1,5 @@
 use mathlib.Core.Path.{sym, ◌∙◌}
-use Rattle.register.specs.RegisterLaws.{measured, write-refused, write-negative, write-over, write-fit}
+use Rattle.register.proofs.RegisterLaws.{measured, write-refused, write-negative, write-over, write-fit}
 use borrow.Author.Rules.{rules}
 use Rattle.register.proofs.register.write_from.Goals as goal
 

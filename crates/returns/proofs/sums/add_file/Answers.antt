@@ -1,5 +1,5 @@
 use Rattle.walk.specs.RunLaws.{begun-fits}
-use Rattle.returns.specs.ReturnsLaws.{file-unbegun, file-so}
+use Rattle.returns.proofs.ReturnsLaws.{file-unbegun, file-so}
 use borrow.Author.Rules.{rules}
 use Rattle.returns.proofs.sums.add_file.Goals as goal
 

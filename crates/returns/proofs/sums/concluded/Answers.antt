@@ -1,6 +1,6 @@
 use mathlib.Core.Path.{subst}
 use Rattle.kilograms.specs.Running.{Runs}
-use Rattle.returns.specs.ReturnsLaws.{concluded-left, concluded-refused}
+use Rattle.returns.proofs.ReturnsLaws.{concluded-left, concluded-refused}
 use borrow.Author.Rules.{rules}
 use Rattle.returns.proofs.sums.concluded.Goals as goal
 

@@ -1,6 +1,6 @@
 use borrow.Author.Rules.{rules}
 use Rattle.kilograms.specs.RunningLaws.{runs-whole}
-use Rattle.returns.specs.ReturnsLaws.{sum-real, left_so}
+use Rattle.returns.proofs.ReturnsLaws.{sum-real, left_so}
 use Rattle.returns.proofs.sums.left_by.Goals as goal
 
 pub whole-requires : goal.whole-requires

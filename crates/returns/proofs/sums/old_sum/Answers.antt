@@ -1,7 +1,7 @@
 use Rattle.kilograms.specs.OldSum.{handed_in}
 use Rattle.kilograms.specs.RunningLaws.{held-handed}
 use Rattle.returns.specs.Returns.{old_sum_of}
-use Rattle.returns.specs.ReturnsLaws.{starts-handed, sum-promised}
+use Rattle.returns.proofs.ReturnsLaws.{starts-handed, sum-promised}
 use borrow.Author.Rules.{rules}
 use Rattle.returns.proofs.sums.old_sum.Goals as goal
 

@@ -1,6 +1,6 @@
 use Rattle.kilograms.specs.OldSum.{handed_bits}
 use Rattle.returns.specs.Returns.{old_sum_bits_of}
-use Rattle.returns.specs.ReturnsLaws.{starts-bits, held-bits, sum-promised}
+use Rattle.returns.proofs.ReturnsLaws.{starts-bits, held-bits, sum-promised}
 use borrow.Author.Rules.{rules}
 use Rattle.returns.proofs.sums.old_sum_bits.Goals as goal
 

@@ -1,5 +1,5 @@
 use mathlib.Core.Path.{refl}
-use Rattle.returns.specs.ReturnsLaws.{file-read, file-refused}
+use Rattle.returns.proofs.ReturnsLaws.{file-read, file-refused}
 use borrow.Author.Rules.{rules}
 use Rattle.returns.proofs.sums.sum_file.Goals as goal
 

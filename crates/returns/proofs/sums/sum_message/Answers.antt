@@ -1,5 +1,5 @@
 use Rattle.groups.specs.CallsLaws.{as-here, as-missing, as-refused}
-use Rattle.returns.specs.ReturnsLaws.{short-so, message-so, message-missing, message-refused}
+use Rattle.returns.proofs.ReturnsLaws.{short-so, message-so, message-missing, message-refused}
 use borrow.Author.Rules.{rules}
 use Rattle.returns.proofs.sums.sum_message.Goals as goal
 

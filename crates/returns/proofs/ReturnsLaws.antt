@@ -51,7 +51,7 @@ use Rattle.kilograms.specs.declared.Running.{Running}
 use Rattle.kilograms.specs.declared.Running.TheVariants.{Of as Counts, Refused as Counts-not}
 use Rattle.returns.specs.Returns.{file_loads, message_loads, file_loads_of, message_loads_of, weighed, Summed, left, refused_sum, summed_as, summed_by, old_sum_as, told_sum, single_in, single_of, sum_numbers}
 use Rattle.returns.specs.Reading.{added_from, Starts}
-use Rattle.returns.specs.LoadsLaws.{body-loads, file-loads, from-loads}
+use Rattle.returns.proofs.LoadsLaws.{body-loads, file-loads, from-loads}
 use Rattle.returns.specs.ReadingLaws.{held-from}
 use Rattle.returns.specs.declared.sums.Left.{Left}
 use Rattle.returns.specs.declared.sums.OldSum.{OldSum}

@@ -18,7 +18,7 @@ use Rattle.kilograms.specs.Bounds.{Bounded, exactly}
 use Rattle.kilograms.specs.BoundLaws.{bounded, chained, added-parts}
 use Rattle.returns.specs.Returns.{file_loads_of, message_loads_of, kilograms_of, weighed, Summed, left, refused_sum, summed_as, summed_by, old_sum_bits_of, message_old_sum_bits_of}
 use Rattle.returns.specs.ReadingLaws.{kilograms-weigh}
-use Rattle.returns.specs.ReturnsLaws.{held-bits}
+use Rattle.returns.proofs.ReturnsLaws.{held-bits}
 use Rattle.returns.specs.Years.{Leaves, Year, no-file, one_more}
 
 -- ---- the sum is held, load by load

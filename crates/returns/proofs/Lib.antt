@@ -1,0 +1,3 @@
+pub mod LoadsLaws
+pub mod ReturnsLaws
+pub mod YearsLaws
