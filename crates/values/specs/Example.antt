@@ -10,7 +10,7 @@ use Rattle.values.specs.Filters.{value_by}
 pub p10 : value_by Four (octets "2") (octets "0FA0") ≡ some (15 ∷ 160 ∷ [])
 p10 = refl
 
-pub lower-case : value_by Four (octets "2") (octets "0f_a0") ≡ none
+pub lower-case : value_by Four (octets "2") (octets "0fA0") ≡ none
 lower-case = refl
 
 pub odd : value_by Four (octets "2") (octets "FA0") ≡ some (15 ∷ 160 ∷ [])
