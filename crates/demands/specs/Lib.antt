@@ -24,9 +24,7 @@ pub mod SealedKeptLaws
 pub mod SealedLaws
 pub mod SealWritesLaws
 pub mod Range
-pub mod RangeLaws
 pub mod Read
-pub mod ReadLaws
 pub mod Example
 -- the clauses of the demands, by what is in an interchange and where
 pub mod Stated
@@ -40,7 +38,6 @@ pub mod PairedLaws
 pub mod TiedLaws
 pub mod PartedLaws
 pub mod ReferringLaws
-pub mod ReferredLaws
 pub mod Scope3Laws
 pub mod SewnLaws
 pub mod AllowedLaws

@@ -1,4 +1,4 @@
-use Rattle.demands.specs.ReadLaws.{f01-read}
+use Rattle.demands.proofs.ReadLaws.{f01-read}
 use Rattle.demands.proofs.f01_is_read.Goals as goal
 
 pub returns : goal.returns

@@ -1,4 +1,4 @@
-use Rattle.demands.specs.ReadLaws.{f01-same}
+use Rattle.demands.proofs.ReadLaws.{f01-same}
 use Rattle.demands.proofs.f01_reads_alike.Goals as goal
 
 pub returns : goal.returns

@@ -1,4 +1,4 @@
-use Rattle.demands.specs.ReadLaws.{scope1-read}
+use Rattle.demands.proofs.ReadLaws.{scope1-read}
 use Rattle.demands.proofs.scope1_is_read.Goals as goal
 
 pub returns : goal.returns

@@ -1,4 +1,4 @@
-use Rattle.demands.specs.ReadLaws.{scope1-same}
+use Rattle.demands.proofs.ReadLaws.{scope1-same}
 use Rattle.demands.proofs.scope1_reads_alike.Goals as goal
 
 pub returns : goal.returns

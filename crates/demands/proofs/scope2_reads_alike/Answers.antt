@@ -1,4 +1,4 @@
-use Rattle.demands.specs.ReadLaws.{scope2-same}
+use Rattle.demands.proofs.ReadLaws.{scope2-same}
 use Rattle.demands.proofs.scope2_reads_alike.Goals as goal
 
 pub returns : goal.returns

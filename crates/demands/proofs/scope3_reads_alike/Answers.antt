@@ -1,4 +1,4 @@
-use Rattle.demands.specs.ReadLaws.{scope3-same}
+use Rattle.demands.proofs.ReadLaws.{scope3-same}
 use Rattle.demands.proofs.scope3_reads_alike.Goals as goal
 
 pub returns : goal.returns

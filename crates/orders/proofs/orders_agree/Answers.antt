@@ -1,4 +1,4 @@
-use Rattle.orders.specs.OrdersLaws.{orders-agree}
+use Rattle.orders.proofs.OrdersLaws.{orders-agree}
 use Rattle.orders.proofs.orders_agree.Goals as goal
 
 pub returns : goal.returns

@@ -44,10 +44,10 @@ use Rattle.demands.specs.AskedLaws.{read-stands, message-stands}
 use Rattle.demands.specs.PrintedLaws.{scope1-printed, scope2-printed}
 use Rattle.demands.specs.OnceLaws.{every_in}
 use Rattle.demands.specs.PartedLaws.{other-so, right-run}
-use Rattle.demands.specs.ReferredLaws.{f01-printed}
+use Rattle.demands.proofs.ReferredLaws.{f01-printed}
 use Rattle.demands.specs.Scope3Laws.{scope3-printed}
 use Rattle.demands.specs.Range.{Grammar, Reads, Same, total_in, Range1, range1, scope1, Range2, range2, scope2, f01, scope3}
-use Rattle.demands.specs.RangeLaws.{one-reading-1, one-reading-2, one-reading-f01, one-reading-3}
+use Rattle.demands.proofs.RangeLaws.{one-reading-1, one-reading-2, one-reading-f01, one-reading-3}
 use Rattle.demands.specs.Read.{syntax_by, syntax_of, totals_for, Read1, tree1, Alike1, Read2, tree2, Alike2, ReadF, AlikeF, Read3, Alike3}
 use Rattle.grammar.proofs.ListsLaws.{size-join, joined-join, every-left, every-right}
 use Rattle.grammar.specs.TestLaws.{is_true, passes, or_left, or_right}

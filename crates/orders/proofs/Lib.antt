@@ -1,0 +1,2 @@
+pub mod OrdersLaws
+pub mod SignedLaws
