@@ -1,3 +1,4 @@
 pub mod RangeLaws
 pub mod ReadLaws
 pub mod ReferredLaws
+pub mod Scope3Laws

@@ -45,7 +45,7 @@ use Rattle.demands.specs.PrintedLaws.{scope1-printed, scope2-printed}
 use Rattle.demands.specs.OnceLaws.{every_in}
 use Rattle.demands.specs.PartedLaws.{other-so, right-run}
 use Rattle.demands.proofs.ReferredLaws.{f01-printed}
-use Rattle.demands.specs.Scope3Laws.{scope3-printed}
+use Rattle.demands.proofs.Scope3Laws.{scope3-printed}
 use Rattle.demands.specs.Range.{Grammar, Reads, Same, total_in, Range1, range1, scope1, Range2, range2, scope2, f01, scope3}
 use Rattle.demands.proofs.RangeLaws.{one-reading-1, one-reading-2, one-reading-f01, one-reading-3}
 use Rattle.demands.specs.Read.{syntax_by, syntax_of, totals_for, Read1, tree1, Alike1, Read2, tree2, Alike2, ReadF, AlikeF, Read3, Alike3}

@@ -38,7 +38,6 @@ pub mod PairedLaws
 pub mod TiedLaws
 pub mod PartedLaws
 pub mod ReferringLaws
-pub mod Scope3Laws
 pub mod SewnLaws
 pub mod AllowedLaws
 pub mod ValuedLaws
