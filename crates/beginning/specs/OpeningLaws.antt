@@ -1,5 +1,7 @@
 -- Laws for the proofs of this crate: one for each way through a function's tests.
-use Rattle.std.specs.Prelude.{ℕ, ◌<◌, ◌≤◌, ◌≡◌, refl, List, [], ◌∷◌, Bool, true, false, cond, ◌&&◌, eqb, leb, length, get_or, drop}
+use Rattle.syntax.specs.declared.Version.{Version}
+use Rattle.syntax.specs.declared.Level.{Level}
+use Rattle.std.specs.Prelude.{ℕ, ◌<◌, ◌≤◌, ◌≡◌, refl, List, [], ◌∷◌, Bool, true, false, cond, ◌&&◌, eqb, leb, length, get_or, drop, Option, Some, None}
 use Rattle.std.proofs.Common.{sym, ap, ap₂, ◌∙◌, arith, le-leb, le_of_suc-le-suc, not-suc-le-zero}
 use Rattle.std.proofs.lemmas.Bool.{lt-leb}
 use Rattle.syntax.specs.Service.{servant, without_repetition}
@@ -10,15 +12,10 @@ use Rattle.syntax.specs.Segment.{component_at, part_of}
 use Rattle.syntax.specs.Content.{content}
 use Rattle.syntax.specs.Opening.{starts_una, is_there, level_named, version_named, both_named, declared_at}
 use Rattle.syntax.specs.declared.Service.{Service}
-use Rattle.syntax.specs.declared.Found.{Found}
-use Rattle.syntax.specs.declared.Found.TheVariants.{At, Nothing}
 use Rattle.syntax.specs.declared.Syntax.{Syntax}
 use Rattle.syntax.specs.declared.cutting.Cut.{Cut}
 use Rattle.syntax.specs.declared.cutting.Cut.TheVariants.{Ends, Spoilt, Open}
-use Rattle.syntax.specs.declared.cutting.Tag.{Tag}
 use Rattle.syntax.specs.declared.opening.Opening.{Opening}
-use Rattle.syntax.specs.declared.opening.LevelName.{LevelName}
-use Rattle.syntax.specs.declared.opening.VersionName.{VersionName}
 
 -- `◌&&◌` computes from the left only
 and-true : (t : Bool) → t && true && true && true ≡ t
@@ -123,10 +120,10 @@ module _ (s : List ℕ) (o : Opening) {v : Service} (e : v ≡ without_repetitio
   pub there-by : {x : Bool} → x ≡ is_there (end_at v s o.at) → x ≡ is_there (end_at (without_repetition o.service) s o.at)
   there-by b = b ∙ ap (λ (w : Service). is_there (end_at w s o.at)) e
 
-  pub tag-by : {g : Tag} → g ≡ tag_of v (drop o.at s) → g ≡ tag_of o.service (drop o.at s)
+  pub tag-by : {g : Option (ℕ × ℕ × ℕ)} → g ≡ tag_of v (drop o.at s) → g ≡ tag_of o.service (drop o.at s)
   tag-by a = a ∙ ap (λ (w : Service). tag_of w (drop o.at s)) e ∙ no-repetition o.service (drop o.at s)
 
-pub named_by : (s : List ℕ) (σ : Service) (o : Opening) {x z : List ℕ} {l : LevelName} {n : VersionName} →
+pub named_by : (s : List ℕ) (σ : Service) (o : Opening) {x z : List ℕ} {l : Option Level} {n : Option Version} →
     x ≡ part_of s (component_at σ s o.at 1 0) → l ≡ level_named (content σ.release x) →
     z ≡ part_of s (component_at σ s o.at 1 1) → n ≡ version_named (content σ.release z) → both_named o l n ≡ declared_at s σ o
 named_by s σ o p a q b =
@@ -144,11 +141,11 @@ ended Open = false
 there-cut : (y : Syntax) (s : List ℕ) (i : ℕ) → is_there (end_at y.service s i) ≡ ended (cut_at y s i)
 there-cut y s i = by (end_at y.service s i) (first_outside y (stretch s i (end_at y.service s i)) i)
   where
-    by : (f g : Found) → is_there f ≡ ended (cut_by f g)
-    by Nothing g = refl
-    by (At e) Nothing = refl
-    by (At e) (At b) = refl
+    by : (f g : Option ℕ) → is_there f ≡ ended (cut_by f g)
+    by None g = refl
+    by (Some e) None = refl
+    by (Some e) (Some b) = refl
 
-pub has_end : (y : Syntax) (s : List ℕ) (i j : ℕ) {f : Found} {x : Bool} → cut_at y s i ≡ cut_at y s j → f ≡ end_at y.service s i → x ≡ is_there f →
+pub has_end : (y : Syntax) (s : List ℕ) (i j : ℕ) {f : Option ℕ} {x : Bool} → cut_at y s i ≡ cut_at y s j → f ≡ end_at y.service s i → x ≡ is_there f →
     x ≡ is_there (end_at y.service s j)
 has_end y s i j e a b = b ∙ ap is_there a ∙ there-cut y s i ∙ ap ended e ∙ sym (there-cut y s j)

@@ -1,139 +1,69 @@
 // The start of an interchange: UNA or none, then what UNB's first element says. Its definitions are in Opening.antt of `syntax`.
 #![tactic(auto)]
 
-ghost use Rattle.std.specs.Prelude.{◌≡◌, Bool, true, false, cond, eqb, length, drop, ◌≤◌};
-ghost use Rattle.syntax.specs.Classes.{Table};
+ghost use Rattle.std.specs.Prelude.{◌≡◌, Bool, true, false, cond, eqb, length, drop, ◌≤◌, Some};
 ghost use Rattle.syntax.specs.Service.{servant, differ, repetition_differs, fit, without_repetition};
 ghost use Rattle.syntax.specs.Content.{content};
 ghost use Rattle.syntax.specs.Cutting.{end_at};
 ghost use Rattle.syntax.specs.Opening.{starts_una, una_service, read_una, opening_of, level_named, version_named, refused_unb, repeating, settled, goes, both_named, declared_at, is_unb, is_tag, is_there, begun_at, begun_of};
-ghost use Rattle.syntax.specs.declared.opening.LevelName.TheVariants.{Is as Leveled};
-ghost use Rattle.syntax.specs.declared.opening.VersionName.TheVariants.{Is as Versioned};
 
+use syntax::classes::Classes;
 use syntax::content::content_is;
-use syntax::cutting::{Tag, run, stop, tag_at};
-use syntax::opening::{Begun, LevelName, Opened, Opening, Start, VersionName, is_earlier};
+use syntax::cutting::{run, stop, tag_at};
+use syntax::opening::{Opening, Start, is_earlier};
 use syntax::reading::component_part;
-use syntax::repertoire::{OUTSIDE, classes};
-use syntax::{Breach, Found, Level, Service, Syntax, Version};
+use syntax::{Breach, Level, Service, Syntax, Version};
 
 // A printable octet 0x21 to 0x7E, no letter or digit.
 fn servant_octet(b: u8) -> bool
     ensures { result ≡ servant b }
 {
-    if b < 33 {
-        return false;
-    }
-    if b < 48 {
-        return true;
-    }
-    if b < 58 {
-        return false;
-    }
-    if b < 65 {
-        return true;
-    }
-    if b < 91 {
-        return false;
-    }
-    if b < 97 {
-        return true;
-    }
-    if b < 123 {
-        return false;
-    }
-    b <= 126
+    matches!(b, b'!'..=b'/' | b':'..=b'@' | b'['..=b'`' | b'{'..=b'~')
 }
 
 fn optional_octet(b: u8) -> bool
     ensures { result ≡ cond (eqb b 32) true (servant b) }
 {
-    if b == 32 {
-        return true;
-    }
-    servant_octet(b)
+    b == b' ' || servant_octet(b)
 }
 
 // Component, element and terminator are no spaces, so a release that is not in force equals none of them.
 fn all_differ(v: Service) -> bool
     ensures { result ≡ differ v }
 {
-    if v.terminator == v.release {
-        return false;
-    }
-    if v.element == v.release {
-        return false;
-    }
-    if v.element == v.terminator {
-        return false;
-    }
-    if v.component == v.release {
-        return false;
-    }
-    if v.component == v.terminator {
-        return false;
-    }
-    if v.component == v.element {
-        return false;
-    }
-    if v.repetition == 32 {
-        return true;
-    }
-    repetition_differs(v)
+    v.terminator != v.release
+        && v.element != v.release
+        && v.element != v.terminator
+        && v.component != v.release
+        && v.component != v.terminator
+        && v.component != v.element
+        && (v.repetition == b' ' || repetition_differs(v))
 }
 
 fn repetition_differs(v: Service) -> bool
     ensures { result ≡ repetition_differs v }
 {
-    if v.repetition == v.release {
-        return false;
-    }
-    if v.repetition == v.terminator {
-        return false;
-    }
-    if v.repetition == v.element {
-        return false;
-    }
-    if v.repetition == v.component {
-        return false;
-    }
-    true
+    v.repetition != v.release
+        && v.repetition != v.terminator
+        && v.repetition != v.element
+        && v.repetition != v.component
 }
 
 fn is_fit(v: Service) -> bool
     ensures { result ≡ fit v }
 {
-    if !servant_octet(v.component) {
-        return false;
-    }
-    if !servant_octet(v.element) {
-        return false;
-    }
-    if !optional_octet(v.release) {
-        return false;
-    }
-    if !optional_octet(v.repetition) {
-        return false;
-    }
-    if !servant_octet(v.terminator) {
-        return false;
-    }
-    all_differ(v)
+    servant_octet(v.component)
+        && servant_octet(v.element)
+        && optional_octet(v.release)
+        && optional_octet(v.repetition)
+        && servant_octet(v.terminator)
+        && all_differ(v)
 }
 
 fn starts_una(s: &[u8]) -> bool
     ensures { result ≡ starts_una s.now }
 {
-    if s.len() < 3 {
-        return false;
-    }
-    if s[0] != 85 {
-        return false;
-    }
-    if s[1] != 78 {
-        return false;
-    }
-    s[2] == 65
+    s.starts_with(b"UNA")
 }
 
 fn una_service(s: &[u8]) -> Service
@@ -149,41 +79,41 @@ fn una_service(s: &[u8]) -> Service
     }
 }
 
-fn read_una(s: &[u8]) -> Opened
+fn read_una(s: &[u8]) -> Result<Opening, Breach>
     ensures { result ≡ read_una s.now }
 {
     if s.len() < 9 {
-        return Opened::Refused(Breach {
+        return Err(Breach {
             number: 2,
             place: 0,
         });
     }
     let v = una_service(s);
     if is_fit(v) {
-        return Opened::Known(Opening {
+        return Ok(Opening {
             service: v,
             una: true,
             at: 9,
         });
     }
-    Opened::Refused(Breach {
+    Err(Breach {
         number: 2,
         place: 0,
     })
 }
 
 // Before UNB: refusals 1 and 2, or the service characters and the place of the first segment.
-pub fn before_unb(s: &[u8]) -> Opened
+pub fn before_unb(s: &[u8]) -> Result<Opening, Breach>
     ensures { result ≡ opening_of s.now }
 {
     if s.len() == 0 {
-        return Opened::Refused(Breach {
+        return Err(Breach {
             number: 1,
             place: 0,
         });
     }
     if 65535 < s.len() {
-        return Opened::Refused(Breach {
+        return Err(Breach {
             number: 1,
             place: 0,
         });
@@ -191,13 +121,13 @@ pub fn before_unb(s: &[u8]) -> Opened
     if starts_una(s) {
         return read_una(s);
     }
-    Opened::Known(Opening {
+    Ok(Opening {
         service: Service {
-            component: 58,
-            element: 43,
-            release: 63,
-            repetition: 42,
-            terminator: 39,
+            component: b':',
+            element: b'+',
+            release: b'?',
+            repetition: b'*',
+            terminator: b'\'',
         },
         una: false,
         at: 0,
@@ -208,74 +138,64 @@ fn without_repetition(v: Service) -> Service
     ensures { result ≡ without_repetition v }
 {
     Service {
-        component: v.component,
-        element: v.element,
-        release: v.release,
-        repetition: 32,
-        terminator: v.terminator,
+        repetition: b' ',
+        ..v
     }
 }
 
-fn level_named(x: &[u8], release: u8) -> LevelName
+fn level_named(x: &[u8], release: u8) -> Option<Level>
     ensures { result ≡ level_named (content release x.now) }
 {
     if content_is(x, release, b"UNOA") {
-        return LevelName::Is(Level::A);
+        return Some(Level::A);
     }
     if content_is(x, release, b"UNOB") {
-        return LevelName::Is(Level::B);
+        return Some(Level::B);
     }
     if content_is(x, release, b"UNOC") {
-        return LevelName::Is(Level::C);
+        return Some(Level::C);
     }
     if content_is(x, release, b"UNOD") {
-        return LevelName::Is(Level::D);
+        return Some(Level::D);
     }
-    LevelName::Unknown
+    None
 }
 
-fn version_named(x: &[u8], release: u8) -> VersionName
+fn version_named(x: &[u8], release: u8) -> Option<Version>
     ensures { result ≡ version_named (content release x.now) }
 {
     if content_is(x, release, b"2") {
-        return VersionName::Is(Version::Two);
+        return Some(Version::Two);
     }
     if content_is(x, release, b"3") {
-        return VersionName::Is(Version::Three);
+        return Some(Version::Three);
     }
     if content_is(x, release, b"4") {
-        return VersionName::Is(Version::Four);
+        return Some(Version::Four);
     }
-    VersionName::Unknown
+    None
 }
 
-fn unb_refused(number: u8, place: usize) -> Begun
+fn unb_refused(number: u8, place: usize) -> Result<Start, Breach>
     ensures { result ≡ refused_unb number place }
 {
-    Begun::Refused(Breach {
-        number: number,
-        place: place,
-    })
+    Err(Breach { number, place })
 }
 
 fn is_repeating(n: Version) -> bool
     ensures { result ≡ repeating n }
 {
-    match n {
-        Version::Two => false,
-        Version::Three => false,
-        Version::Four => true,
-    }
+    matches!(n, Version::Four)
 }
 
 // In versions 2 and 3 no repetition is in force, and a UNA may not name one.
-fn settle(o: Opening, l: Level, n: Version) -> Begun
+fn settle(o: Opening, l: Level, n: Version) -> Result<Start, Breach>
     ensures { result ≡ settled o l n }
 {
     let at = o.at;
     let v = o.service;
     if is_repeating(n) {
-        return Begun::Ready(Start {
+        return Ok(Start {
             syntax: Syntax {
                 version: n,
                 level: l,
@@ -290,7 +210,7 @@ fn settle(o: Opening, l: Level, n: Version) -> Begun
         }
     }
     let w = without_repetition(v);
-    Begun::Ready(Start {
+    Ok(Start {
         syntax: Syntax {
             version: n,
             level: l,
@@ -313,8 +233,8 @@ fn goes_with(l: Level, n: Version) -> bool
 }
 
 // A level and a version that are known, where they go together.
-fn named(o: Opening, l: Level, n: Version) -> Begun
-    ensures { result ≡ both_named o (Leveled l) (Versioned n) }
+fn named(o: Opening, l: Level, n: Version) -> Result<Start, Breach>
+    ensures { result ≡ both_named o (Some l) (Some n) }
 {
     if goes_with(l, n) {
         return settle(o, l, n);
@@ -323,70 +243,45 @@ fn named(o: Opening, l: Level, n: Version) -> Begun
 }
 
 // 0001 and 0002, read with no repetition in force: `y` has none.
-fn declared(s: &[u8], t: &[u8; 256], y: Syntax, o: Opening) -> Begun
-    requires { Table y t.now }
-    ensures { result ≡ declared_at s.now y.service o }
+fn declared(s: &[u8], t: &Classes, o: Opening) -> Result<Start, Breach>
+    ensures { result ≡ declared_at s.now t.now.syntax.service o }
 {
-    let at = o.at;
-    let v = y.service;
-    let x = component_part(s, at, t, y, 1, 0);
-    let l = level_named(x, v.release);
-    let z = component_part(s, at, t, y, 1, 1);
-    let n = version_named(z, v.release);
-    match l {
-        LevelName::Is(level) => match n {
-            VersionName::Is(version) => named(o, level, version),
-            VersionName::Unknown => unb_refused(6, at),
-        },
-        LevelName::Unknown => unb_refused(6, at),
+    let release = t.syntax.service.release;
+    let level = level_named(component_part(s, o.at, t, 1, 0), release);
+    let version = version_named(component_part(s, o.at, t, 1, 1), release);
+    match (level, version) {
+        (Some(level), Some(version)) => named(o, level, version),
+        _ => unb_refused(6, o.at),
     }
 }
 
-fn is_unb(g: Tag) -> bool
+fn is_unb(g: Option<(u8, u8, u8)>) -> bool
     ensures { result ≡ is_unb g }
 {
-    match g {
-        Tag::Is(a, b, c) => {
-            if a != 85 {
-                return false;
-            }
-            if b != 78 {
-                return false;
-            }
-            c == 66
-        }
-        Tag::Bad => false,
-    }
+    matches!(g, Some((b'U', b'N', b'B')))
 }
 
-fn is_tag(g: Tag) -> bool
+fn is_tag(g: Option<(u8, u8, u8)>) -> bool
     ensures { result ≡ is_tag g }
 {
-    match g {
-        Tag::Is(_, _, _) => true,
-        Tag::Bad => false,
-    }
+    g.is_some()
 }
 
-fn is_there(f: Found) -> bool
+fn is_there(f: Option<usize>) -> bool
     ensures { result ≡ is_there f }
 {
-    match f {
-        Found::At(_) => true,
-        Found::Nothing => false,
-    }
+    f.is_some()
 }
 
 // Whether the segment at `at` has an end: looked for by fours as far as that goes.
-fn has_end(s: &[u8], at: usize, t: &[u8; 256], y: Syntax) -> bool
-    requires { Table y t.now }
-    ensures { result ≡ is_there (end_at y.service s.now at) }
+fn has_end(s: &[u8], at: usize, t: &Classes) -> bool
+    ensures { result ≡ is_there (end_at t.now.syntax.service s.now at) }
 {
-    is_there(stop(s, run(s, at, t, y), t, y, 5))
+    is_there(stop(s, run(s, at, t), t, 5))
 }
 
 // The first segment: 5 where there is none, then 4, 5, 6.
-fn begin_at(s: &[u8], o: Opening) -> Begun
+fn begin_at(s: &[u8], o: Opening) -> Result<Start, Breach>
     ensures { result ≡ begun_at s.now o }
 {
     let at = o.at;
@@ -399,9 +294,8 @@ fn begin_at(s: &[u8], o: Opening) -> Begun
         level: Level::C,
         service: v,
     };
-    let mut t = [OUTSIDE; 256];
-    classes(&mut t, y);
-    if !has_end(s, at, &t, y) {
+    let t = Classes::of(y);
+    if !has_end(s, at, &t) {
         return unb_refused(4, at);
     }
     let g = tag_at(s, at, v);
@@ -411,15 +305,12 @@ fn begin_at(s: &[u8], o: Opening) -> Begun
     if !is_unb(g) {
         return unb_refused(5, at);
     }
-    declared(s, &t, y, o)
+    declared(s, &t, o)
 }
 
 // The start of an interchange: refusals 1, 2, 4, 5 and 6, or its syntax and the place of UNB.
-pub fn begin(s: &[u8]) -> Begun
+pub fn begin(s: &[u8]) -> Result<Start, Breach>
     ensures { result ≡ begun_of s.now }
 {
-    match before_unb(s) {
-        Opened::Known(o) => begin_at(s, o),
-        Opened::Refused(f) => Begun::Refused(f),
-    }
+    begin_at(s, before_unb(s)?)
 }

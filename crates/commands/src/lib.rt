@@ -1,196 +1,150 @@
-// The words of a command line: octets in lower-case hex, where `-` is the empty string, and numbers.
+// The words of a command line, parted by exactly one space: octets in lower-case hex, where `-` is the empty string, and numbers.
 #![tactic(auto)]
 
-ghost use Rattle.std.specs.Prelude.{◌≤◌, ◌<◌, length};
+ghost use Rattle.std.specs.Prelude.{◌≡◌, ℕ, ◌+◌, ◌<◌, ◌≤◌, ◌↔◌, List, [], ◌∷◌, length, IfOk, IfSome, IsOk, IsErr, IsNone, IsTrue};
+ghost use Rattle.commands.specs.Lines.{words, words_left};
 
-use syntax::content::{Number, digits_value, part};
+use std::marker::Model;
+use std::mem;
+use syntax::content::digits_value;
 
-// Where the octets of a hex word end in the room, or that it is no hex word.
-#[derive(Clone, Copy)]
-enum Decoded {
-    To(usize),
-    Bad,
+// A word is bad or missing, or there is one too many.
+#[derive(Clone, Copy, Debug, PartialEq, Eq)]
+pub struct Bad;
+
+// What is left of a line, and of the room for what its words stand for. Clauses see the words that are left.
+#[derive(Drop)]
+pub struct Words<'l, 'r> {
+    // None: the last word was read.
+    left: Option<&'l [u8]>,
+    room: &'r mut [u8],
 }
 
-// A digit's value. 16 for what is none, as an upper-case letter.
-fn digit(b: u8) -> u8 {
-    if b < 48 {
-        return 16;
-    }
-    if b < 58 {
-        return b - 48;
-    }
-    if b < 97 {
-        return 16;
-    }
-    if b < 103 {
-        return b - 87;
-    }
-    16
+impl<'l, 'r> Model for Words<'l, 'r> {
+    ghost Value = { List (List ℕ) };
+
+    ghost view = { λ w. words_left w.left };
 }
 
-fn is_pair(a: u8, b: u8) -> bool {
-    if digit(a) < 16 {
-        return digit(b) < 16;
-    }
-    false
-}
-
-// The remainders change nothing where both are digits. They bound the sum where one is not.
-fn octet(a: u8, b: u8) -> u8 {
-    (digit(a) % 16) * 16 + digit(b) % 16
-}
-
-// `-` is the empty string, so that each argument is a word.
-fn is_none(h: &[u8]) -> bool {
-    if h.len() == 1 {
-        return h[0] == b'-';
-    }
-    false
-}
-
-// An empty word is no word: the line has one word too few.
-fn has_pairs(h: &[u8]) -> bool {
-    if h.len() == 0 {
-        return false;
-    }
-    h.len() % 2 == 0
-}
-
-// Puts the octets of a hex word into `room` from `at` on.
-fn decode(h: &[u8], room: &mut [u8; 150000], at: usize) -> Decoded {
-    if is_none(h) {
-        return Decoded::To(at);
-    }
-    if has_pairs(h) {
-        return decode_pairs(h, room, at);
-    }
-    Decoded::Bad
-}
-
-// A line has fewer digits than fill `room`, so the test of `e` only shows that each octet has its place.
-fn decode_pairs(h: &[u8], room: &mut [u8; 150000], at: usize) -> Decoded {
-    let n = h.len() / 2;
-    let mut k: usize = 0;
-    let mut e = at;
-    while k < n {
-        if 150000 <= e {
-            return Decoded::Bad;
+impl<'l, 'r> Words<'l, 'r> {
+    // A line has at least one word, which may be empty, and so has what is behind a space.
+    pub fn new(line: &'l [u8], room: &'r mut [u8]) -> Self
+        ensures { result ≡ words line.now }
+    {
+        Words {
+            left: Some(line),
+            room,
         }
-        let a = h[k * 2];
-        let b = h[k * 2 + 1];
-        if is_pair(a, b) {
-            room[e] = octet(a, b);
-            e += 1;
-            k += 1;
+    }
+
+    pub fn is_over(&self) -> bool
+        ensures { IsTrue result ↔ (self.now ≡ []) }
+    {
+        self.left.is_none()
+    }
+
+    pub fn end(&self) -> Result<(), Bad>
+        ensures { IsOk result ↔ (self.now ≡ []) }
+    {
+        if self.is_over() { Ok(()) } else { Err(Bad) }
+    }
+
+    fn next(&mut self) -> Option<&'l [u8]>
+        ensures next { IfSome result (λ w. self.old ≡ w.now ∷ self.new) }
+        ensures over { IsNone result ↔ (self.old ≡ []) }
+    {
+        let left = self.left?;
+        match left.iter().position(|b| *b == b' ') {
+            Some(end) => {
+                self.left = Some(&left[end + 1..]);
+                Some(&left[..end])
+            }
+            None => {
+                self.left = None;
+                Some(left)
+            }
+        }
+    }
+
+    // The next word as it stands.
+    pub fn word(&mut self) -> Result<&'l [u8], Bad>
+        ensures next { IfOk result (λ w. self.old ≡ w.now ∷ self.new) }
+        ensures over { IsErr result ↔ (self.old ≡ []) }
+    {
+        self.next().ok_or(Bad)
+    }
+
+    fn taken(&mut self, count: usize) -> Result<&'r mut [u8], Bad>
+        ensures { self.new ≡ self.old }
+    {
+        let room = mem::take(&mut self.room);
+        if room.len() < count {
+            return Err(Bad);
+        }
+        let (taken, rest) = room.split_at_mut(count);
+        self.room = rest;
+        Ok(taken)
+    }
+
+    // The octets that the next word stands for.
+    pub fn octets(&mut self) -> Result<&'r [u8], Bad>
+        ensures next { IsOk result → length self.old ≡ length self.new + 1 }
+    {
+        let word = self.word()?;
+        let pairs = pairs(word)?;
+        let octets = self.taken(pairs.len() / 2)?;
+        decode(pairs, octets)?;
+        Ok(octets)
+    }
+
+    // The number that the next word gives, of 1 to 15 digits. They take room too, so a line is bad where all that it gives is more than that.
+    pub fn number(&mut self) -> Result<u64, Bad>
+        ensures next { IsOk result → length self.old ≡ length self.new + 1 }
+    {
+        let word = self.word()?;
+        let number = digits_value(word, b' ').ok_or(Bad)?;
+        self.taken(word.len())?;
+        Ok(number)
+    }
+
+    // The length that the next word gives. More than there is, is as good as all of it.
+    pub fn capacity(&mut self, all: usize) -> Result<usize, Bad>
+        ensures next { IsOk result → length self.old ≡ length self.new + 1 }
+        ensures most { IfOk result (λ most. most ≤ all) }
+    {
+        let number = self.number()?;
+        if number < all as u64 {
+            Ok(number as usize)
         } else {
-            return Decoded::Bad;
+            Ok(all)
         }
     }
-    Decoded::To(e)
 }
 
-// A number is 1 to 15 digits.
-fn is_number(w: &[u8]) -> bool {
-    match digits_value(w, b' ') {
-        Number::Is(_) => true,
-        Number::Not => false,
+// The hex digits of a word. An empty word is no word: the line has one word too few.
+fn pairs(word: &[u8]) -> Result<&[u8], Bad> {
+    if word == b"-".as_slice() {
+        return Ok(&[]);
     }
-}
-
-fn keep_digits(w: &[u8], room: &mut [u8; 150000], at: usize) -> Decoded {
-    let mut k: usize = 0;
-    let mut e = at;
-    while k < w.len() {
-        if 150000 <= e {
-            return Decoded::Bad;
-        }
-        room[e] = w[k];
-        e += 1;
-        k += 1;
+    if word.is_empty() || word.len() % 2 == 1 {
+        return Err(Bad);
     }
-    Decoded::To(e)
+    Ok(word)
 }
 
-// The length that the digits of an argument give. More than the desk's buffer has is as good as all of it.
-pub fn capacity(w: &[u8], all: usize) -> usize
-    ensures { result ≤ all }
+fn decode(pairs: &[u8], octets: &mut [u8]) -> Result<(), Bad> {
+    for (octet, pair) in octets.iter_mut().zip(pairs.chunks_exact(2)) {
+        *octet = digit(pair[0])? * 16 + digit(pair[1])?;
+    }
+    Ok(())
+}
+
+fn digit(b: u8) -> Result<u8, Bad>
+    ensures { IfOk result (λ d. d < 16) }
 {
-    match digits_value(w, b' ') {
-        Number::Is(n) => {
-            if n < all as u64 {
-                return n as usize;
-            }
-            all
-        }
-        Number::Not => 0,
+    match b {
+        b'0'..=b'9' => Ok(b - b'0'),
+        b'a'..=b'f' => Ok(b - b'a' + 10),
+        _ => Err(Bad),
     }
-}
-
-// The number that the digits of an argument give.
-pub fn number_of(w: &[u8]) -> u64 {
-    match digits_value(w, b' ') {
-        Number::Is(n) => n,
-        Number::Not => 0,
-    }
-}
-
-// Where the word at `from` ends: at the next space, or with the line.
-pub fn word_end(s: &[u8], from: usize) -> usize {
-    let mut i = from;
-    while i < s.len() {
-        if s[i] == b' ' {
-            return i;
-        }
-        i += 1;
-    }
-    i
-}
-
-// Reads one argument as its letter says: `h` is octets in hex; `n` is a number, whose digits are kept as they are.
-fn read_argument(w: &[u8], letter: u8, room: &mut [u8; 150000], at: usize) -> Decoded {
-    if letter == b'h' {
-        return decode(w, room, at);
-    }
-    if is_number(w) {
-        return keep_digits(w, room, at);
-    }
-    Decoded::Bad
-}
-
-// Reads the arguments in `s`, the line behind its command. `form` has a letter for each. They come to stand in `room` one after
-// the other; `bounds` has 0, and then where each ends. The answer is false where a word is bad, missing or too many. `end` is the
-// end of the word before, so that a space stands there, or the line is over.
-pub fn arguments(s: &[u8], form: &[u8], room: &mut [u8; 150000], bounds: &mut [usize; 7]) -> bool
-    requires { length form.now ≤ 6 }
-{
-    let mut at: usize = 0;
-    let mut end: usize = 0;
-    let mut i: usize = 0;
-    bounds[0] = 0;
-    while i < form.len() {
-        if s.len() <= end {
-            return false;
-        }
-        let e = word_end(s, end + 1);
-        match read_argument(part(s, end + 1, e), form[i], room, at) {
-            Decoded::To(k) => {
-                at = k;
-            }
-            Decoded::Bad => {
-                return false;
-            }
-        }
-        i += 1;
-        bounds[i] = at;
-        end = e;
-    }
-    end == s.len()
-}
-
-// Argument `i`, counted from 0.
-pub fn argument<'a>(room: &'a [u8; 150000], bounds: &[usize; 7], i: usize) -> &'a [u8]
-    requires { i < 6 }
-{
-    part(room, bounds[i], bounds[i + 1])
 }

@@ -1,7 +1,8 @@
 -- What the range calls hand back is read in one way: as the parts of the verdict's reading. So equal octets are equal readings.
-use Rattle.std.specs.Prelude.{ℕ, suc, ◌+◌, ◌-◌, ◌≡◌, refl, List, ◌++◌, Bool, true, false, cond, T, length}
+use Rattle.grammar.specs.declared.Subset.{Subset}
+use Rattle.std.specs.Prelude.{ℕ, suc, ◌+◌, ◌-◌, ◌≡◌, refl, List, ◌++◌, Bool, true, false, cond, T, length, Option, None, Some}
 use Rattle.std.proofs.Common.{arith, ap, ◌∙◌, sym, subst, append_assoc, T_not, leb→le, le→leb}
-use Rattle.std.proofs.Math.Option.{Option, some}
+use Rattle.std.proofs.Math.Option.{Option as Maybe, some}
 use Rattle.std.proofs.Math.IntN.{+ℤ_idr, +ℤ_assoc}
 use Rattle.std.proofs.Math.Seq.{slice}
 use Rattle.syntax.proofs.BareLaws.{compared-twice}
@@ -17,8 +18,7 @@ use Rattle.grammar.specs.Lists.{Snoc, nil, ◌▷◌, ◌+++◌, joined, list, e
 use Rattle.grammar.specs.Grams.{Grams, add_grams, sum}
 use Rattle.grammar.specs.Segments.{Unb, Unh, Unt, Unz, seg, unh0062_text, ush0541}
 use Rattle.grammar.specs.Interchange.{Leaf, Header, header, Trailer, Body, plain, ack, Open, msg, Message, message, show_header, show_trailer, show_body, show_open, show_message, shown, idle}
-use Rattle.grammar.specs.declared.Subset.{Subset}
-use Rattle.grammar.specs.declared.Subset.TheVariants.{None, F01 as AckF01, Gs1 as AckGs1}
+use Rattle.grammar.specs.declared.Subset.TheVariants.{F01 as AckF01, Gs1 as AckGs1}
 use Rattle.grammar.specs.Rules.{autack, subset, is_autack, ok_header, ok_item, ok_body, ok_message, scope_code, scope_right, scopes_message, ref_m}
 use Rattle.grammar.specs.Valid.{Interchange, interchange, Valid, in_force, opening_in}
 use Rattle.grammar.specs.Verdict.{Verdict, accepted, verdict_of, loads_b, loads_m, totals_in, totals_by, totals_of}
@@ -100,7 +100,7 @@ valid-so : (s : List ℕ) (i : Interchange) → verdict_of s ≡ accepted i → 
 valid-so s i e = ((verdict-exact s i).0 e).0
 
 fits-so : (i : Interchange) → Valid i → T (fit (service_in i))
-fits-so i v = subst (λ (y : Option Syntax). T (fit (in_force y))) (sym v.named) (fit-in-force i v)
+fits-so i v = subst (λ (y : Maybe Syntax). T (fit (in_force y))) (sym v.named) (fit-in-force i v)
 
 facts-so : (s m : List ℕ) (i : Interchange) (o : Open) (t : Leaf) (q : ℕ) → verdict_of s ≡ accepted i → message_in i m ≡ some (placed (message o t) q) → Facts s m i o t
 facts-so s m (interchange n u ms z) o t q e d =
@@ -126,9 +126,9 @@ items-so hs (plain nil) k = record { items = nil; plainly = refl; free = tt }
 items-so hs (plain (b ▷ i)) k = record { items = b ▷ i; plainly = refl; free = k.1 }
 items-so hs (ack c ls) k = absurd k.0
 
-no-autack : (a : Subset) (x : Header) (code : List ℕ) → T (scope_code None code) → holds (scope_right a x) → scope_h x ≡ code → is_autack a ≡ false
-no-autack AckF01 (header c us cs) code n k e = absurd (subst (λ (l : List ℕ). T (scope_code None l)) (sym e ∙ same-eq (ush0541 c) (octets "F01") k) n)
-no-autack AckGs1 (header c us cs) code n k e = absurd (subst (λ (l : List ℕ). T (scope_code None l)) (sym e ∙ same-eq (ush0541 c) (octets "3") k) n)
+no-autack : (a : Option Subset) (x : Header) (code : List ℕ) → T (scope_code None code) → holds (scope_right a x) → scope_h x ≡ code → is_autack a ≡ false
+no-autack (Some AckF01) (header c us cs) code n k e = absurd (subst (λ (l : List ℕ). T (scope_code None l)) (sym e ∙ same-eq (ush0541 c) (octets "F01") k) n)
+no-autack (Some AckGs1) (header c us cs) code n k e = absurd (subst (λ (l : List ℕ). T (scope_code None l)) (sym e ∙ same-eq (ush0541 c) (octets "3") k) n)
 no-autack None x code n k e = refl
 
 module _ (code : List ℕ) (n : T (scope_code None code)) where

@@ -1,5 +1,7 @@
 -- What a call was asked, by what it gave: the reading, the message and the header. And where these stand in the octets.
-use Rattle.std.specs.Prelude.{ℕ, ◌+◌, ◌≡◌, refl, List, ◌++◌, Bool, true, false, cond, T, length}
+use Rattle.syntax.specs.declared.Breach.{Breach}
+use Rattle.syntax.specs.declared.opening.Start.{Start}
+use Rattle.std.specs.Prelude.{ℕ, ◌+◌, ◌≡◌, refl, List, ◌++◌, Bool, true, false, cond, T, length, Result, Ok, Err}
 use Rattle.std.proofs.Common.{arith, ap, ◌∙◌, sym, subst}
 use Rattle.std.proofs.Math.Option.{Option, none, some}
 use Rattle.std.proofs.Math.Seq.{slice}
@@ -9,8 +11,6 @@ use Rattle.syntax.specs.Octets.{octets, same}
 use Rattle.syntax.specs.Opening.{begun_of}
 use Rattle.syntax.specs.Tree.{Segment, print, well}
 use Rattle.syntax.specs.declared.Service.{Service}
-use Rattle.syntax.specs.declared.opening.Begun.{Begun}
-use Rattle.syntax.specs.declared.opening.Begun.TheVariants.{Ready as Begins, Refused as Refuses}
 use Rattle.grammar.specs.Lists.{Snoc, nil, ◌▷◌, list}
 use Rattle.grammar.specs.Segments.{Unz, seg}
 use Rattle.grammar.specs.Interchange.{Leaf, Header, Trailer, Body, Open, msg, message, idle, shown, show_message}
@@ -65,9 +65,9 @@ then-so (some a) f b e = record { a = a; first = refl; second = e }
 pub read-stands : (s : List ℕ) (i : Interchange) → verdict_of s ≡ accepted i → Stand (service_in i) s (opening_in (una_of i)).at (shown (reading i))
 read-stands s i e = by (begun_of s) refl e
   where
-    by : (b : Begun) → begun_of s ≡ b → verdict_by s b ≡ accepted i → Stand (service_in i) s (opening_in (una_of i)).at (shown (reading i))
-    by (Refuses f) d k = let z : ◌≡◌ {A = ℕ} 0 1 = cc in absurd (omega arith)
-    by (Begins x) d k =
+    by : (b : Result Start Breach) → begun_of s ≡ b → verdict_by s b ≡ accepted i → Stand (service_in i) s (opening_in (una_of i)).at (shown (reading i))
+    by (Err f) d k = let z : ◌≡◌ {A = ℕ} 0 1 = cc in absurd (omega arith)
+    by (Ok x) d k =
         let b = begins s i x d e in
         subst (λ (n : ℕ). Stand (service_in i) s n (shown (reading i))) (sym b.at) (subst (λ (σ : Service). Stand σ s x.at (shown (reading i))) (sym b.service) b.stands)
 

@@ -1,5 +1,5 @@
 -- The moves of a register. What is written for an interchange fits its form, so it is read back and moved to what is written in another, or refused as that is.
-use Rattle.std.specs.Prelude.{ℕ, zero, suc, ◌+◌, ◌*◌, ◌≤◌, ◌<◌, Bool, true, false, cond, ◌&&◌, List, [], ◌∷◌, ◌++◌, ◌↔◌, ◌≡◌, refl, T, leb, pos, negsuc, length, get_or, take}
+use Rattle.std.specs.Prelude.{ℕ, zero, suc, ◌+◌, ◌*◌, ◌≤◌, ◌<◌, Bool, true, false, cond, ◌&&◌, List, [], ◌∷◌, ◌++◌, ◌↔◌, ◌≡◌, refl, T, leb, pos, negsuc, length, get_or, take, Some, Ok}
 use Rattle.std.proofs.Common.{arith, ap, sym, subst, ◌∙◌, leb→le, length-append}
 use Rattle.std.proofs.Math.Option.{Option, none, some}
 use Rattle.syntax.specs.Octets.{octets, same}
@@ -25,11 +25,9 @@ use Rattle.grammar.specs.Verdict.{Verdict, accepted, refused_with, verdict_of, l
 use Rattle.grammar.proofs.VerdictLaws.{verdict-exact}
 use Rattle.elements.specs.Amounts.{amount_is, unit_is}
 use Rattle.elements.specs.AmountsLaws.{weighs-below}
-use Rattle.elements.specs.declared.amounts.Amount.TheVariants.{Grams}
 use Rattle.groups.specs.Calls.{service_in}
 use Rattle.filters.specs.Octets.{Octets}
 use Rattle.writing.specs.Written.{text, no_text, Writes}
-use Rattle.writing.specs.declared.Written.TheVariants.{Length}
 use Rattle.forms.specs.Forms.{register_text, sign_lost, any_below, text_in}
 use Rattle.forms.specs.declared.Form.{Form}
 use Rattle.forms.specs.declared.Form.TheVariants.{Signed}
@@ -55,7 +53,7 @@ unit-below u s h = by (load_unit u) refl h
     by none e h = tt
     by (some (shape w d)) e h =
         let k : amount_right (shape w d) s ≡ true = is_true (amount_right (shape w d) s) h in
-        let n : Grams (magnitude (grams (shape w d) s)) (signed.below (grams (shape w d) s)) ≡ amount_is (amount_right (shape w d) s) (grams (shape w d) s) = rw k in
+        let n : Some (magnitude (grams (shape w d) s), signed.below (grams (shape w d) s)) ≡ amount_is (amount_right (shape w d) s) (grams (shape w d) s) = rw k in
         weighs-below u 9 6 (sym (ap unit_is e)) s {f = record { whole = w; decimals = d }} refl n {k = 12} (refl, refl) refl
 
 load_below : (a : Asked) → T (load_right a) → Below (load_in a)
@@ -155,7 +153,7 @@ octets-at [] o (suc j) = omega arith
 octets-at (x ∷ s) o zero = o.0
 octets-at (x ∷ s) o (suc j) = octets-at s o.1 j
 
-pub moved_back : (f g : Form) (r out left : List ℕ) (n : ℕ) → Octets r → Writes (move_of f g r) out (Length n) left → move_of g f (take n left) ≡ text r
+pub moved_back : (f g : Form) (r out left : List ℕ) (n : ℕ) → Octets r → Writes (move_of f g r) out (Ok n) left → move_of g f (take n left) ≡ text r
 moved_back f g r out left n o w = there_and_back f g r (take n left) (octets-at r o) (writes-so (move_of f g r) out n left w).0
 
 pub moved-exactly : (f g : Form) (r : List ℕ) → Octets r
@@ -180,7 +178,7 @@ text-told f es {r} e = by (sign_lost f (any_below es)) refl e
     by true h e = let z : ◌≡◌ {A = ℕ} 0 1 = cc in absurd (omega arith)
     by false h e = let z : register_text f es ≡ r = cc in (h, z)
 
-pub written-moved : (f g : Form) (s out left : List ℕ) (n : ℕ) → Writes (register_of f s) out (Length n) left → move_of f g (take n left) ≡ register_of g s
+pub written-moved : (f g : Form) (s out left : List ℕ) (n : ℕ) → Writes (register_of f s) out (Ok n) left → move_of f g (take n left) ≡ register_of g s
 written-moved f g s out left n w = by (verdict_of s) refl (writes-so (register_of f s) out n left w).0
   where
     by : (v : Verdict) → verdict_of s ≡ v → {r : List ℕ} → register_by f v ≡ text r → move_of f g r ≡ register_by g v

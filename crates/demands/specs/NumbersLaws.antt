@@ -1,6 +1,8 @@
 -- A refusal of the verdict is one of the numbers 1 to 12 of "Numbers given back": none of them is 0, which the accepted case has, nor 13 and up, which the calls add.
-use Rattle.std.specs.Prelude.{ℕ, ◌+◌, ◌≤◌, Bool, true, false, cond, not, ◌&&◌, List, [], ◌∷◌, ◌≡◌, refl, T, eqb, leb, ltb, length, drop}
-use Rattle.std.proofs.Math.Option.{Option, none, some}
+use Rattle.syntax.specs.declared.opening.Start.{Start}
+use Rattle.syntax.specs.declared.Breach.{Breach}
+use Rattle.std.specs.Prelude.{ℕ, ◌+◌, ◌≤◌, Bool, true, false, cond, not, ◌&&◌, List, [], ◌∷◌, ◌≡◌, refl, T, eqb, leb, ltb, length, drop, Result, Option, Ok, Err, Some, None}
+use Rattle.std.proofs.Math.Option.{Option as Maybe, none, some}
 use Rattle.std.proofs.Common.{subst, leb-true}
 use Rattle.syntax.specs.declared.Refusal.{Refusal}
 use Rattle.syntax.specs.Octets.{within}
@@ -15,14 +17,6 @@ use Rattle.syntax.specs.declared.Syntax.{Syntax}
 use Rattle.syntax.specs.declared.Level.{Level}
 use Rattle.syntax.specs.declared.Version.{Version}
 use Rattle.syntax.specs.declared.opening.Opening.{Opening}
-use Rattle.syntax.specs.declared.opening.Opened.{Opened}
-use Rattle.syntax.specs.declared.opening.Opened.TheVariants.{Known, Refused as NotKnown}
-use Rattle.syntax.specs.declared.opening.LevelName.{LevelName}
-use Rattle.syntax.specs.declared.opening.LevelName.TheVariants.{Is as Leveled, Unknown as NoLevel}
-use Rattle.syntax.specs.declared.opening.VersionName.{VersionName}
-use Rattle.syntax.specs.declared.opening.VersionName.TheVariants.{Is as Versioned, Unknown as NoVersion}
-use Rattle.syntax.specs.declared.opening.Begun.{Begun}
-use Rattle.syntax.specs.declared.opening.Begun.TheVariants.{Ready, Refused}
 use Rattle.grammar.specs.Interchange.{Reading, start, idle, busy, done}
 use Rattle.grammar.specs.Placing.{place}
 use Rattle.grammar.specs.Valid.{Una}
@@ -38,13 +32,13 @@ either P false p q = q
 
 -- ---- the start of the interchange: 1, 2, 4, 5, 6
 
-abbrev OfOpened : Opened → Type 0
-OfOpened (Known o) = Unit {0}
-OfOpened (NotKnown f) = Number f.number
+abbrev OfOpened : Result Opening Breach → Type 0
+OfOpened (Ok o) = Unit {0}
+OfOpened (Err f) = Number f.number
 
-abbrev OfBegun : Begun → Type 0
-OfBegun (Ready x) = Unit {0}
-OfBegun (Refused f) = Number f.number
+abbrev OfBegun : Result Start Breach → Type 0
+OfBegun (Ok x) = Unit {0}
+OfBegun (Err f) = Number f.number
 
 opened-number : (s : List ℕ) → OfOpened (opening_of s)
 opened-number s =
@@ -56,17 +50,17 @@ opened-number s =
 settled-number : (o : Opening) (l : Level) (v : Version) → OfBegun (settled o l v)
 settled-number o l v = either OfBegun (repeating v) tt (either OfBegun (o.una && not (eqb o.service.repetition 32)) tt tt)
 
-named-number : (o : Opening) (l : LevelName) (v : VersionName) → OfBegun (both_named o l v)
-named-number o (Leveled l) (Versioned v) = either OfBegun (goes l v) (settled-number o l v) tt
-named-number o (Leveled l) NoVersion = tt
-named-number o NoLevel v = tt
+named-number : (o : Opening) (l : Option Level) (v : Option Version) → OfBegun (both_named o l v)
+named-number o (Some l) (Some v) = either OfBegun (goes l v) (settled-number o l v) tt
+named-number o (Some l) None = tt
+named-number o None v = tt
 
 begun-number : (s : List ℕ) → OfBegun (begun_of s)
 begun-number s = by (opening_of s) (opened-number s)
   where
-    by : (o : Opened) → OfOpened o → OfBegun (begun_by s o)
-    by (NotKnown f) h = h
-    by (Known o) h =
+    by : (o : Result Opening Breach) → OfOpened o → OfBegun (begun_by s o)
+    by (Err f) h = h
+    by (Ok o) h =
         either OfBegun (leb (length s) o.at) tt
         (either OfBegun (not (is_there (end_at (without_repetition o.service) s o.at))) tt
         (either OfBegun (not (is_tag (tag_of o.service (drop o.at s)))) tt
@@ -84,12 +78,12 @@ abbrev OfTests : List Test → Type 0
 OfTests [] = Unit {0}
 OfTests (tested n p b ∷ ts) = Number n × OfTests ts
 
-decided-number : (ts : List Test) (x : Option Reading) → OfTests ts → OfAnswer (decided ts x)
+decided-number : (ts : List Test) (x : Maybe Reading) → OfTests ts → OfAnswer (decided ts x)
 decided-number [] none h = tt
 decided-number [] (some x) h = tt
 decided-number (tested n p b ∷ ts) x h = either OfAnswer b (decided-number ts x h.1) h.0
 
-tests-number : (y : Syntax) (g : Segment) (p : ℕ) (x : Option Reading) → OfTests (tests y g p x)
+tests-number : (y : Syntax) (g : Segment) (p : ℕ) (x : Maybe Reading) → OfTests (tests y g p x)
 tests-number y g p x = (tt, (tt, (tt, (tt, (tt, (tt, (tt, tt)))))))
 
 then-number : (a : Answer) (k : Reading → Answer) → OfAnswer a → ((z : Reading) → OfAnswer (k z)) → OfAnswer (then a k)
@@ -108,7 +102,7 @@ unless-number (idle u ms) p a h = h
 unless-number (busy u ms o) p a h = h
 unless-number (done u ms z) p a h = tt
 
-tagged-number : (p : ℕ) (o : Option Segment) (k : Segment → Answer) → ((g : Segment) → OfAnswer (k g)) → OfAnswer (tagged-or p o k)
+tagged-number : (p : ℕ) (o : Maybe Segment) (k : Segment → Answer) → ((g : Segment) → OfAnswer (k g)) → OfAnswer (tagged-or p o k)
 tagged-number p none k f = tt
 tagged-number p (some g) k f = f g
 
@@ -135,7 +129,7 @@ abbrev OfVerdict : Verdict → Type 0
 OfVerdict (accepted t) = Unit {0}
 OfVerdict (refused_with f) = Number f.number
 
-concluded-number : (s : List ℕ) (u : Option Una) (a : Answer) → OfAnswer a → OfVerdict (concluded s u a)
+concluded-number : (s : List ℕ) (u : Maybe Una) (a : Answer) → OfAnswer a → OfVerdict (concluded s u a)
 concluded-number s u (read start) h = tt
 concluded-number s u (read (idle b ms)) h = tt
 concluded-number s u (read (busy b ms o)) h = tt
@@ -145,9 +139,9 @@ concluded-number s u (refused n p) h = h
 verdict-number : (s : List ℕ) → OfVerdict (verdict_of s)
 verdict-number s = by (begun_of s) (begun-number s)
   where
-    by : (b : Begun) → OfBegun b → OfVerdict (verdict_by s b)
-    by (Refused f) h = h
-    by (Ready x) h =
+    by : (b : Result Start Breach) → OfBegun b → OfVerdict (verdict_by s b)
+    by (Err f) h = h
+    by (Ok x) h =
         concluded-number s (una_at s) (walk x.syntax start (chain x.syntax.service false (drop x.at s)) x.at)
         (walk-number x.syntax start (chain x.syntax.service false (drop x.at s)) x.at)
 

@@ -1,7 +1,7 @@
 -- Every refusal from 3 on names the segment at its place: the segments before it are one fewer than its ordinal.
-use Rattle.std.specs.Prelude.{ℕ, zero, suc, ◌+◌, ◌-◌, ◌≤◌, ◌<◌, List, [], ◌∷◌, ◌++◌, ◌≡◌, refl, Bool, true, false, cond, not, ◌&&◌, T, eqb, leb, ltb, length, take, drop}
+use Rattle.std.specs.Prelude.{ℕ, zero, suc, ◌+◌, ◌-◌, ◌≤◌, ◌<◌, List, [], ◌∷◌, ◌++◌, ◌≡◌, refl, Bool, true, false, cond, not, ◌&&◌, T, eqb, leb, ltb, length, take, drop, Option, Result, Some, None, Ok, Err}
 use Rattle.std.proofs.Common.{arith, append_assoc, ap, sym, subst, ◌∙◌, ne_eqb, eqb-true, leb-true, leb-false, ltb-true, lit<, length-append, drop_at, take_at}
-use Rattle.std.proofs.Math.Option.{Option, none, some}
+use Rattle.std.proofs.Math.Option.{Option as Maybe, none, some}
 use Rattle.std.proofs.lemmas.Bool.{eqb-false}
 use Rattle.std.proofs.Math.Seq.{slice, slice_empty}
 use Rattle.syntax.specs.Service.{kind, without_repetition, fit}
@@ -24,20 +24,8 @@ use Rattle.syntax.specs.declared.Service.{Service}
 use Rattle.syntax.specs.declared.Syntax.{Syntax}
 use Rattle.syntax.specs.declared.Level.{Level}
 use Rattle.syntax.specs.declared.Version.{Version}
-use Rattle.syntax.specs.declared.Found.{Found}
-use Rattle.syntax.specs.declared.Found.TheVariants.{At, Nothing}
-use Rattle.syntax.specs.declared.cutting.Tag.{Tag}
-use Rattle.syntax.specs.declared.cutting.Tag.TheVariants.{Is, Bad}
 use Rattle.syntax.specs.declared.opening.Opening.{Opening}
-use Rattle.syntax.specs.declared.opening.Opened.{Opened}
-use Rattle.syntax.specs.declared.opening.Opened.TheVariants.{Known, Refused as NotKnown}
-use Rattle.syntax.specs.declared.opening.LevelName.{LevelName}
-use Rattle.syntax.specs.declared.opening.LevelName.TheVariants.{Is as Leveled, Unknown as NoLevel}
-use Rattle.syntax.specs.declared.opening.VersionName.{VersionName}
-use Rattle.syntax.specs.declared.opening.VersionName.TheVariants.{Is as Versioned, Unknown as NoVersion}
 use Rattle.syntax.specs.declared.opening.Start.{Start}
-use Rattle.syntax.specs.declared.opening.Begun.{Begun}
-use Rattle.syntax.specs.declared.opening.Begun.TheVariants.{Ready, Refused}
 use Rattle.grammar.specs.Lists.{check}
 use Rattle.grammar.specs.TestLaws.{is_true, passes}
 use Rattle.grammar.specs.Interchange.{Reading, start, idle, busy, done}
@@ -74,13 +62,13 @@ no-release k h = ne_eqb k 0 (λ q. omega (arith, q, h))
 
 module _ (σ : Service) where
   -- a terminator that is not released is one end, and what is behind it starts anew
-  ends-stop : (f : Bool) (l : List ℕ) (i e : ℕ) → stop_from σ 5 f l i ≡ At e
+  ends-stop : (f : Bool) (l : List ℕ) (i e : ℕ) → stop_from σ 5 f l i ≡ Some e
       → (k : ℕ) × (e ≡ i + k) × (length (ends σ f l i) ≡ suc (length (ends σ false (drop (suc k) l) (suc e))))
   ends-stop f [] i e h = absurd (no_place e h)
   ends-stop f (b ∷ l) i e h = by (leb 5 (kind σ f b)) refl h (ends-stop (eqb (kind σ f b) 0) l (suc i) e)
     where
-      by : (t : Bool) → leb 5 (kind σ f b) ≡ t → cond t (At i) (stop_from σ 5 (eqb (kind σ f b) 0) l (suc i)) ≡ At e
-          → (stop_from σ 5 (eqb (kind σ f b) 0) l (suc i) ≡ At e
+      by : (t : Bool) → leb 5 (kind σ f b) ≡ t → cond t (Some i) (stop_from σ 5 (eqb (kind σ f b) 0) l (suc i)) ≡ Some e
+          → (stop_from σ 5 (eqb (kind σ f b) 0) l (suc i) ≡ Some e
           → (k : ℕ) × (e ≡ suc i + k) × (length (ends σ (eqb (kind σ f b) 0) l (suc i)) ≡ suc (length (ends σ false (drop (suc k) l) (suc e)))))
           → (k : ℕ) × (e ≡ i + k) × (length (ends σ f (b ∷ l) i) ≡ suc (length (ends σ false (drop (suc k) (b ∷ l)) (suc e))))
       by true q h ih =
@@ -99,13 +87,13 @@ module _ (σ : Service) where
           )
 
   -- before it nothing ends
-  ends-none : (f : Bool) (l : List ℕ) (i e k : ℕ) → stop_from σ 5 f l i ≡ At e → i + k ≤ e → (j : ℕ) → length (ends σ f (take k l) j) ≡ 0
+  ends-none : (f : Bool) (l : List ℕ) (i e k : ℕ) → stop_from σ 5 f l i ≡ Some e → i + k ≤ e → (j : ℕ) → length (ends σ f (take k l) j) ≡ 0
   ends-none f [] i e k h n j = absurd (no_place e h)
   ends-none f (b ∷ l) i e zero h n j = refl
   ends-none f (b ∷ l) i e (suc k) h n j = by (leb 5 (kind σ f b)) refl h (λ m. ends-none (eqb (kind σ f b) 0) l (suc i) e k m (omega (arith, n)) (suc j))
     where
-      by : (t : Bool) → leb 5 (kind σ f b) ≡ t → cond t (At i) (stop_from σ 5 (eqb (kind σ f b) 0) l (suc i)) ≡ At e
-          → (stop_from σ 5 (eqb (kind σ f b) 0) l (suc i) ≡ At e → length (ends σ (eqb (kind σ f b) 0) (take k l) (suc j)) ≡ 0)
+      by : (t : Bool) → leb 5 (kind σ f b) ≡ t → cond t (Some i) (stop_from σ 5 (eqb (kind σ f b) 0) l (suc i)) ≡ Some e
+          → (stop_from σ 5 (eqb (kind σ f b) 0) l (suc i) ≡ Some e → length (ends σ (eqb (kind σ f b) 0) (take k l) (suc j)) ≡ 0)
           → length (ends σ f (b ∷ take k l) j) ≡ 0
       by true q h ih = absurd (omega (arith, same_place i e h, n))
       by false q h ih = ap (λ (t : Bool). length (cond t (j ∷ ends σ (eqb (kind σ f b) 0) (take k l) (suc j)) (ends σ (eqb (kind σ f b) 0) (take k l) (suc j)))) q ∙ ih h
@@ -144,28 +132,28 @@ record Halts (σ : Service) (s : List ℕ) (i n p : ℕ) : Type 0 where
   pub size : start ≡ i + length (print σ gs)
   pub rest : drop i s ≡ print σ gs ++ drop start s
   pub at : (n ≡ 3 → ⊥) → p ≡ start
-  pub inside : n ≡ 3 → (start ≤ p) × ((e : ℕ) × ((end_at σ s start ≡ At e) × (p ≤ e)))
+  pub inside : n ≡ 3 → (start ≤ p) × ((e : ℕ) × ((end_at σ s start ≡ Some e) × (p ≤ e)))
 
 abbrev OfAnswer : Service → List ℕ → ℕ → Answer → Type 0
 OfAnswer σ s i (read x) = Unit {0}
 OfAnswer σ s i (refused n p) = Halts σ s i n p
 
-abbrev Between : ℕ → ℕ → Found → Type 0
-Between a z Nothing = Unit {0}
-Between a z (At q) = (a ≤ q) × (q < z)
+abbrev Between : ℕ → ℕ → Option ℕ → Type 0
+Between a z None = Unit {0}
+Between a z (Some q) = (a ≤ q) × (q < z)
 
 outside-between : (y : Syntax) (l : List ℕ) (i : ℕ) → Between i (i + length l) (first_outside y l i)
 outside-between y [] i = tt
 outside-between y (b ∷ l) i = by (outside y b) (first_outside y l (suc i)) (outside-between y l (suc i))
   where
-    by : (t : Bool) (r : Found) → Between (suc i) (suc i + length l) r → Between i (i + suc (length l)) (cond t (At i) r)
+    by : (t : Bool) (r : Option ℕ) → Between (suc i) (suc i + length l) r → Between i (i + suc (length l)) (cond t (Some i) r)
     by true r h = (omega arith, omega arith)
-    by false Nothing h = tt
-    by false (At q) h = (omega (arith, h.0), omega (arith, h.1))
+    by false None h = tt
+    by false (Some q) h = (omega (arith, h.0), omega (arith, h.1))
 
-found_between : (i z : ℕ) (r : Found) → i < z → Between i z r → (i ≤ found_at i r) × (found_at i r < z)
-found_between i z Nothing l h = (omega arith, l)
-found_between i z (At q) l h = h
+found_between : (i z : ℕ) (r : Option ℕ) → i < z → Between i z r → (i ≤ found_at i r) × (found_at i r < z)
+found_between i z None l h = (omega arith, l)
+found_between i z (Some q) l h = h
 
 module _ (y : Syntax) (s : List ℕ) where
   -- at i itself
@@ -197,7 +185,7 @@ module _ (y : Syntax) (s : List ℕ) where
   then-of i (read x) k h f = f x
   then-of i (refused n p) k h f = h
 
-  module _ {x : Reading} {i e a b c : ℕ} (h : end_at y.service s i ≡ At e) (t : Turned y x s i e a b c) where
+  module _ {x : Reading} {i e a b c : ℕ} (h : end_at y.service s i ≡ Some e) (t : Turned y x s i e a b c) where
     -- 3: an octet of the segment
     spoilt : Halts y.service s i 3 (found_at i (first_outside y (print_s y.service t.g) i))
     spoilt =
@@ -215,7 +203,7 @@ module _ (y : Syntax) (s : List ℕ) where
         }
 
     -- a segment's own tests
-    decided-of : (o : Option Reading) → OfAnswer y.service s i (decided (tests y t.g i o) o)
+    decided-of : (o : Maybe Reading) → OfAnswer y.service s i (decided (tests y t.g i o) o)
     decided-of none = either (OfAnswer y.service s i) (check (inside_s y t.g)) (here i 7 (lit< tt)) spoilt
     decided-of (some z) =
         either (OfAnswer y.service s i) (check (inside_s y t.g))
@@ -251,15 +239,15 @@ module _ (y : Syntax) (s : List ℕ) where
     walk_of zero x i l = subst (OfAnswer y.service s i) (sym (walk-over y x s i (omega (arith, l)))) (end_of x i)
     walk_of (suc fuel) x i l = by (leb (length s) i) refl (end_at y.service s i) refl (tag_of y.service (drop i s)) refl (λ e z m. walk_of fuel z (e + 1) m)
       where
-        by : (t : Bool) → leb (length s) i ≡ t → (q : Found) → end_at y.service s i ≡ q → (g : Tag) → tag_of y.service (drop i s) ≡ g
+        by : (t : Bool) → leb (length s) i ≡ t → (q : Option ℕ) → end_at y.service s i ≡ q → (g : Option (ℕ × ℕ × ℕ)) → tag_of y.service (drop i s) ≡ g
             → ((e : ℕ) (z : Reading) → length s ≤ e + 1 + fuel → OfAnswer y.service s (e + 1) (walk y z (chain y.service false (drop (e + 1) s)) (e + 1)))
             → OfAnswer y.service s i (walk y x (chain y.service false (drop i s)) i)
         by true k q h g j ih = subst (OfAnswer y.service s i) (sym (walk-over y x s i (leb-true (length s) i k))) (end_of x i)
-        by false k Nothing h g j ih =
+        by false k None h g j ih =
             subst (OfAnswer y.service s i) (sym (walk_none y x s i (leb-false (length s) i k) h)) (unless-of x i (refused 4 i) (here i 4 (lit< tt)))
-        by false k (At e) h Bad j ih =
+        by false k (Some e) h None j ih =
             subst (OfAnswer y.service s i) (sym (walk-bad y x s i d h j)) (unless-of x i (refused 4 i) (here i 4 (lit< tt)))
-        by false k (At e) h (Is a b c) j ih =
+        by false k (Some e) h (Some (a, b, c)) j ih =
             let t = walk_turn y x s i d h j in
             let onward : Reading → Answer = λ (z : Reading). walk y z (chain y.service false (drop (e + 1) s)) (e + 1) in
             let own : Answer = decided (tests y t.g i (place x t.g)) (place x t.g) in
@@ -269,9 +257,9 @@ module _ (y : Syntax) (s : List ℕ) where
 
 -- ---- the start of an interchange: refused at UNB, or its syntax
 
-abbrev OfOpened : Opened → Type 0
-OfOpened (NotKnown f) = T (ltb f.number 3)
-OfOpened (Known o) = T (fit o.service)
+abbrev OfOpened : Result Opening Breach → Type 0
+OfOpened (Err f) = T (ltb f.number 3)
+OfOpened (Ok o) = T (fit o.service)
 
 opened_of : (s : List ℕ) → OfOpened (opening_of s)
 opened_of s =
@@ -279,22 +267,22 @@ opened_of s =
     (either OfOpened (ltb 65535 (length s)) tt
     (either OfOpened (starts_una s) (either OfOpened (ltb (length s) 9) tt (by (fit (una_service s)) refl)) tt))
   where
-    by : (b : Bool) → fit (una_service s) ≡ b → OfOpened (cond b (Known (record { service = una_service s; una = true; at = 9 })) (NotKnown (record { number = 2; place = 0 })))
+    by : (b : Bool) → fit (una_service s) ≡ b → OfOpened (cond b (Ok (record { service = una_service s; una = true; at = 9 })) (Err (record { number = 2; place = 0 })))
     by true h = passes (fit (una_service s)) h
     by false h = tt
 
-abbrev OfBegun : Opening → Begun → Type 0
-OfBegun o (Refused f) = (f.place ≡ o.at) × T (ltb 3 f.number)
-OfBegun o (Ready x) = (x.at ≡ o.at) × (without_repetition x.syntax.service ≡ without_repetition o.service)
+abbrev OfBegun : Opening → Result Start Breach → Type 0
+OfBegun o (Err f) = (f.place ≡ o.at) × T (ltb 3 f.number)
+OfBegun o (Ok x) = (x.at ≡ o.at) × (without_repetition x.syntax.service ≡ without_repetition o.service)
 
 settled-of : (o : Opening) (l : Level) (v : Version) → OfBegun o (settled o l v)
 settled-of o l v =
     either (OfBegun o) (repeating v) (refl, refl) (either (OfBegun o) (o.una && not (eqb o.service.repetition 32)) (refl, tt) (refl, refl))
 
-named-of : (o : Opening) (l : LevelName) (v : VersionName) → OfBegun o (both_named o l v)
-named-of o (Leveled l) (Versioned v) = either (OfBegun o) (goes l v) (settled-of o l v) (refl, tt)
-named-of o (Leveled l) NoVersion = (refl, tt)
-named-of o NoLevel v = (refl, tt)
+named-of : (o : Opening) (l : Option Level) (v : Option Version) → OfBegun o (both_named o l v)
+named-of o (Some l) (Some v) = either (OfBegun o) (goes l v) (settled-of o l v) (refl, tt)
+named-of o (Some l) None = (refl, tt)
+named-of o None v = (refl, tt)
 
 begun-of : (s : List ℕ) (o : Opening) → OfBegun o (begun_at s o)
 begun-of s o =
@@ -307,7 +295,7 @@ begun-of s o =
 
 -- ---- the ordinal
 
-module _ (s : List ℕ) (o : Opening) (e : opening_of s ≡ Known o) (σ : Service) (d : T (fit σ)) (force : without_repetition σ ≡ without_repetition o.service) where
+module _ (s : List ℕ) (o : Opening) (e : opening_of s ≡ Ok o) (σ : Service) (d : T (fit σ)) (force : without_repetition σ ≡ without_repetition o.service) where
   module _ {n p : ℕ} (h : Halts σ s o.at n p) where
     long-at : h.start - o.at ≡ length (print σ h.gs)
     long-at = omega (arith, h.size)
@@ -338,7 +326,7 @@ module _ (s : List ℕ) (o : Opening) (e : opening_of s ≡ Known o) (σ : Servi
         let z = ends-print σ d h.gs h.good tail 0 in
         let w = quiet (0 + length (print σ h.gs)) in
         let c : length (ends σ false (print σ h.gs ++ tail) 0) ≡ length h.gs = omega (arith, z, w) in
-        ap (λ (x : Opened). ordinal_by x s p) e ∙ ap suc (ap length (same (slice o.at p s)) ∙ ap (λ (l : List ℕ). length (ends σ false l 0)) (up-to k q) ∙ c)
+        ap (λ (x : Result Opening Breach). ordinal_by x s p) e ∙ ap suc (ap length (same (slice o.at p s)) ∙ ap (λ (l : List ℕ). length (ends σ false l 0)) (up-to k q) ∙ c)
 
     ordinal-at : ordinal_of s p ≡ suc (length h.gs)
     ordinal-at = by (eqb n 3) refl
@@ -382,13 +370,13 @@ abbrev pub Named : List ℕ → Refusal → Type 0
 Named s f = (f.number ≤ 2 → f.segment ≡ 0) × (3 ≤ f.number → SegmentAt s f)
 
 module _ (s : List ℕ) where
-  before-unb : (b : Breach) → opening_of s ≡ NotKnown b → OfOpened (NotKnown b) → Named s (refusal_at s b.number b.place)
+  before-unb : (b : Breach) → opening_of s ≡ Err b → OfOpened (Err b) → Named s (refusal_at s b.number b.place)
   before-unb b e h =
       let l : b.number < 3 = ltb-true b.number 3 (is_true (ltb b.number 3) h) in
-      (λ q. ap (λ (x : Opened). ordinal_by x s b.place) e, λ q. absurd (omega (arith, q, l)))
+      (λ q. ap (λ (x : Result Opening Breach). ordinal_by x s b.place) e, λ q. absurd (omega (arith, q, l)))
 
-  module _ (o : Opening) (e : opening_of s ≡ Known o) (d : T (fit o.service)) where
-    at-unb : (b : Breach) → OfBegun o (Refused b) → Named s (refusal_at s b.number b.place)
+  module _ (o : Opening) (e : opening_of s ≡ Ok o) (d : T (fit o.service)) where
+    at-unb : (b : Breach) → OfBegun o (Err b) → Named s (refusal_at s b.number b.place)
     at-unb b h =
         let four : 3 < b.number = ltb-true 3 b.number (is_true (ltb 3 b.number) h.1) in
         let w : Halts o.service s o.at b.number b.place = record {
@@ -403,7 +391,7 @@ module _ (s : List ℕ) where
         } in
         (λ q. absurd (omega (arith, q, four)), λ q. segment-at s o e o.service d refl w)
 
-    behind-unb : (x : Start) → begun_of s ≡ Ready x → OfBegun o (Ready x) → (a : Answer)
+    behind-unb : (x : Start) → begun_of s ≡ Ok x → OfBegun o (Ok x) → (a : Answer)
         → walk x.syntax start (chain x.syntax.service false (drop x.at s)) x.at ≡ a → OfAnswer x.syntax.service s x.at a
         → {f : Refusal} → concluded s (una_at s) a ≡ refused_with f → Named s f
     behind-unb x k g (read start) w h c = absurd (walk-runs x.syntax (chain x.syntax.service false (drop x.at s)) start x.at w).3
@@ -418,18 +406,18 @@ module _ (s : List ℕ) where
 pub segment-named : (s : List ℕ) (f : Refusal) → verdict_of s ≡ refused_with f → Named s f
 segment-named s f v = by (opening_of s) refl (opened_of s)
   where
-    by : (q : Opened) → opening_of s ≡ q → OfOpened q → Named s f
-    by (NotKnown b) e h =
-        let c : refused_with (refusal_at s b.number b.place) ≡ refused_with f = ap (λ (q : Opened). verdict_by s (begun_by s q)) (sym e) ∙ v in
+    by : (q : Result Opening Breach) → opening_of s ≡ q → OfOpened q → Named s f
+    by (Err b) e h =
+        let c : refused_with (refusal_at s b.number b.place) ≡ refused_with f = ap (λ (q : Result Opening Breach). verdict_by s (begun_by s q)) (sym e) ∙ v in
         subst (Named s) (told_with c) (before-unb s b e h)
-    by (Known o) e h = go (begun_at s o) refl (begun-of s o)
+    by (Ok o) e h = go (begun_at s o) refl (begun-of s o)
       where
-        go : (b : Begun) → begun_at s o ≡ b → OfBegun o b → Named s f
-        go (Refused b) k g =
+        go : (b : Result Start Breach) → begun_at s o ≡ b → OfBegun o b → Named s f
+        go (Err b) k g =
             let c : refused_with (refusal_at s b.number b.place) ≡ refused_with f = ap (verdict_by s) (sym (ap (begun_by s) e ∙ k)) ∙ v in
             subst (Named s) (told_with c) (at-unb s o e h b g)
-        go (Ready x) k g =
-            let n : begun_of s ≡ Ready x = ap (begun_by s) e ∙ k in
+        go (Ok x) k g =
+            let n : begun_of s ≡ Ok x = ap (begun_by s) e ∙ k in
             let l : length s ≤ x.at + length s = omega arith in
             behind-unb s o e h x n g (walk x.syntax start (chain x.syntax.service false (drop x.at s)) x.at) refl
             (walk_of x.syntax s (start-read s x n).fits (length s) start x.at l)

@@ -1,5 +1,5 @@
 -- A message that is sealed meets the rules on a message that it met.
-use Rattle.std.specs.Prelude.{ℕ, suc, ◌+◌, ◌<◌, ◌≡◌, refl, List, [], ◌∷◌, Bool, true, false, not, cond, ◌&&◌, ◌||◌, T, eqb, leb}
+use Rattle.std.specs.Prelude.{ℕ, suc, ◌+◌, ◌<◌, ◌≡◌, refl, List, [], ◌∷◌, Bool, true, false, not, cond, ◌&&◌, ◌||◌, T, eqb, leb, None, Some}
 use Rattle.std.proofs.Common.{arith, ap, ◌∙◌, sym, subst, T_not, leb→le, le→leb, eqb→eq, eq-eqb}
 use Rattle.std.proofs.Math.Option.{some}
 use Rattle.syntax.specs.Content.{compared}
@@ -15,7 +15,7 @@ use Rattle.grammar.specs.TestLaws.{passes}
 use Rattle.grammar.specs.RuleLaws.{free-heads}
 use Rattle.grammar.specs.Segments.{Unh, seg, number, unh0062, unh0057, unt0062, ust0534, ust0588}
 use Rattle.grammar.specs.Interchange.{Leaf, Header, Trailer, trailer, Body, plain, ack, msg, Message, message, show_header, show_trailer, show_body, show_open, show_message}
-use Rattle.grammar.specs.declared.Subset.TheVariants.{None, F01, Gs1}
+use Rattle.grammar.specs.declared.Subset.TheVariants.{F01, Gs1}
 use Rattle.grammar.specs.Rules.{autack, subset, ok_header, ok_heads, ok_body, whole, ok_message, subset_h, subsets_message, ref_h, ref_t, linked, one, refs_message, size_at, claimed, counted, paired, counts_message, scope_right, scopes_message}
 use Rattle.weaving.specs.Seals.{single, usr_leaf, new_header, new_trailer, grown, sealed_message, ref_right, filter_right, takes_more, is_new, may_seal}
 use Rattle.demands.specs.SealedListLaws.{front, same-swap, each-front, joined-front, every_front, distinct-front, away, aways, wider, longer, first-among}
@@ -167,4 +167,4 @@ module _ (v : Version) (r : List ℕ) (f : ℕ) (σ : Service) (t : List ℕ) (u
 
   -- 11
   pub scopes-sealed : holds (scopes_message was) → holds (scopes_message is)
-  scopes-sealed k = every_front (scope_right (subset u)) (new_header r f) hs (subst (λ (a : Bool). holds (scope_right (cond a (cond (same (unh0057 u) (octets "EAN001")) Gs1 F01) None) (new_header r f))) (sym (off (autack u) q.other)) tt) k
+  scopes-sealed k = every_front (scope_right (subset u)) (new_header r f) hs (subst (λ (a : Bool). holds (scope_right (cond a (cond (same (unh0057 u) (octets "EAN001")) (Some Gs1) (Some F01)) None) (new_header r f))) (sym (off (autack u) q.other)) tt) k

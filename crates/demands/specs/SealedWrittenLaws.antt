@@ -1,5 +1,5 @@
 -- The new segments are written well, and stay inside the repertoire: letters and digits always do, and VALUE's text where it may be written.
-use Rattle.std.specs.Prelude.{ℕ, suc, ◌≡◌, refl, List, [], ◌∷◌, Bool, true, false, not, cond, ◌&&◌, T, eqb}
+use Rattle.std.specs.Prelude.{ℕ, suc, ◌≡◌, refl, List, [], ◌∷◌, Bool, true, false, not, cond, ◌&&◌, T, eqb, Some}
 use Rattle.std.proofs.Common.{ap, ◌∙◌, sym, subst}
 use Rattle.syntax.specs.Octets.{octets, digit, capital, all_pass}
 use Rattle.syntax.specs.Service.{kind_of, serves, fit}
@@ -11,7 +11,6 @@ use Rattle.syntax.specs.Tree as syntax
 use Rattle.syntax.proofs.TreeLaws.{and_left, and_right, and_both, every-reads}
 use Rattle.syntax.proofs.ReaderLaws.{tag-data}
 use Rattle.syntax.proofs.CleanLaws.{tag-inside}
-use Rattle.syntax.specs.declared.Found.TheVariants.{At}
 use Rattle.syntax.specs.declared.Service.{Service}
 use Rattle.syntax.specs.declared.Syntax.{Syntax}
 use Rattle.syntax.specs.Content.{all_digits}
@@ -104,7 +103,7 @@ pub inside-clear : (y : Syntax) (l : List ℕ) (i : ℕ) → T (all_pass (clear 
 inside-clear y [] i h = tt
 inside-clear y (b ∷ l) i h = by (outside y b) (and_left (clear y b) (all_pass (clear y) l) h) (inside-clear y l (suc i) (and_right (clear y b) (all_pass (clear y) l) h))
   where
-    by : (c : Bool) → T (not c) → T (not (is_there (first_outside y l (suc i)))) → T (not (is_there (cond c (At i) (first_outside y l (suc i)))))
+    by : (c : Bool) → T (not c) → T (not (is_there (first_outside y l (suc i)))) → T (not (is_there (cond c (Some i) (first_outside y l (suc i)))))
     by true h k = absurd h
     by false h k = k
 
@@ -112,7 +111,7 @@ clear-inside : (y : Syntax) (l : List ℕ) (i : ℕ) → T (not (is_there (first
 clear-inside y [] i h = tt
 clear-inside y (b ∷ l) i h = by (outside y b) h (clear-inside y l (suc i))
   where
-    by : (c : Bool) → T (not (is_there (cond c (At i) (first_outside y l (suc i))))) → (T (not (is_there (first_outside y l (suc i)))) → T (all_pass (clear y) l)) → T (not c && all_pass (clear y) l)
+    by : (c : Bool) → T (not (is_there (cond c (Some i) (first_outside y l (suc i))))) → (T (not (is_there (first_outside y l (suc i)))) → T (all_pass (clear y) l)) → T (not c && all_pass (clear y) l)
     by true h k = absurd h
     by false h k = k h
 

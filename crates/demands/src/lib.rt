@@ -8,7 +8,7 @@
 
 pub mod years;
 
-ghost use Rattle.std.specs.Prelude.{ℕ, ◌+◌, ◌-◌, ◌≤◌, false, ◌≡◌, List, ◌++◌, ◌↔◌, T, neg_ℤ, length, take, drop};
+ghost use Rattle.std.specs.Prelude.{ℕ, ◌+◌, ◌-◌, ◌≤◌, false, ◌≡◌, List, ◌++◌, ◌↔◌, T, neg_ℤ, length, take, drop, Err, Ok};
 ghost use Rattle.std.proofs.Math.Seq.{slice};
 ghost use Rattle.syntax.specs.Content.{compared};
 ghost use Rattle.syntax.specs.Octets.{octets};
@@ -28,7 +28,6 @@ ghost use Rattle.f01.specs.F01.{f01_of};
 ghost use Rattle.scope3.specs.Scope3.{scope3_of};
 ghost use Rattle.filters.specs.Octets.{Octets};
 ghost use Rattle.writing.specs.Written.{Text, text, Writes};
-ghost use Rattle.writing.specs.declared.Written.TheVariants.{Length, Refused};
 ghost use Rattle.values.specs.Values.{value_of};
 ghost use Rattle.sealing.specs.Sealing.{seal_octets_of, seal_of};
 ghost use Rattle.register.specs.Register.{register_of, check_numbers, told_check};
@@ -36,7 +35,6 @@ ghost use Rattle.forms.specs.Forms.{register_text};
 ghost use Rattle.forms.specs.declared.Form.{Form};
 ghost use Rattle.forms.specs.declared.Entry.{Entry};
 ghost use Rattle.moves.specs.Stored.{move_of, AllFit};
-ghost use Rattle.register.specs.declared.register.Checked.TheVariants.{Same};
 ghost use Rattle.listing.specs.Listing.{Lists};
 ghost use Rattle.gurandepi.specs.Answers.{Gives};
 ghost use Rattle.gurandepi.specs.declared.Written.{Written as Exported};
@@ -58,12 +56,12 @@ ghost use Rattle.demands.specs.Read.{syntax_of, Read1, Alike1, Read2, Alike2, Re
 // D1. "A refusing call writes nothing into the buffers lent to it.": a call that writes a text and answers a refusal leaves the lent buffer as it was, every octet
 // of it.
 pub fn refusal_writes_nothing()
-    ensures { (x : Text) (out : List ℕ) (f : Refusal) (left : List ℕ) → Writes x out (Refused f) left → left ≡ out }
+    ensures { (x : Text) (out : List ℕ) (f : Refusal) (left : List ℕ) → Writes x out (Err f) left → left ≡ out }
 {}
 
 // The listing, too.
 pub fn refused_listing_writes_nothing()
-    ensures { (t out : List ℕ) (f : Refusal) (left : List ℕ) → Lists t out (Refused f) left → left ≡ out }
+    ensures { (t out : List ℕ) (f : Refusal) (left : List ℕ) → Lists t out (Err f) left → left ≡ out }
 {}
 
 // And each exported call that writes: where its answer's number is not 0.
@@ -203,7 +201,7 @@ pub fn seal_is_given()
 // What it is to succeed: a call that writes a text and answers a length has written that text, first in the lent buffer, and it has 65,535 octets
 // at most.
 pub fn success_is_written()
-    ensures { (t : Text) (out : List ℕ) (k : ℕ) (left : List ℕ) → Writes t out (Length k) left → (t ≡ text (take k left)) × ((length (take k left) ≡ k) × (k ≤ 65535)) }
+    ensures { (t : Text) (out : List ℕ) (k : ℕ) (left : List ℕ) → Writes t out (Ok k) left → (t ≡ text (take k left)) × ((length (take k left) ≡ k) × (k ≤ 65535)) }
 {}
 
 // "A message we seal is accepted": the result is accepted; its tree is the old one with the new header
@@ -244,13 +242,13 @@ pub fn minus_reverses()
 // A register longer than 65,535 octets (in the old form of more than 3,276 messages) is not written (15), nor is one with a negative total in a form without
 // sign (19), and the check accepts none there: it answers 13.
 pub fn check_accepts_written()
-    ensures { (f : Form) (s g out : List ℕ) → length g ≤ length out → (told_check Same ≡ check_numbers f s g) ↔ Writes (register_of f s) out (Length (length g)) (g ++ drop (length g) out) }
+    ensures { (f : Form) (s g out : List ℕ) → length g ≤ length out → (told_check (Ok tt) ≡ check_numbers f s g) ↔ Writes (register_of f s) out (Ok (length g)) (g ++ drop (length g) out) }
 {}
 
 // The moves. "Where no move is refused, old to new to old gives the same octets, and so does new to old to new.", "item 2's round trip holds for form 3": of any two
 // forms; what a move of r wrote, first in the lent buffer, is moved back to r. So the way back is never refused with 17 or 19, only where r has no room (15).
 pub fn moved_there_and_back()
-    ensures { (f g : Form) (r out left : List ℕ) (n : ℕ) → Octets r → Writes (move_of f g r) out (Length n) left → move_of g f (take n left) ≡ text r }
+    ensures { (f g : Form) (r out left : List ℕ) (n : ℕ) → Octets r → Writes (move_of f g r) out (Ok n) left → move_of g f (take n left) ≡ text r }
 {}
 
 // A stored register is moved, and not refused with 17 or 19, if and only if it is the text of entries that fit both forms: of at most 65,535, whose numbers are below
@@ -261,7 +259,7 @@ pub fn moved_exactly()
 
 // What is written for an interchange in one form is moved to what is written for it in another, or refused as that is: with 19.
 pub fn written_is_moved()
-    ensures { (f g : Form) (s out left : List ℕ) (n : ℕ) → Writes (register_of f s) out (Length n) left → move_of f g (take n left) ≡ register_of g s }
+    ensures { (f g : Form) (s out left : List ℕ) (n : ℕ) → Writes (register_of f s) out (Ok n) left → move_of f g (take n left) ≡ register_of g s }
 {}
 
 // D3. "If their sealed octets are equal, they hold the same segments, element by element". Scope 1: the header group, then the body, joined. Octets have at most one reading under the

@@ -22,768 +22,292 @@
 //     report I    ok HEX: the text that the program `report` prints, always
 //
 // Each but the last may answer `refused NUMBER PLACE SEGMENT`. The answer to every other line is `bad`.
+mod answers;
+mod arguments;
 mod digests;
+mod line;
 
-use crate::digests::{answer_digest, answer_sha1};
-use commands::{argument, arguments, capacity, number_of, word_end};
+use crate::answers::{Answer, Fault};
+use crate::arguments::{Named, Referring};
+use crate::digests::{digest, sha1};
+use crate::line::Line;
+use commands::{Bad, Words};
 use f01::f01_places;
 use forms::Form;
-use groups::named::Range;
 use input::read_once;
-use judge::run::{Verdict, judge};
-use judge::totals::{Totals, message_totals};
+use judge::run::judge;
+use judge::totals::message_totals;
 use listing::text::listing;
 use moves::moving::register_move;
-use printing::{flush, number, print_refusal, put, text};
-use ranges::scopes::{Run, Scope1, scope1_places, scope2_places};
-use register::register::{Checked, register_check, register_write};
-use returns::sums::{OldSum, message_old_sum_bits, old_sum_bits};
+use printing::Output;
+use ranges::scopes::{scope1_places, scope2_places};
+use register::register::{register_check, register_write};
+use returns::sums::{message_old_sum_bits, old_sum_bits};
 use scope3::scope3_places;
 use sealing::seal::{seal, seal_octets};
-use syntax::content::{content_is, part, wide};
+use std::fmt::Write;
+use syntax::content::part;
 use values::value;
-use writing::Written;
 
-// After a read: the length of the line that has begun, or that the input is over.
-#[derive(Clone, Copy)]
-enum Turn {
-    On(usize),
-    Over,
+// So long is the longest buffer that a command is lent. That of a report is longer: it has room for every one.
+const MOST: usize = 65536;
+
+fn judged<'a>(words: &mut Words) -> Result<Answer<'a>, Fault> {
+    let interchange = words.octets()?;
+    words.end()?;
+    judge(interchange)?;
+    Ok(Answer::Done)
 }
 
-fn print_bad(rt: &impl Print, out: &mut [u8; 4096], n: usize) -> usize {
-    text(rt, out, n, b"bad\n")
+fn totals<'a>(words: &mut Words) -> Result<Answer<'a>, Fault> {
+    let interchange = words.octets()?;
+    let reference = words.octets()?;
+    words.end()?;
+    Ok(Answer::Totals(message_totals(interchange, reference)?))
 }
 
-fn print_verdict(rt: &impl Print, out: &mut [u8; 4096], n: usize, v: Verdict) -> usize {
-    match v {
-        Verdict::Accepted => text(rt, out, n, b"ok\n"),
-        Verdict::Refused(f) => print_refusal(rt, out, n, f),
-    }
+fn scope1<'a>(words: &mut Words) -> Result<Answer<'a>, Fault> {
+    let x = Named::read(words)?;
+    words.end()?;
+    Ok(Answer::Parts(scope1_places(x.interchange, x.message, x.header)?))
 }
 
-fn print_totals(rt: &impl Print, out: &mut [u8; 4096], n: usize, t: Totals) -> usize {
-    match t {
-        Totals::Of(l) => {
-            let mut k = text(rt, out, n, b"ok ");
-            k = number(rt, out, k, l.loads as u64);
-            k = put(rt, out, k, b' ');
-            if l.below {
-                k = put(rt, out, k, b'-');
-            }
-            k = number(rt, out, k, l.grams);
-            put(rt, out, k, b'\n')
-        }
-        Totals::Refused(f) => print_refusal(rt, out, n, f),
-    }
+fn scope2<'a>(words: &mut Words) -> Result<Answer<'a>, Fault> {
+    let x = Named::read(words)?;
+    words.end()?;
+    Ok(Answer::Run(scope2_places(x.interchange, x.message, x.header)?))
 }
 
-// Two numbers behind a space each.
-fn print_range(rt: &impl Print, out: &mut [u8; 4096], n: usize, r: Range) -> usize {
-    let mut k = put(rt, out, n, b' ');
-    k = number(rt, out, k, r.start as u64);
-    k = put(rt, out, k, b' ');
-    number(rt, out, k, r.end as u64)
+fn f01<'a>(words: &mut Words) -> Result<Answer<'a>, Fault> {
+    let x = Referring::read(words)?;
+    Ok(Answer::Run(f01_places(x.autack, x.referenced, x.message, x.header)?))
 }
 
-fn print_run(rt: &impl Print, out: &mut [u8; 4096], n: usize, r: Run) -> usize {
-    match r {
-        Run::Of(x) => {
-            let mut k = text(rt, out, n, b"ok");
-            k = print_range(rt, out, k, x);
-            put(rt, out, k, b'\n')
-        }
-        Run::Refused(f) => print_refusal(rt, out, n, f),
-    }
+fn scope3<'a>(words: &mut Words) -> Result<Answer<'a>, Fault> {
+    let x = Referring::read(words)?;
+    Ok(Answer::Run(scope3_places(x.autack, x.referenced, x.message, x.header)?))
 }
 
-fn print_scope1(rt: &impl Print, out: &mut [u8; 4096], n: usize, r: Scope1) -> usize {
-    match r {
-        Scope1::Of(x) => {
-            let mut k = text(rt, out, n, b"ok");
-            k = print_range(rt, out, k, x.header);
-            k = print_range(rt, out, k, x.body);
-            put(rt, out, k, b'\n')
-        }
-        Scope1::Refused(f) => print_refusal(rt, out, n, f),
-    }
+fn value_of<'a>(words: &mut Words, written: &'a mut [u8; 131072]) -> Result<Answer<'a>, Fault> {
+    let x = Named::read(words)?;
+    let most = words.capacity(MOST)?;
+    words.end()?;
+    let n = value(x.interchange, x.message, x.header, &mut written[..most])?;
+    Ok(Answer::Octets(part(written, 0, n)))
 }
 
-// Half an octet as a digit of hex.
-fn half(n: u8) -> u8 {
-    if n % 16 < 10 {
-        return 48 + n % 16;
-    }
-    87 + n % 16
-}
-
-// Octets as the desk prints them: lower-case hex, `-` for none.
-fn print_hex(rt: &impl Print, out: &mut [u8; 4096], n: usize, v: &[u8]) -> usize {
-    if v.len() == 0 {
-        return put(rt, out, n, b'-');
-    }
-    let mut k = n;
-    let mut i: usize = 0;
-    while i < v.len() {
-        k = put(rt, out, k, half(v[i] / 16));
-        k = put(rt, out, k, half(v[i]));
-        i += 1;
-    }
-    k
-}
-
-// What a call wrote at the front of `written`.
-fn print_written(
-    rt: &impl Print,
-    out: &mut [u8; 4096],
-    n: usize,
-    w: Written,
-    written: &[u8],
-) -> usize {
-    match w {
-        Written::Length(l) => {
-            let mut k = text(rt, out, n, b"ok ");
-            k = print_hex(rt, out, k, part(written, 0, l));
-            put(rt, out, k, b'\n')
-        }
-        Written::Refused(f) => print_refusal(rt, out, n, f),
-    }
-}
-
-fn answer_judge(
-    rt: &impl Print,
-    out: &mut [u8; 4096],
-    n: usize,
-    s: &[u8],
-    room: &mut [u8; 150000],
-) -> usize {
-    let mut bounds = [0usize; 7];
-    if arguments(s, b"h", room, &mut bounds) {
-        let interchange = argument(room, &bounds, 0);
-        return print_verdict(rt, out, n, judge(interchange));
-    }
-    print_bad(rt, out, n)
-}
-
-fn answer_totals(
-    rt: &impl Print,
-    out: &mut [u8; 4096],
-    n: usize,
-    s: &[u8],
-    room: &mut [u8; 150000],
-) -> usize {
-    let mut bounds = [0usize; 7];
-    if arguments(s, b"hh", room, &mut bounds) {
-        let interchange = argument(room, &bounds, 0);
-        let reference = argument(room, &bounds, 1);
-        return print_totals(rt, out, n, message_totals(interchange, reference));
-    }
-    print_bad(rt, out, n)
-}
-
-fn answer_scope1(
-    rt: &impl Print,
-    out: &mut [u8; 4096],
-    n: usize,
-    s: &[u8],
-    room: &mut [u8; 150000],
-) -> usize {
-    let mut bounds = [0usize; 7];
-    if arguments(s, b"hhh", room, &mut bounds) {
-        let interchange = argument(room, &bounds, 0);
-        let message = argument(room, &bounds, 1);
-        let header = argument(room, &bounds, 2);
-        return print_scope1(rt, out, n, scope1_places(interchange, message, header));
-    }
-    print_bad(rt, out, n)
-}
-
-fn answer_scope2(
-    rt: &impl Print,
-    out: &mut [u8; 4096],
-    n: usize,
-    s: &[u8],
-    room: &mut [u8; 150000],
-) -> usize {
-    let mut bounds = [0usize; 7];
-    if arguments(s, b"hhh", room, &mut bounds) {
-        let interchange = argument(room, &bounds, 0);
-        let message = argument(room, &bounds, 1);
-        let header = argument(room, &bounds, 2);
-        return print_run(rt, out, n, scope2_places(interchange, message, header));
-    }
-    print_bad(rt, out, n)
-}
-
-fn answer_f01(
-    rt: &impl Print,
-    out: &mut [u8; 4096],
-    n: usize,
-    s: &[u8],
-    room: &mut [u8; 150000],
-) -> usize {
-    let mut bounds = [0usize; 7];
-    if arguments(s, b"hhhh", room, &mut bounds) {
-        let autack = argument(room, &bounds, 0);
-        let referenced = argument(room, &bounds, 1);
-        let message = argument(room, &bounds, 2);
-        let header = argument(room, &bounds, 3);
-        return print_run(rt, out, n, f01_places(autack, referenced, message, header));
-    }
-    print_bad(rt, out, n)
-}
-
-fn answer_scope3(
-    rt: &impl Print,
-    out: &mut [u8; 4096],
-    n: usize,
-    s: &[u8],
-    room: &mut [u8; 150000],
-) -> usize {
-    let mut bounds = [0usize; 7];
-    if arguments(s, b"hhhh", room, &mut bounds) {
-        let autack = argument(room, &bounds, 0);
-        let referenced = argument(room, &bounds, 1);
-        let message = argument(room, &bounds, 2);
-        let header = argument(room, &bounds, 3);
-        return print_run(
-            rt,
-            out,
-            n,
-            scope3_places(autack, referenced, message, header),
-        );
-    }
-    print_bad(rt, out, n)
-}
-
-fn write_value(
-    rt: &impl Print,
-    out: &mut [u8; 4096],
-    n: usize,
-    room: &[u8; 150000],
-    bounds: &[usize; 7],
-    written: &mut [u8],
-) -> usize {
-    let interchange = argument(room, bounds, 0);
-    let message = argument(room, bounds, 1);
-    let header = argument(room, bounds, 2);
-    let most = capacity(argument(room, bounds, 3), written.len());
-    let w = value(interchange, message, header, &mut written[..most]);
-    print_written(rt, out, n, w, written)
-}
-
-fn answer_value(
-    rt: &impl Print,
-    out: &mut [u8; 4096],
-    n: usize,
-    s: &[u8],
-    room: &mut [u8; 150000],
-) -> usize {
-    let mut bounds = [0usize; 7];
-    if arguments(s, b"hhhn", room, &mut bounds) {
-        let mut written = [0u8; 65536];
-        return write_value(rt, out, n, room, &bounds, &mut written);
-    }
-    print_bad(rt, out, n)
-}
-
-fn write_octets(
-    rt: &impl Print,
-    out: &mut [u8; 4096],
-    n: usize,
-    room: &[u8; 150000],
-    bounds: &[usize; 7],
-    written: &mut [u8],
-) -> usize {
-    let interchange = argument(room, bounds, 0);
-    let message = argument(room, bounds, 1);
-    let reference = argument(room, bounds, 2);
-    let filter = number_of(argument(room, bounds, 3));
-    let most = capacity(argument(room, bounds, 4), written.len());
-    let w = seal_octets(
+fn sealed_octets<'a>(
+    words: &mut Words,
+    written: &'a mut [u8; 131072],
+) -> Result<Answer<'a>, Fault> {
+    let interchange = words.octets()?;
+    let message = words.octets()?;
+    let reference = words.octets()?;
+    let filter = words.number()?;
+    let most = words.capacity(MOST)?;
+    words.end()?;
+    let n = seal_octets(
         interchange,
         message,
         reference,
         filter,
         &mut written[..most],
-    );
-    print_written(rt, out, n, w, written)
+    )?;
+    Ok(Answer::Octets(part(written, 0, n)))
 }
 
-fn answer_sealoct(
-    rt: &impl Print,
-    out: &mut [u8; 4096],
-    n: usize,
-    s: &[u8],
-    room: &mut [u8; 150000],
-) -> usize {
-    let mut bounds = [0usize; 7];
-    if arguments(s, b"hhhnn", room, &mut bounds) {
-        let mut written = [0u8; 65536];
-        return write_octets(rt, out, n, room, &bounds, &mut written);
-    }
-    print_bad(rt, out, n)
-}
-
-fn write_sealed(
-    rt: &impl Print,
-    out: &mut [u8; 4096],
-    n: usize,
-    room: &[u8; 150000],
-    bounds: &[usize; 7],
-    written: &mut [u8],
-) -> usize {
-    let interchange = argument(room, bounds, 0);
-    let message = argument(room, bounds, 1);
-    let reference = argument(room, bounds, 2);
-    let filter = number_of(argument(room, bounds, 3));
-    let value = argument(room, bounds, 4);
-    let most = capacity(argument(room, bounds, 5), written.len());
-    let w = seal(
+fn sealed<'a>(words: &mut Words, written: &'a mut [u8; 131072]) -> Result<Answer<'a>, Fault> {
+    let interchange = words.octets()?;
+    let message = words.octets()?;
+    let reference = words.octets()?;
+    let filter = words.number()?;
+    let value = words.octets()?;
+    let most = words.capacity(MOST)?;
+    words.end()?;
+    let n = seal(
         interchange,
         message,
         reference,
         filter,
         value,
         &mut written[..most],
-    );
-    print_written(rt, out, n, w, written)
+    )?;
+    Ok(Answer::Octets(part(written, 0, n)))
 }
 
-fn answer_seal(
-    rt: &impl Print,
-    out: &mut [u8; 4096],
-    n: usize,
-    s: &[u8],
-    room: &mut [u8; 150000],
-) -> usize {
-    let mut bounds = [0usize; 7];
-    if arguments(s, b"hhhnhn", room, &mut bounds) {
-        let mut written = [0u8; 65536];
-        return write_sealed(rt, out, n, room, &bounds, &mut written);
-    }
-    print_bad(rt, out, n)
-}
-
-// A form by its number, or that none has this number.
-#[derive(Clone, Copy)]
-enum Named {
-    As(Form),
-    Unknown,
-}
-
-fn form_named(n: u64) -> Named {
+// A form by its number.
+fn form_named(n: u64) -> Result<Form, Bad> {
     match n {
-        1 => Named::As(Form::Old),
-        2 => Named::As(Form::Small),
-        3 => Named::As(Form::Signed),
-        _ => Named::Unknown,
+        1 => Ok(Form::Old),
+        2 => Ok(Form::Small),
+        3 => Ok(Form::Signed),
+        _ => Err(Bad),
     }
 }
 
 // A form that is written: form 2 is only read.
-fn written_form(n: u64) -> Named {
+fn written_form(n: u64) -> Result<Form, Bad> {
     match n {
-        1 => Named::As(Form::Old),
-        3 => Named::As(Form::Signed),
-        _ => Named::Unknown,
+        2 => Err(Bad),
+        n => form_named(n),
     }
 }
 
-fn write_register(
-    rt: &impl Print,
-    out: &mut [u8; 4096],
-    n: usize,
-    room: &[u8; 150000],
-    bounds: &[usize; 7],
-    form: Form,
-    written: &mut [u8],
-) -> usize {
-    let interchange = argument(room, bounds, 0);
-    let most = capacity(argument(room, bounds, 2), written.len());
-    let w = register_write(interchange, form, &mut written[..most]);
-    print_written(rt, out, n, w, written)
+fn register_written<'a>(
+    words: &mut Words,
+    written: &'a mut [u8; 131072],
+) -> Result<Answer<'a>, Fault> {
+    let interchange = words.octets()?;
+    let form = written_form(words.number()?)?;
+    let most = words.capacity(MOST)?;
+    words.end()?;
+    let n = register_write(interchange, form, &mut written[..most])?;
+    Ok(Answer::Octets(part(written, 0, n)))
 }
 
-fn answer_regwrite(
-    rt: &impl Print,
-    out: &mut [u8; 4096],
-    n: usize,
-    s: &[u8],
-    room: &mut [u8; 150000],
-) -> usize {
-    let mut bounds = [0usize; 7];
-    if arguments(s, b"hnn", room, &mut bounds) {
-        let mut written = [0u8; 65536];
-        match written_form(number_of(argument(room, &bounds, 1))) {
-            Named::As(form) => {
-                return write_register(rt, out, n, room, &bounds, form, &mut written);
-            }
-            Named::Unknown => return print_bad(rt, out, n),
-        }
-    }
-    print_bad(rt, out, n)
+fn register_checked<'a>(words: &mut Words) -> Result<Answer<'a>, Fault> {
+    let interchange = words.octets()?;
+    let form = form_named(words.number()?)?;
+    let register = words.octets()?;
+    words.end()?;
+    register_check(interchange, form, register)?;
+    Ok(Answer::Done)
 }
 
-// A move by the numbers of its forms, or that it is not offered.
-#[derive(Clone, Copy)]
-enum Move {
-    Between(Form, Form),
-    Unknown,
-}
-
-fn move_named(from: u64, to: u64) -> Move {
+// No register is moved to the form that it has.
+fn register_moved<'a>(
+    words: &mut Words,
+    written: &'a mut [u8; 131072],
+) -> Result<Answer<'a>, Fault> {
+    let from = words.number()?;
+    let to = words.number()?;
+    let stored = words.octets()?;
+    let most = words.capacity(MOST)?;
+    words.end()?;
     if from == to {
-        return Move::Unknown;
+        return Err(Fault::Bad);
     }
-    match form_named(from) {
-        Named::As(a) => match written_form(to) {
-            Named::As(b) => Move::Between(a, b),
-            Named::Unknown => Move::Unknown,
-        },
-        Named::Unknown => Move::Unknown,
-    }
-}
-
-fn write_moved(
-    rt: &impl Print,
-    out: &mut [u8; 4096],
-    n: usize,
-    room: &[u8; 150000],
-    bounds: &[usize; 7],
-    from: Form,
-    to: Form,
-    written: &mut [u8],
-) -> usize {
-    let stored = argument(room, bounds, 2);
-    let most = capacity(argument(room, bounds, 3), written.len());
-    let w = register_move(stored, from, to, &mut written[..most]);
-    print_written(rt, out, n, w, written)
-}
-
-fn answer_regmove(
-    rt: &impl Print,
-    out: &mut [u8; 4096],
-    n: usize,
-    s: &[u8],
-    room: &mut [u8; 150000],
-) -> usize {
-    let mut bounds = [0usize; 7];
-    if arguments(s, b"nnhn", room, &mut bounds) {
-        let mut written = [0u8; 65536];
-        let from = number_of(argument(room, &bounds, 0));
-        let to = number_of(argument(room, &bounds, 1));
-        match move_named(from, to) {
-            Move::Between(a, b) => return write_moved(
-                rt,
-                out,
-                n,
-                room,
-                &bounds,
-                a,
-                b,
-                &mut written,
-            ),
-            Move::Unknown => return print_bad(rt, out, n),
-        }
-    }
-    print_bad(rt, out, n)
-}
-
-fn print_checked(rt: &impl Print, out: &mut [u8; 4096], n: usize, c: Checked) -> usize {
-    match c {
-        Checked::Same => text(rt, out, n, b"ok\n"),
-        Checked::Refused(f) => print_refusal(rt, out, n, f),
-    }
-}
-
-fn answer_regcheck(
-    rt: &impl Print,
-    out: &mut [u8; 4096],
-    n: usize,
-    s: &[u8],
-    room: &mut [u8; 150000],
-) -> usize {
-    let mut bounds = [0usize; 7];
-    if arguments(s, b"hnh", room, &mut bounds) {
-        let interchange = argument(room, &bounds, 0);
-        let register = argument(room, &bounds, 2);
-        match form_named(number_of(argument(room, &bounds, 1))) {
-            Named::As(form) => {
-                return print_checked(rt, out, n, register_check(interchange, form, register));
-            }
-            Named::Unknown => return print_bad(rt, out, n),
-        }
-    }
-    print_bad(rt, out, n)
+    let n = register_move(
+        stored,
+        form_named(from)?,
+        written_form(to)?,
+        &mut written[..most],
+    )?;
+    Ok(Answer::Octets(part(written, 0, n)))
 }
 
 // Four octets as a number, the first one highest.
-fn bits_given(b: &[u8]) -> u32 {
-    let mut v: u64 = 0;
-    let mut i: usize = 0;
-    while i < b.len() {
-        v = v % 16777216 * 256 + wide(b[i]);
-        i += 1;
-    }
-    (v % 4294967296) as u32
-}
-
-fn print_old_sum(rt: &impl Print, out: &mut [u8; 4096], n: usize, r: OldSum) -> usize {
-    match r {
-        OldSum::Of(x) => {
-            let v = x.bits;
-            let octets = [
-                (v / 16777216) as u8,
-                (v / 65536 % 256) as u8,
-                (v / 256 % 256) as u8,
-                (v % 256) as u8,
-            ];
-            let mut k = text(rt, out, n, b"ok ");
-            k = print_hex(rt, out, k, &octets);
-            put(rt, out, k, b'\n')
-        }
-        OldSum::Refused(f) => print_refusal(rt, out, n, f),
+fn bits_given(octets: &[u8]) -> Result<u32, Bad> {
+    match octets {
+        [a, b, c, d] => Ok(u32::from_be_bytes([*a, *b, *c, *d])),
+        _ => Err(Bad),
     }
 }
 
 // Of one message, where a third argument names it; else of the whole file.
-fn answer_oldsum(
-    rt: &impl Print,
-    out: &mut [u8; 4096],
-    n: usize,
-    s: &[u8],
-    room: &mut [u8; 150000],
-) -> usize {
-    let mut bounds = [0usize; 7];
-    if arguments(s, b"hh", room, &mut bounds) {
-        let bits = argument(room, &bounds, 0);
-        if bits.len() == 4 {
-            let interchange = argument(room, &bounds, 1);
-            return print_old_sum(rt, out, n, old_sum_bits(interchange, bits_given(bits)));
-        }
-        return print_bad(rt, out, n);
+fn old_sum<'a>(words: &mut Words) -> Result<Answer<'a>, Fault> {
+    let bits = words.octets()?;
+    let interchange = words.octets()?;
+    if words.is_over() {
+        let left = old_sum_bits(interchange, bits_given(bits)?)?;
+        return Ok(Answer::Bits(left.bits.to_be_bytes()));
     }
-    answer_oldsum_of(rt, out, n, s, room)
-}
-
-fn answer_oldsum_of(
-    rt: &impl Print,
-    out: &mut [u8; 4096],
-    n: usize,
-    s: &[u8],
-    room: &mut [u8; 150000],
-) -> usize {
-    let mut bounds = [0usize; 7];
-    if arguments(s, b"hhh", room, &mut bounds) {
-        let bits = argument(room, &bounds, 0);
-        if bits.len() == 4 {
-            let interchange = argument(room, &bounds, 1);
-            let message = argument(room, &bounds, 2);
-            return print_old_sum(
-                rt,
-                out,
-                n,
-                message_old_sum_bits(interchange, message, bits_given(bits)),
-            );
-        }
-    }
-    print_bad(rt, out, n)
+    let message = words.octets()?;
+    words.end()?;
+    let left = message_old_sum_bits(interchange, message, bits_given(bits)?)?;
+    Ok(Answer::Bits(left.bits.to_be_bytes()))
 }
 
 // The buffer has room for every report.
-fn answer_report(
-    rt: &impl Print,
-    out: &mut [u8; 4096],
-    n: usize,
-    s: &[u8],
-    room: &mut [u8; 150000],
-) -> usize {
-    let mut bounds = [0usize; 7];
-    if arguments(s, b"h", room, &mut bounds) {
-        let mut written = [0u8; 131072];
-        let w = listing(argument(room, &bounds, 0), &mut written);
-        return print_written(rt, out, n, w, &written);
-    }
-    print_bad(rt, out, n)
+fn report<'a>(words: &mut Words, written: &'a mut [u8; 131072]) -> Result<Answer<'a>, Fault> {
+    let interchange = words.octets()?;
+    words.end()?;
+    let n = listing(interchange, &mut *written)?;
+    Ok(Answer::Octets(part(written, 0, n)))
 }
 
-// With a space as release nothing is released, so that the octets are compared as they are.
-fn is_word(w: &[u8], t: &[u8]) -> bool {
-    content_is(w, b' ', t)
+fn answer<'a>(
+    line: &Line,
+    room: &mut [u8],
+    written: &'a mut [u8; 131072],
+) -> Result<Answer<'a>, Fault> {
+    let mut words = Words::new(line.octets().ok_or(Bad)?, room);
+    match words.word()? {
+        b"judge" => judged(&mut words),
+        b"totals" => totals(&mut words),
+        b"scope1" => scope1(&mut words),
+        b"scope2" => scope2(&mut words),
+        b"f01" => f01(&mut words),
+        b"scope3" => scope3(&mut words),
+        b"value" => value_of(&mut words, written),
+        b"sealoct" => sealed_octets(&mut words, written),
+        b"seal" => sealed(&mut words, written),
+        b"regwrite" => register_written(&mut words, written),
+        b"regcheck" => register_checked(&mut words),
+        b"regmove" => register_moved(&mut words, written),
+        b"sha1" => sha1(&mut words),
+        b"digest" => digest(&mut words),
+        b"oldsum" => old_sum(&mut words),
+        b"report" => report(&mut words, written),
+        _ => Err(Fault::Bad),
+    }
 }
 
-fn answer(
-    rt: &impl Print,
-    out: &mut [u8; 4096],
-    n: usize,
-    s: &[u8],
-    room: &mut [u8; 150000],
-) -> usize {
-    let e = word_end(s, 0);
-    let command = part(s, 0, e);
-    let rest = part(s, e, s.len());
-    if is_word(command, b"judge") {
-        return answer_judge(rt, out, n, rest, room);
-    }
-    if is_word(command, b"totals") {
-        return answer_totals(rt, out, n, rest, room);
-    }
-    if is_word(command, b"regwrite") {
-        return answer_regwrite(rt, out, n, rest, room);
-    }
-    if is_word(command, b"regcheck") {
-        return answer_regcheck(rt, out, n, rest, room);
-    }
-    if is_word(command, b"regmove") {
-        return answer_regmove(rt, out, n, rest, room);
-    }
-    if is_word(command, b"oldsum") {
-        return answer_oldsum(rt, out, n, rest, room);
-    }
-    if is_word(command, b"report") {
-        return answer_report(rt, out, n, rest, room);
-    }
-    answer_sealed(rt, out, n, rest, room, command)
+// What the desk keeps: the line that has begun, and room for the octets of its arguments and for what a call writes.
+#[derive(Drop)]
+struct Desk {
+    line: Line,
+    room: [u8; 150000],
+    written: [u8; 131072],
 }
 
-// The commands on what is sealed.
-fn answer_sealed(
-    rt: &impl Print,
-    out: &mut [u8; 4096],
-    n: usize,
-    rest: &[u8],
-    room: &mut [u8; 150000],
-    command: &[u8],
-) -> usize {
-    if is_word(command, b"scope1") {
-        return answer_scope1(rt, out, n, rest, room);
+impl Desk {
+    // Answers the line, and begins the next.
+    fn answer_line(&mut self, out: &mut Output<impl Print>) {
+        let _ = match answer(&self.line, &mut self.room, &mut self.written) {
+            Ok(answer) => writeln!(out, "ok{answer}"),
+            Err(fault) => writeln!(out, "{fault}"),
+        };
+        self.line.clear();
     }
-    if is_word(command, b"scope2") {
-        return answer_scope2(rt, out, n, rest, room);
-    }
-    if is_word(command, b"f01") {
-        return answer_f01(rt, out, n, rest, room);
-    }
-    if is_word(command, b"scope3") {
-        return answer_scope3(rt, out, n, rest, room);
-    }
-    if is_word(command, b"value") {
-        return answer_value(rt, out, n, rest, room);
-    }
-    if is_word(command, b"sealoct") {
-        return answer_sealoct(rt, out, n, rest, room);
-    }
-    if is_word(command, b"seal") {
-        return answer_seal(rt, out, n, rest, room);
-    }
-    if is_word(command, b"sha1") {
-        return answer_sha1(rt, out, n, rest, room);
-    }
-    if is_word(command, b"digest") {
-        return answer_digest(rt, out, n, rest, room);
-    }
-    print_bad(rt, out, n)
-}
 
-// A line that is too long has the length 300001, and not all of its octets were kept.
-fn answer_line(
-    rt: &impl Print,
-    out: &mut [u8; 4096],
-    n: usize,
-    line: &[u8; 300000],
-    length: usize,
-    room: &mut [u8; 150000],
-) -> usize {
-    if 300000 < length {
-        return print_bad(rt, out, n);
-    }
-    answer(rt, out, n, part(line, 0, length), room)
-}
-
-// Answers the line's length with one octet more. Past the buffer's end it is 300001 up to the line feed, so that no length of
-// a line overflows.
-fn keep(line: &mut [u8; 300000], length: usize, b: u8) -> usize {
-    if length < 300000 {
-        line[length] = b;
-        return length + 1;
-    }
-    300001
-}
-
-// Answers each line that ends in `chunk`, and keeps the start of the next. Nothing printed waits for the next read.
-fn feed(
-    rt: &impl Print,
-    line: &mut [u8; 300000],
-    length: usize,
-    chunk: &[u8],
-    room: &mut [u8; 150000],
-) -> usize {
-    let mut out = [0u8; 4096];
-    let mut n: usize = 0;
-    let mut l = length;
-    let mut i: usize = 0;
-    while i < chunk.len() {
-        let b = chunk[i];
-        if b == 10 {
-            n = answer_line(rt, &mut out, n, line, l, room);
-            l = 0;
-        } else {
-            l = keep(line, l, b);
-        }
-        i += 1;
-    }
-    flush(rt, &out, n);
-    l
-}
-
-// One read, of what has come: a read that waits for a full buffer would hold answers back. A read that fails ends the input.
-fn read_some(
-    rt: &(impl Input + Print),
-    line: &mut [u8; 300000],
-    length: usize,
-    room: &mut [u8; 150000],
-) -> Turn {
-    let mut chunk = [0u8; 4096];
-    let n = read_once(&mut rt.reader(), &mut chunk);
-    if n == 0 {
-        return Turn::Over;
-    }
-    Turn::On(feed(rt, line, length, &chunk[..n], room))
-}
-
-// Answers the length of the last line, where no line feed ended it. A proved loop has to end, and nothing says that the input
-// does: so the loop counts its turns down, from a number that no run uses up.
-fn read_all(rt: &(impl Input + Print), line: &mut [u8; 300000], room: &mut [u8; 150000]) -> usize {
-    let mut length: usize = 0;
-    let mut turns = u64::MAX;
-    while turns > 0 {
-        match read_some(rt, line, length, room) {
-            Turn::On(l) => {
-                length = l;
-            }
-            Turn::Over => {
-                return length;
+    // Answers each line that ends in `chunk`, and keeps the start of the next. Nothing printed waits for the next read.
+    fn feed(&mut self, out: &mut Output<impl Print>, chunk: &[u8]) {
+        for b in chunk {
+            if *b == b'\n' {
+                self.answer_line(out);
+            } else {
+                self.line.push(*b);
             }
         }
-        turns -= 1;
+        out.flush();
     }
-    length
+
+    // Answers the last line, where no line feed ended it. Where nothing came after the last line feed there is no such line.
+    fn finish(&mut self, out: &mut Output<impl Print>) {
+        if !self.line.is_empty() {
+            self.answer_line(out);
+        }
+    }
 }
 
-// Answers the last line, where no line feed ended it. Where nothing came after the last line feed there is no such line.
-fn finish(rt: &impl Print, line: &[u8; 300000], length: usize, room: &mut [u8; 150000]) {
-    if length == 0 {
-        return;
-    }
-    let mut out = [0u8; 4096];
-    let n = answer_line(rt, &mut out, 0, line, length, room);
-    flush(rt, &out, n);
-}
-
+// One read at a time, of what has come: a read that waits for a full buffer would hold answers back. A read that fails ends the
+// input. A proved loop has to end, and nothing says that the input does: so the loop has more turns than any run uses up.
 fn main(rt: HostRuntime) {
-    let mut line = [0u8; 300000];
-    let mut room = [0u8; 150000];
-    let length = read_all(&rt, &mut line, &mut room);
-    finish(&rt, &line, length, &mut room);
+    let mut out = Output::new(&rt);
+    let mut desk = Desk {
+        line: Line::new(),
+        room: [0; 150000],
+        written: [0; 131072],
+    };
+    let mut chunk = [0u8; 4096];
+    for _ in 0..u64::MAX {
+        let n = read_once(&mut rt.reader(), &mut chunk);
+        if n == 0 {
+            break;
+        }
+        desk.feed(&mut out, &chunk[..n]);
+    }
+    desk.finish(&mut out);
+    out.end();
 }

@@ -1,9 +1,10 @@
 -- "a call that gives the digest of a named range": SHA-1 of exactly the octets that the range call hands back.
-use Rattle.std.specs.Prelude.{ℕ, Bool, false, cond, not, ◌&&◌, List, ◌∷◌, ◌++◌, replicate}
+use Rattle.std.specs.Prelude.{ℕ, Bool, false, cond, not, ◌&&◌, List, ◌∷◌, ◌++◌, replicate, Result, Ok, Err}
 use Rattle.std.proofs.Math.Option.{Option, none, some}
 use Rattle.std.proofs.Math.Seq.{slice}
 use Rattle.syntax.specs.Octets.{octets, same}
 use Rattle.syntax.specs.Refusals.{at_zero}
+use Rattle.syntax.specs.declared.Refusal.{Refusal}
 use Rattle.grammar.specs.Lists.{Snoc, nil, ◌▷◌}
 use Rattle.grammar.specs.Segments.{Asked, Usa, seg, asked}
 use Rattle.grammar.specs.Interchange.{Leaf, Header, header, message}
@@ -17,7 +18,6 @@ use Rattle.ranges.specs.Ranges.{Parts, parts, Run, run, scope1_of, scope2_of}
 use Rattle.f01.specs.F01.{f01_of}
 use Rattle.scope3.specs.Scope3.{scope3_of}
 use Rattle.sha.specs.Sha.{sha1}
-use Rattle.digest.specs.declared.Digest.{Digest}
 
 -- ---- "The first USA directly after USH must name, unrepeated, code 16 in 0527, as in source document 004."
 
@@ -75,15 +75,16 @@ digest_f01_of a s m r = digested (named_in a m r) (run_octets s (f01_of a s m r)
 abbrev pub digest3_of : List ℕ → List ℕ → List ℕ → List ℕ → Answered (List ℕ)
 digest3_of a s m r = digested (named_in a m r) (run_octets s (scope3_of a s m r))
 
--- ---- as the calls answer: the digest under the number 0; "on refusal .. every other number given back is 0"
+-- ---- as the calls answer: the digest, with the number 0; "on refusal .. every other number given back is 0"
 
-abbrev pub digest_as : Answered (List ℕ) → Digest
-digest_as (given x) = record { refusal = at_zero 0; octets = x }
-digest_as (refused_as f) = record { refusal = f; octets = replicate 20 0 }
+abbrev pub digest_as : Answered (List ℕ) → Result (List ℕ) Refusal
+digest_as (given x) = Ok x
+digest_as (refused_as f) = Err f
 
 abbrev pub digest_numbers : Answered (List ℕ) → List ℕ
 digest_numbers (given x) = 0 ∷ 0 ∷ 0 ∷ x
 digest_numbers (refused_as f) = f.number ∷ f.place ∷ f.segment ∷ replicate 20 0
 
-abbrev pub told_digest : Digest → List ℕ
-told_digest d = d.refusal.number ∷ d.refusal.place ∷ d.refusal.segment ∷ d.octets
+abbrev pub told_digest : Result (List ℕ) Refusal → List ℕ
+told_digest (Ok x) = 0 ∷ 0 ∷ 0 ∷ x
+told_digest (Err f) = f.number ∷ f.place ∷ f.segment ∷ replicate 20 0

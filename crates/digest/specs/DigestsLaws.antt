@@ -1,7 +1,7 @@
 -- What the code reads of the header, and what it makes of a range, is what the definitions say.
-use Rattle.std.specs.Prelude.{ℕ, ◌+◌, ◌-◌, ◌≤◌, ◌<◌, ◌≡◌, refl, List, [], ◌∷◌, ◌++◌, Bool, true, false, not, ◌&&◌, T, length}
+use Rattle.std.specs.Prelude.{ℕ, ◌+◌, ◌-◌, ◌≤◌, ◌<◌, ◌≡◌, refl, List, [], ◌∷◌, ◌++◌, Bool, true, false, not, ◌&&◌, T, length, Option, Result, Some, None, Ok, Err}
 use Rattle.std.proofs.Common.{arith, ap, ◌∙◌, sym, subst, length-append, length-drop}
-use Rattle.std.proofs.Math.Option.{Option, none, some}
+use Rattle.std.proofs.Math.Option.{Option as Maybe, none, some}
 use Rattle.std.proofs.Math.Seq.{slice}
 use Rattle.syntax.specs.Octets.{octets, same}
 use Rattle.syntax.specs.Content.{content, compared}
@@ -14,8 +14,6 @@ use Rattle.syntax.proofs.TreeLaws.{print-cons}
 use Rattle.syntax.specs.declared.Refusal.{Refusal}
 use Rattle.syntax.specs.declared.Service.{Service}
 use Rattle.syntax.specs.declared.Syntax.{Syntax}
-use Rattle.syntax.specs.declared.Found.{Found}
-use Rattle.syntax.specs.declared.Found.TheVariants.{At as EndsAt, Nothing}
 use Rattle.grammar.specs.Lists.{Snoc, nil, ◌▷◌, ◌+++◌, each, joined, list}
 use Rattle.grammar.specs.Segments.{Ush, Usa, Usc, Usr, seg}
 use Rattle.grammar.specs.Interchange.{Leaf, Certificate, certificate, Header, header, message, show_option, show_certificate, show_header}
@@ -37,19 +35,12 @@ use Rattle.groups.specs.PartsLaws.{call-refused, call-missing, call-holds, heade
 use Rattle.groups.specs.Calls.{Answered, given, refused_as, answered_by, or_missing, then, Holds, message_in}
 use Rattle.groups.specs.CallsLaws.{read_short}
 use Rattle.groups.specs.declared.named.Range.{Range}
-use Rattle.groups.specs.declared.named.Sought.{Sought}
-use Rattle.groups.specs.declared.named.Sought.TheVariants.{At, Nowhere}
 use Rattle.ranges.specs.Ranges.{Parts, parts, Run, run, scope1_in, scope1_of, scope2_in, scope2_of}
 use Rattle.ranges.specs.Told.{parts_as, run_as}
 use Rattle.ranges.specs.declared.scopes.Parts.{Parts as Parted}
-use Rattle.ranges.specs.declared.scopes.Scope1.{Scope1}
-use Rattle.ranges.specs.declared.scopes.Scope1.TheVariants.{Of as ScopeOf, Refused as ScopeRefused}
-use Rattle.ranges.specs.declared.scopes.Run.{Run as Ran}
-use Rattle.ranges.specs.declared.scopes.Run.TheVariants.{Of as RunOf, Refused as RunRefused}
 use Rattle.f01.specs.Targets.{Target, target_in, across_by, across_of}
 use Rattle.sha.specs.Sha.{sha1}
 use Rattle.digest.specs.Digests.{names_sha, first_of, first_usa, usa_at, named_by, named_in, parts_octets, run_octets, digested, digest1_of, digest_as, digest_numbers, told_digest}
-use Rattle.digest.specs.declared.Digest.{Digest}
 
 -- ---- a USA that names SHA-1
 
@@ -63,6 +54,14 @@ module _ (σ : Service) (s : List ℕ) (a : ℕ) {b : Bool} (e : b ≡ same (sli
 
     pub names-code : {r : Bool} {x : List ℕ} → p ≡ false → x ≡ part_of s (component_at σ s a 1 3) → r ≡ same (content σ.release x) (octets "16") → r ≡ names_sha (asked_at σ s a)
     names-code g h k = k ∙ ap (λ (v : List ℕ). same (content σ.release v) (octets "16")) h ∙ rw (← e, d, ← f, g)
+
+pub was_false : (b : Bool) → not b ≡ true → b ≡ false
+was_false true e = sym e
+was_false false e = refl
+
+pub was_true : (b : Bool) → not b ≡ false → b ≡ true
+was_true true e = refl
+was_true false e = sym e
 
 -- ---- what stands behind a USH in its group: a USA, a USC, or nothing
 
@@ -81,14 +80,14 @@ first-of nil = nowhere refl refl
 first-of (us ▷ u) = by (first-of us)
   where
     by : First us → First (us ▷ u)
-    by (nowhere e d) = there u [] (ap (λ (o : Option Leaf). or_else o (some u)) e) (ap (λ (l : List Segment). l ++ seg Usa u ∷ []) d)
-    by (there v hs e d) = there v (hs ++ seg Usa u ∷ []) (ap (λ (o : Option Leaf). or_else o (some u)) e) (ap (λ (l : List Segment). l ++ seg Usa u ∷ []) d)
+    by (nowhere e d) = there u [] (ap (λ (o : Maybe Leaf). or_else o (some u)) e) (ap (λ (l : List Segment). l ++ seg Usa u ∷ []) d)
+    by (there v hs e d) = there v (hs ++ seg Usa u ∷ []) (ap (λ (o : Maybe Leaf). or_else o (some u)) e) (ap (λ (l : List Segment). l ++ seg Usa u ∷ []) d)
 
 data Certified (cs : Snoc Certificate) : Type 0 where
   usc : (c : Leaf) (hs : List Segment) → list (joined show_certificate cs) ≡ seg Usc c ∷ hs → Certified cs
   none-there : list (joined show_certificate cs) ≡ [] → Certified cs
 
-certificate-list : (c : Leaf) (us : Snoc Leaf) (r : Option Leaf) → list (show_certificate (certificate c us r)) ≡ seg Usc c ∷ (list (each (seg Usa) us) ++ list (show_option (seg Usr) r))
+certificate-list : (c : Leaf) (us : Snoc Leaf) (r : Maybe Leaf) → list (show_certificate (certificate c us r)) ≡ seg Usc c ∷ (list (each (seg Usa) us) ++ list (show_option (seg Usr) r))
 certificate-list c us r =
     list-join (nil ▷ seg Usc c +++ each (seg Usa) us) (show_option (seg Usr) r) ∙ ap (λ (l : List Segment). l ++ list (show_option (seg Usr) r)) (list-join (nil ▷ seg Usc c) (each (seg Usa) us))
 
@@ -125,16 +124,16 @@ module _ (σ : Service) (f : T (fit σ)) (s : List ℕ) (p q : ℕ) (c : Leaf) (
   ush-stands = header-stands σ f s p (header c us cs) w c us cs refl
 
   -- a USH has an end
-  pub names-open : {r : Found} → r ≡ end_at σ s p → r ≡ Nothing → false ≡ named_by (or_missing (first_of us))
+  pub names-open : {r : Option ℕ} → r ≡ end_at σ s p → r ≡ None → false ≡ named_by (or_missing (first_of us))
   names-open a b =
-      let k : Nothing ≡ EndsAt (p + (length (print_s σ (seg Ush c)) - 1)) = sym b ∙ a ∙ (stand-agrees σ s p f (seg Ush c) ush-stands).end in
+      let k : None ≡ Some (p + (length (print_s σ (seg Ush c)) - 1)) = sym b ∙ a ∙ (stand-agrees σ s p f (seg Ush c) ush-stands).end in
       let z : ◌≡◌ {A = ℕ} 0 1 = cc in
       absurd (omega arith)
 
-  module _ {e next : ℕ} {r : Found} (a : r ≡ end_at σ s p) (b : r ≡ EndsAt e) (n : next ≡ e + 1) where
+  module _ {e next : ℕ} {r : Option ℕ} (a : r ≡ end_at σ s p) (b : r ≡ Some e) (n : next ≡ e + 1) where
     after : next ≡ p + length (print_s σ (seg Ush c))
     after =
-        let k : EndsAt e ≡ EndsAt (p + (length (print_s σ (seg Ush c)) - 1)) = sym b ∙ a ∙ (stand-agrees σ s p f (seg Ush c) ush-stands).end in
+        let k : Some e ≡ Some (p + (length (print_s σ (seg Ush c)) - 1)) = sym b ∙ a ∙ (stand-agrees σ s p f (seg Ush c) ush-stands).end in
         let j : e ≡ p + (length (print_s σ (seg Ush c)) - 1) = cc in
         omega (arith, j, n, long-print σ (seg Ush c))
 
@@ -145,7 +144,7 @@ module _ (σ : Service) (f : T (fit σ)) (s : List ℕ) (p q : ℕ) (c : Leaf) (
         (subst (λ (l : List Segment). Row σ s p l q) (header-list c us cs) (subst (Row σ s p (list (show_header (header c us cs)))) (sym k) (stand-row σ s p (show_header (header c us cs)) w))))
 
     none_named : first_of us ≡ none → false ≡ named_by (or_missing (first_of us))
-    none_named d = sym (ap (λ (o : Option Leaf). named_by (or_missing o)) d)
+    none_named d = sym (ap (λ (o : Maybe Leaf). named_by (or_missing o)) d)
 
     pub names-none : q ≤ next → false ≡ named_by (or_missing (first_of us))
     names-none l = by (behind-usas us cs (first-of us) (certified cs)) row
@@ -168,29 +167,29 @@ module _ (σ : Service) (f : T (fit σ)) (s : List ℕ) (p q : ℕ) (c : Leaf) (
       where
         by : {gs : List Segment} → Behind us gs → Row σ s next gs q → z ≡ named_by (or_missing (first_of us))
         by (a_usa u hs d g) x =
-            h ∙ ap names_sha (row-asked σ s next f (seg Usa u) hs (subst (λ (l : List Segment). Row σ s next l q) g x)) ∙ sym (ap (λ (o : Option Leaf). named_by (or_missing o)) d)
+            h ∙ ap names_sha (row-asked σ s next f (seg Usa u) hs (subst (λ (l : List Segment). Row σ s next l q) g x)) ∙ sym (ap (λ (o : Maybe Leaf). named_by (or_missing o)) d)
         by (a_usc v hs d g) x =
             h ∙ ap names_sha (row-asked σ s next f (seg Usc v) hs (subst (λ (l : List Segment). Row σ s next l q) g x)) ∙ none_named d
         by (bare d g) x = absurd (let y = subst (λ (l : List Segment). Row σ s next l q) g x in omega (arith, l, y.end))
 
 -- ---- of the header that is named
 
-module _ {s m : List ℕ} {y : Syntax} {c : Layout} {rows : List ℕ} (h : Holds s m y c rows) (r : List ℕ) {x : Sought}
+module _ {s m : List ℕ} {y : Syntax} {c : Layout} {rows : List ℕ} (h : Holds s m y c rows) (r : List ℕ) {x : Option Range}
     (e : x ≡ sought_in y.service s rows 0 2 (compared r) c.headers c.body) where
-  pub names-headless : x ≡ Nowhere → false ≡ named_by (or_missing (usa_at (placed (message h.o h.t) h.q) r))
+  pub names-headless : x ≡ None → false ≡ named_by (or_missing (usa_at (placed (message h.o h.t) h.q) r))
   names-headless d = by (header_named h.o r) (sym d ∙ e ∙ header-found h r)
     where
-      by : (o : Option (Chosen Header)) → Nowhere ≡ range_of show_header y.service (heads_at y.service h.q h.o) o → false ≡ named_by (or_missing (then o first_usa))
+      by : (o : Maybe (Chosen Header)) → None ≡ range_of show_header y.service (heads_at y.service h.q h.o) o → false ≡ named_by (or_missing (then o first_usa))
       by none q = refl
       by (some (chosen hs x)) q = let z : ◌≡◌ {A = ℕ} 0 1 = cc in absurd (omega arith)
 
-  pub names-header : {g : Range} (b : Bool) → x ≡ At g
+  pub names-header : {g : Range} (b : Bool) → x ≡ Some g
       → ((l : Leaf) (us : Snoc Leaf) (cs : Snoc Certificate) → Stand y.service s g.start (show_header (header l us cs)) → g.end ≡ g.start + wide y.service (show_header (header l us cs)) → b ≡ named_by (or_missing (first_of us)))
       → b ≡ named_by (or_missing (usa_at (placed (message h.o h.t) h.q) r))
   names-header {g} b d k = by (header_named h.o r) (λ hs x q. header-there h r q) (sym d ∙ e ∙ header-found h r)
     where
-      by : (o : Option (Chosen Header)) → ((hs : Snoc Header) (x : Header) → o ≡ some (chosen hs x) → Stand y.service s (header_at y.service h.q h.o (chosen hs x)) (show_header x))
-          → At g ≡ range_of show_header y.service (heads_at y.service h.q h.o) o → b ≡ named_by (or_missing (then o first_usa))
+      by : (o : Maybe (Chosen Header)) → ((hs : Snoc Header) (x : Header) → o ≡ some (chosen hs x) → Stand y.service s (header_at y.service h.q h.o (chosen hs x)) (show_header x))
+          → Some g ≡ range_of show_header y.service (heads_at y.service h.q h.o) o → b ≡ named_by (or_missing (then o first_usa))
       by none f q = let z : ◌≡◌ {A = ℕ} 0 1 = cc in absurd (omega arith)
       by (some (chosen hs (header l us cs))) f q =
           let a : g.start ≡ header_at y.service h.q h.o (chosen hs (header l us cs)) = cc in
@@ -210,73 +209,73 @@ module _ (s m r : List ℕ) where
 
 -- ---- a range that is given lies in a short interchange
 
-given-short : {A : Type 0} (s : List ℕ) (f : Interchange → Option A) {x : A} → answered_by (verdict_of s) f ≡ given x → length s ≤ 65535
+given-short : {A : Type 0} (s : List ℕ) (f : Interchange → Maybe A) {x : A} → answered_by (verdict_of s) f ≡ given x → length s ≤ 65535
 given-short s f {x} e = by (verdict_of s) refl e
   where
     by : (v : Verdict) → verdict_of s ≡ v → answered_by v f ≡ given x → length s ≤ 65535
     by (refused_with g) d e = let z : ◌≡◌ {A = ℕ} 0 1 = cc in absurd (omega arith)
     by (accepted i) d e = read_short s i d
 
-parts-given : {p : Parted} (x : Answered Parts) → ScopeOf p ≡ parts_as x → x ≡ given (parts p.header.start p.header.end p.body.start p.body.end)
+parts-given : {p : Parted} (x : Answered Parts) → Ok p ≡ parts_as x → x ≡ given (parts p.header.start p.header.end p.body.start p.body.end)
 parts-given {p} (given (parts a b c d)) e =
     let k : p ≡ record { header = record { start = a; end = b }; body = record { start = c; end = d } } = cc in
     sym (ap (λ (q : Parted). given (parts q.header.start q.header.end q.body.start q.body.end)) k)
 parts-given (refused_as f) e = let z : ◌≡◌ {A = ℕ} 0 1 = cc in absurd (omega arith)
 
-parts-refused : {f : Refusal} (x : Answered Parts) → ScopeRefused f ≡ parts_as x → x ≡ refused_as f
+parts-refused : {f : Refusal} (x : Answered Parts) → Err f ≡ parts_as x → x ≡ refused_as f
 parts-refused (given (parts a b c d)) e = let z : ◌≡◌ {A = ℕ} 0 1 = cc in absurd (omega arith)
 parts-refused (refused_as f) e = cc
 
-run-given : {x : Range} (a : Answered Run) → RunOf x ≡ run_as a → a ≡ given (run x.start x.end)
+run-given : {x : Range} (a : Answered Run) → Ok x ≡ run_as a → a ≡ given (run x.start x.end)
 run-given {x} (given (run a e)) d =
     let k : x ≡ record { start = a; end = e } = cc in
     sym (ap (λ (q : Range). given (run q.start q.end)) k)
 run-given (refused_as f) e = let z : ◌≡◌ {A = ℕ} 0 1 = cc in absurd (omega arith)
 
-run-refused : {f : Refusal} (a : Answered Run) → RunRefused f ≡ run_as a → a ≡ refused_as f
+run-refused : {f : Refusal} (a : Answered Run) → Err f ≡ run_as a → a ≡ refused_as f
 run-refused (given (run a e)) d = let z : ◌≡◌ {A = ℕ} 0 1 = cc in absurd (omega arith)
 run-refused (refused_as f) e = cc
 
 -- ---- the digest of a range
 
-module _ {z : Refusal} {o : List ℕ} (e : z ≡ at_zero 0) where
+module _ {o : List ℕ} where
   pub digest-parts : (s : List ℕ) (p : Parted) {named : Bool} {x y : List ℕ} → named ≡ true → x ≡ slice p.header.start p.header.end s → y ≡ slice p.body.start p.body.end s → o ≡ sha1 (x ++ y)
-      → record { refusal = z; octets = o } ≡ digest_as (digested named (parts_octets s (given (parts p.header.start p.header.end p.body.start p.body.end))))
-  digest-parts s p d f g h = rw (e, d, h, f, g)
+      → Ok o ≡ digest_as (digested named (parts_octets s (given (parts p.header.start p.header.end p.body.start p.body.end))))
+  digest-parts s p d f g h = rw (d, h, f, g)
 
   pub digest-run : (s : List ℕ) (r : Range) {named : Bool} {x : List ℕ} → named ≡ true → x ≡ slice r.start r.end s → o ≡ sha1 x
-      → record { refusal = z; octets = o } ≡ digest_as (digested named (given (slice r.start r.end s)))
-  digest-run s r d f h = rw (e, d, h, f)
+      → Ok o ≡ digest_as (digested named (given (slice r.start r.end s)))
+  digest-run s r d f h = rw (d, h, f)
 
 -- "18 where it names another or there is none"
-pub digest-unnamed : {named : Bool} {f : Refusal} {d : Digest} (x : List ℕ) → named ≡ false → f ≡ at_zero 18 → d ≡ digest_as (refused_as f) → d ≡ digest_as (digested named (given x))
-digest-unnamed x e f g = g ∙ ap (λ (k : Refusal). digest_as (refused_as k)) f ∙ sym (ap (λ (b : Bool). digest_as (digested b (given x))) e)
+pub digest-unnamed : {named : Bool} {f : Refusal} (x : List ℕ) → named ≡ false → f ≡ at_zero 18 → Err f ≡ digest_as (digested named (given x))
+digest-unnamed x e f = ap Err f ∙ sym (ap (λ (b : Bool). digest_as (digested b (given x))) e)
 
-pub digest-promised : {d : Digest} (x : Answered (List ℕ)) → d ≡ digest_as x → (d ≡ digest_as x) × (told_digest d ≡ digest_numbers x)
+pub digest-promised : {d : Result (List ℕ) Refusal} (x : Answered (List ℕ)) → d ≡ digest_as x → (d ≡ digest_as x) × (told_digest d ≡ digest_numbers x)
 digest-promised x e = (e, ap told_digest e ∙ by x)
   where
     by : (x : Answered (List ℕ)) → told_digest (digest_as x) ≡ digest_numbers x
     by (given x) = refl
     by (refused_as f) = refl
 
-module _ (s m r : List ℕ) {a : Scope1} (e : a ≡ parts_as (scope1_of s m r)) {d : Digest} where
-  pub digest1-given : {p : Parted} {b : Bool} → a ≡ ScopeOf p → b ≡ named_in s m r
+module _ (s m r : List ℕ) {a : Result Parted Refusal} (e : a ≡ parts_as (scope1_of s m r)) where
+  pub digest1-given : {p : Parted} {b : Bool} {d : Result (List ℕ) Refusal} → a ≡ Ok p → b ≡ named_in s m r
       → d ≡ digest_as (digested b (parts_octets s (given (parts p.header.start p.header.end p.body.start p.body.end)))) → d ≡ digest_as (digest1_of s m r)
   digest1-given {p} {b} f g h =
       h ∙ ap (λ (v : Bool). digest_as (digested v (parts_octets s (given (parts p.header.start p.header.end p.body.start p.body.end))))) g
       ∙ sym (ap (λ (x : Answered Parts). digest_as (digested (named_in s m r) (parts_octets s x))) (parts-given (scope1_of s m r) (sym f ∙ e)))
 
-  pub digest1-refused : {f : Refusal} → a ≡ ScopeRefused f → d ≡ digest_as (refused_as f) → d ≡ digest_as (digest1_of s m r)
-  digest1-refused f h = h ∙ sym (ap (λ (x : Answered Parts). digest_as (digested (named_in s m r) (parts_octets s x))) (parts-refused (scope1_of s m r) (sym f ∙ e)))
+  pub digest1-refused : {f : Refusal} → a ≡ Err f → Err f ≡ digest_as (digest1_of s m r)
+  digest1-refused f = sym (ap (λ (x : Answered Parts). digest_as (digested (named_in s m r) (parts_octets s x))) (parts-refused (scope1_of s m r) (sym f ∙ e)))
 
-pub scope1-short : (s m r : List ℕ) {a : Scope1} {p : Parted} → a ≡ parts_as (scope1_of s m r) → a ≡ ScopeOf p → length s ≤ 65535
+pub scope1-short : (s m r : List ℕ) {a : Result Parted Refusal} {p : Parted} → a ≡ parts_as (scope1_of s m r) → a ≡ Ok p → length s ≤ 65535
 scope1-short s m r e f = given-short s (λ i. scope1_in i m r) (parts-given (scope1_of s m r) (sym f ∙ e))
 
-pub scope2-short : (s m r : List ℕ) {a : Ran} {x : Range} → a ≡ run_as (scope2_of s m r) → a ≡ RunOf x → length s ≤ 65535
+pub scope2-short : (s m r : List ℕ) {a : Result Range Refusal} {x : Range} → a ≡ run_as (scope2_of s m r) → a ≡ Ok x → length s ≤ 65535
 scope2-short s m r e f = given-short s (λ i. scope2_in i m r) (run-given (scope2_of s m r) (sym f ∙ e))
 
 -- F01 and scope 3: the octets lie in the interchange that is referred to
-pub across-short : (code : List ℕ) (give : Interchange → Target → Option Run) (a s m r : List ℕ) {k : Ran} {x : Range} → k ≡ run_as (across_of code give a s m r) → k ≡ RunOf x → length s ≤ 65535
+pub across-short : (code : List ℕ) (give : Interchange → Target → Maybe Run) (a s m r : List ℕ) {k : Result Range Refusal} {x : Range} → k ≡ run_as (across_of code give a s m r) → k ≡ Ok x → length s ≤ 65535
 across-short code give a s m r {k} {x} e f = by (verdict_of a) (run-given (across_of code give a s m r) (sym f ∙ e))
   where
     by : (v : Verdict) → across_by code give v s m r ≡ given (run x.start x.end) → length s ≤ 65535
@@ -284,10 +283,10 @@ across-short code give a s m r {k} {x} e f = by (verdict_of a) (run-given (acros
     by (accepted i) d = given-short s (λ j. then (target_in code i m r) (give j)) d
 
 -- of a run: n says whether the header names SHA-1
-module _ (s : List ℕ) (n : Bool) (x : Answered Run) {a : Ran} (e : a ≡ run_as x) {d : Digest} where
-  pub digest-run-given : {q : Range} {b : Bool} → a ≡ RunOf q → b ≡ n → d ≡ digest_as (digested b (given (slice q.start q.end s))) → d ≡ digest_as (digested n (run_octets s x))
+module _ (s : List ℕ) (n : Bool) (x : Answered Run) {a : Result Range Refusal} (e : a ≡ run_as x) where
+  pub digest-run-given : {q : Range} {b : Bool} {d : Result (List ℕ) Refusal} → a ≡ Ok q → b ≡ n → d ≡ digest_as (digested b (given (slice q.start q.end s))) → d ≡ digest_as (digested n (run_octets s x))
   digest-run-given {q} f g h =
       h ∙ ap (λ (v : Bool). digest_as (digested v (given (slice q.start q.end s)))) g ∙ sym (ap (λ (y : Answered Run). digest_as (digested n (run_octets s y))) (run-given x (sym f ∙ e)))
 
-  pub digest-run-refused : {f : Refusal} → a ≡ RunRefused f → d ≡ digest_as (refused_as f) → d ≡ digest_as (digested n (run_octets s x))
-  digest-run-refused f h = h ∙ sym (ap (λ (y : Answered Run). digest_as (digested n (run_octets s y))) (run-refused x (sym f ∙ e)))
+  pub digest-run-refused : {f : Refusal} → a ≡ Err f → Err f ≡ digest_as (digested n (run_octets s x))
+  digest-run-refused f = sym (ap (λ (y : Answered Run). digest_as (digested n (run_octets s y))) (run-refused x (sym f ∙ e)))

@@ -1,28 +1,21 @@
 -- What the loops over the digits of an amount learn at one step, and what they carry along.
-use Rattle.std.specs.Prelude.{ℕ, zero, suc, ◌+◌, ◌*◌, ◌-◌, ◌≤◌, ◌<◌, List, [], ◌∷◌, ◌≡◌, refl, Bool, true, false, cond, T, eqb, leb, ltb, length, drop}
+use Rattle.std.specs.Prelude.{ℕ, zero, suc, ◌+◌, ◌*◌, ◌-◌, ◌≤◌, ◌<◌, List, [], ◌∷◌, ◌≡◌, refl, Bool, true, false, cond, T, eqb, leb, ltb, length, drop, Option, Some, None}
 use Rattle.std.proofs.Common.{zero-add, add-zero, suc-add, add-mul, mul_assoc, mul-one, one-mul, mul-le-mul_left, mul-le-mul_right, mul-lt-mul_of_pos_right, add-one, arith, ap, sym, subst, ◌∙◌, le-leb, leb-true, lt-ltb, ne_eqb, eqb-true, leb→le}
 use Rattle.std.proofs.Math.Bool.{and-false}
-use Rattle.std.proofs.Math.Option.{Option, none, some}
+use Rattle.std.proofs.Math.Option.{Option as Maybe, none, some}
 use Rattle.std.proofs.lemmas.Bool.{lt-leb}
+use Rattle.std.proofs.lemmas.Option.{none-some, same_Some}
 use Rattle.syntax.specs.Octets.{octets, same, within, digit}
 use Rattle.syntax.specs.Content.{content, all_digits, value_from}
 use Rattle.syntax.specs.Scanning.{next_of}
 use Rattle.syntax.proofs.TreeLaws.{and_left, and_right}
 use Rattle.syntax.proofs.ContentLaws.{Stepped, next-steps, next-over}
-use Rattle.syntax.specs.declared.content.Next.{Next}
-use Rattle.syntax.specs.declared.content.Next.TheVariants.{Octet, Over}
 use Rattle.grammar.specs.Grams as number
 use Rattle.grammar.specs.Grams.{signed, below, magnitude}
 use Rattle.grammar.specs.WeighedLaws.{signed_back}
 use Rattle.grammar.specs.Loads.{Shape, shape, reversed, unsigned, mark, before, behind, digits, tens, fraction_right, fraction, weight_right, weight, amount_right, grams, unit, right_by, control_by, load_by}
 use Rattle.elements.specs.Amounts.{weight_is, amount_is, unit_is, weight_from, fraction_of, fraction_from, Unsigned}
 use Rattle.elements.specs.declared.amounts.Form.{Form}
-use Rattle.elements.specs.declared.amounts.Weight.{Weight}
-use Rattle.elements.specs.declared.amounts.Weight.TheVariants.{Grams as Weighs, Bad as Unweighed}
-use Rattle.elements.specs.declared.amounts.Amount.{Amount}
-use Rattle.elements.specs.declared.amounts.Amount.TheVariants.{Grams, Bad}
-use Rattle.elements.specs.declared.amounts.Unit as amounts
-use Rattle.elements.specs.declared.amounts.Unit.TheVariants.{Of, Unknown}
 
 -- ---- tens
 
@@ -59,7 +52,7 @@ value-split v (b ∷ s) =
 -- ---- the digits behind the mark
 
 -- n digits behind the mark, all give g, and the answer is what they make with the content from i
-pub record Parting (ρ d : ℕ) (answer : Weight) (x : List ℕ) (i n g : ℕ) : Type 0 where
+pub record Parting (ρ d : ℕ) (answer : Option ℕ) (x : List ℕ) (i n g : ℕ) : Type 0 where
   pub few : n ≤ d
   pub small : d ≤ 6
   pub bound : g < 1000000000000 * tens n
@@ -80,7 +73,7 @@ part-start v d s = rw (add-zero (length s)) (by-test (leb (length s) d) refl)
 pub parting-starts : (ρ d v : ℕ) (x : List ℕ) (i : ℕ) → (v < 1000000000000) × (d ≤ 6) → Parting ρ d (fraction_of v d (content ρ (drop i x))) x i 0 v
 parting-starts ρ d v x i h = record { few = omega arith; small = h.1; bound = omega (arith, h.0); makes = part-start v d (content ρ (drop i x)) }
 
-module _ {ρ d : ℕ} {answer : Weight} {x : List ℕ} {i n g : ℕ} (u : Parting ρ d answer x i n g) where
+module _ {ρ d : ℕ} {answer : Option ℕ} {x : List ℕ} {i n g : ℕ} (u : Parting ρ d answer x i n g) where
   -- one more digit fits
   pub parting-fits : n < d → g < 100000000000000000
   parting-fits h = omega (arith, u.bound, u.small, tens-below n 5 (omega (arith, h, u.small)))
@@ -94,29 +87,29 @@ module _ {ρ d : ℕ} {answer : Weight} {x : List ℕ} {i n g : ℕ} (u : Partin
       let l = tens-below d 6 u.small in
       omega arith
 
-  module _ {r : Next} (e : r ≡ next_of ρ (drop i x) i) where
-    pub parting-none : r ≡ Over → n ≡ 0 → Unweighed ≡ answer
+  module _ {r : Option (ℕ × ℕ)} (e : r ≡ next_of ρ (drop i x) i) where
+    pub parting-none : r ≡ None → n ≡ 0 → None ≡ answer
     parting-none f z = sym (u.makes ∙ rw (next-over ρ x i e f, z))
 
-    pub parting-end : {k : ℕ} → r ≡ Over → (n ≡ 0 → ⊥) → k ≡ g * tens (d - n) → Weighs k ≡ answer
+    pub parting-end : {k : ℕ} → r ≡ None → (n ≡ 0 → ⊥) → k ≡ g * tens (d - n) → Some k ≡ answer
     parting-end f z q = sym (u.makes ∙ rw (next-over ρ x i e f, zero-add n, le-leb 1 n (omega arith), le-leb n d u.few, q))
 
-    module _ {b j : ℕ} (f : r ≡ Octet b j) where
+    module _ {b j : ℕ} (f : r ≡ Some (b, j)) where
       parting-steps : Stepped ρ x i b j
       parting-steps = next-steps ρ x i e f
 
       pub parting-less : length x - j < length x - i
       parting-less = let w = parting-steps in omega arith
 
-      pub parting-below : b < 48 → Unweighed ≡ answer
+      pub parting-below : b < 48 → None ≡ answer
       parting-below h = sym (u.makes ∙ rw (parting-steps.gives, lt-leb 48 b h))
 
       module _ (l : 48 ≤ b) where
-        pub parting-above : 57 < b → Unweighed ≡ answer
+        pub parting-above : 57 < b → None ≡ answer
         parting-above h = sym (u.makes ∙ rw (parting-steps.gives, le-leb 48 b l, lt-leb b 57 h))
 
         module _ (h : b ≤ 57) where
-          pub parting-long : d ≤ n → Unweighed ≡ answer
+          pub parting-long : d ≤ n → None ≡ answer
           parting-long m =
               let k : d < suc (length (content ρ (drop j x))) + n = omega arith in
               sym (u.makes ∙ rw (parting-steps.gives, le-leb 48 b l, le-leb b 57 h, lt-leb _ d k, and-false, and-false))
@@ -137,7 +130,7 @@ module _ {ρ d : ℕ} {answer : Weight} {x : List ℕ} {i n g : ℕ} (u : Partin
 -- ---- the digits before the mark
 
 -- n digits give v, and the answer is what they make with the content from i
-pub record Wholing (ρ w d : ℕ) (answer : Weight) (x : List ℕ) (i n v : ℕ) : Type 0 where
+pub record Wholing (ρ w d : ℕ) (answer : Option ℕ) (x : List ℕ) (i n v : ℕ) : Type 0 where
   pub few : n ≤ w
   pub small : w ≤ 12
   pub parts : d ≤ 6
@@ -148,7 +141,7 @@ pub wholing-starts : (ρ w d : ℕ) (x : List ℕ) (i : ℕ) → (w ≤ 12) × (
     Wholing ρ w d (weight_is (weight_right (shape w d) (content ρ (drop i x))) (weight (shape w d) (content ρ (drop i x)))) x i 0 0
 wholing-starts ρ w d x i h = record { few = omega arith; small = h.0; parts = h.1; bound = omega arith; makes = rw add-zero }
 
-module _ {ρ w d : ℕ} {answer : Weight} {x : List ℕ} {i n v : ℕ} (u : Wholing ρ w d answer x i n v) where
+module _ {ρ w d : ℕ} {answer : Option ℕ} {x : List ℕ} {i n v : ℕ} (u : Wholing ρ w d answer x i n v) where
   pub wholing-small : (v < 1000000000000) × (d ≤ 6)
   wholing-small =
       let k = u.bound in
@@ -162,14 +155,14 @@ module _ {ρ w d : ℕ} {answer : Weight} {x : List ℕ} {i n v : ℕ} (u : Whol
       let m = mul-le-mul_left v l in
       omega arith
 
-  module _ {r : Next} (e : r ≡ next_of ρ (drop i x) i) where
-    pub wholing-none : r ≡ Over → n ≡ 0 → Unweighed ≡ answer
+  module _ {r : Option (ℕ × ℕ)} (e : r ≡ next_of ρ (drop i x) i) where
+    pub wholing-none : r ≡ None → n ≡ 0 → None ≡ answer
     wholing-none f z = sym (u.makes ∙ rw (next-over ρ x i e f, z))
 
-    pub wholing-end : {k : ℕ} → r ≡ Over → (n ≡ 0 → ⊥) → k ≡ v * tens d → Weighs k ≡ answer
+    pub wholing-end : {k : ℕ} → r ≡ None → (n ≡ 0 → ⊥) → k ≡ v * tens d → Some k ≡ answer
     wholing-end f z q = sym (u.makes ∙ rw (next-over ρ x i e f, zero-add n, le-leb 1 n (omega arith), le-leb n w u.few, q, add-zero))
 
-    module _ {b j : ℕ} (f : r ≡ Octet b j) where
+    module _ {b j : ℕ} (f : r ≡ Some (b, j)) where
       wholing-steps : Stepped ρ x i b j
       wholing-steps = next-steps ρ x i e f
 
@@ -177,22 +170,22 @@ module _ {ρ w d : ℕ} {answer : Weight} {x : List ℕ} {i n v : ℕ} (u : Whol
       wholing-less = let w = wholing-steps in omega arith
 
       module _ {t : Bool} (a : t ≡ mark b) where
-        pub wholing-bare : t ≡ true → n ≡ 0 → Unweighed ≡ answer
+        pub wholing-bare : t ≡ true → n ≡ 0 → None ≡ answer
         wholing-bare o z = sym (u.makes ∙ rw (wholing-steps.gives, ← a, o, z))
 
-        pub wholing-mark : {y : Weight} → t ≡ true → (n ≡ 0 → ⊥) → y ≡ fraction_of v d (content ρ (drop j x)) → y ≡ answer
+        pub wholing-mark : {y : Option ℕ} → t ≡ true → (n ≡ 0 → ⊥) → y ≡ fraction_of v d (content ρ (drop j x)) → y ≡ answer
         wholing-mark o z q = q ∙ sym (u.makes ∙ rw (wholing-steps.gives, ← a, o, zero-add n, le-leb 1 n (omega arith), le-leb n w u.few))
 
         module _ (o : t ≡ false) where
-          pub wholing-below : b < 48 → Unweighed ≡ answer
+          pub wholing-below : b < 48 → None ≡ answer
           wholing-below h = sym (u.makes ∙ rw (wholing-steps.gives, ← a, o, lt-leb 48 b h))
 
           module _ (l : 48 ≤ b) where
-            pub wholing-above : 57 < b → Unweighed ≡ answer
+            pub wholing-above : 57 < b → None ≡ answer
             wholing-above h = sym (u.makes ∙ rw (wholing-steps.gives, ← a, o, le-leb 48 b l, lt-leb b 57 h))
 
             module _ (h : b ≤ 57) where
-              pub wholing-long : w ≤ n → Unweighed ≡ answer
+              pub wholing-long : w ≤ n → None ≡ answer
               wholing-long m =
                   let k : w < suc (length (before (content ρ (drop j x)))) + n = omega arith in
                   sym (u.makes ∙ rw (wholing-steps.gives, ← a, o, le-leb 48 b l, le-leb b 57 h, lt-leb _ w k, and-false, and-false))
@@ -213,11 +206,11 @@ module _ {ρ w d : ℕ} {answer : Weight} {x : List ℕ} {i n v : ℕ} (u : Whol
 
 -- ---- the minus before them
 
-module _ (ρ : ℕ) (x : List ℕ) {r : Next} (e : r ≡ next_of ρ x 0) where
-  pub minus-over : r ≡ Over → Unsigned (content ρ x) 0 (content ρ x)
+module _ (ρ : ℕ) (x : List ℕ) {r : Option (ℕ × ℕ)} (e : r ≡ next_of ρ x 0) where
+  pub minus-over : r ≡ None → Unsigned (content ρ x) 0 (content ρ x)
   minus-over f = let n = next-over ρ x 0 e f in record { rest = rw n; minus = rw n }
 
-  module _ {b j : ℕ} (f : r ≡ Octet b j) where
+  module _ {b j : ℕ} (f : r ≡ Some (b, j)) where
     minus-steps : Stepped ρ x 0 b j
     minus-steps = next-steps ρ x 0 e f
 
@@ -227,11 +220,11 @@ module _ (ρ : ℕ) (x : List ℕ) {r : Next} (e : r ≡ next_of ρ x 0) where
     pub minus-none : (b ≡ 45 → ⊥) → Unsigned (content ρ x) 0 (content ρ x)
     minus-none h = record { rest = rw (minus-steps.gives, ne_eqb b 45 h); minus = rw (minus-steps.gives, ne_eqb b 45 h) }
 
-weight-known : (b : Bool) (n k : ℕ) → Weighs n ≡ weight_is b k → (b ≡ true) × (n ≡ k)
+weight-known : (b : Bool) (n k : ℕ) → Some n ≡ weight_is b k → (b ≡ true) × (n ≡ k)
 weight-known true n k e = let p : n ≡ k = cc in (refl, p)
 weight-known false n k e = let z : ◌≡◌ {A = ℕ} 0 1 = cc in let y : ⊥ = omega arith in absurd y
 
-weight-lacks : (b : Bool) (k : ℕ) → Unweighed ≡ weight_is b k → b ≡ false
+weight-lacks : (b : Bool) (k : ℕ) → None ≡ weight_is b k → b ≡ false
 weight-lacks true k e = cc
 weight-lacks false k e = refl
 
@@ -249,41 +242,41 @@ module _ (w d : ℕ) where
           absurd n
       by false e = record { rest = rw e; minus = sym e }
 
-  pub weight-absent : (c : List ℕ) {y : Weight} → y ≡ weight_is (weight_right (shape w d) c) (weight (shape w d) c) → y ≡ Unweighed → weight_right (shape w d) c ≡ false
+  pub weight-absent : (c : List ℕ) {y : Option ℕ} → y ≡ weight_is (weight_right (shape w d) c) (weight (shape w d) c) → y ≡ None → weight_right (shape w d) c ≡ false
   weight-absent c e f = weight-lacks (weight_right (shape w d) c) (weight (shape w d) c) (sym f ∙ e)
 
   pub amount-absent : (ρ : ℕ) (x : List ℕ) {from : ℕ} → Unsigned (content ρ x) from (content ρ (drop from x)) → from ≡ 0 → weight_right (shape w d) (content ρ x) ≡ false →
-      Bad ≡ amount_is (amount_right (shape w d) (content ρ x)) (grams (shape w d) (content ρ x))
+      None ≡ amount_is (amount_right (shape w d) (content ρ x)) (grams (shape w d) (content ρ x))
   amount-absent ρ x u z h =
       let s : content ρ x ≡ unsigned (content ρ x) = sym (ap (λ (i : ℕ). content ρ (drop i x)) z) ∙ u.rest in
       let k : weight_right (shape w d) (unsigned (content ρ x)) ≡ false = sym (ap (weight_right (shape w d)) s) ∙ h in
       rw k
 
 -- a weight behind it, or all of it
-module _ (w d : ℕ) {c s : List ℕ} {from : ℕ} (u : Unsigned c from s) {y : Weight} (e : y ≡ weight_is (weight_right (shape w d) s) (weight (shape w d) s)) where
+module _ (w d : ℕ) {c s : List ℕ} {from : ℕ} (u : Unsigned c from s) {y : Option ℕ} (e : y ≡ weight_is (weight_right (shape w d) s) (weight (shape w d) s)) where
   weighed : y ≡ weight_is (weight_right (shape w d) (unsigned c)) (weight (shape w d) (unsigned c))
   weighed = e ∙ ap (λ (z : List ℕ). weight_is (weight_right (shape w d) z) (weight (shape w d) z)) u.rest
 
-  pub amount-none : y ≡ Unweighed → Bad ≡ amount_is (amount_right (shape w d) c) (grams (shape w d) c)
+  pub amount-none : y ≡ None → None ≡ amount_is (amount_right (shape w d) c) (grams (shape w d) c)
   amount-none f = rw (weight-lacks (weight_right (shape w d) (unsigned c)) (weight (shape w d) (unsigned c)) (sym f ∙ weighed))
 
-  module _ {n : ℕ} (f : y ≡ Weighs n) where
+  module _ {n : ℕ} (f : y ≡ Some n) where
     known : (weight_right (shape w d) (unsigned c) ≡ true) × (n ≡ weight (shape w d) (unsigned c))
     known = weight-known (weight_right (shape w d) (unsigned c)) n (weight (shape w d) (unsigned c)) (sym f ∙ weighed)
 
-    pub amount-plain : from ≡ 0 → Grams n false ≡ amount_is (amount_right (shape w d) c) (grams (shape w d) c)
+    pub amount-plain : from ≡ 0 → Some (n, false) ≡ amount_is (amount_right (shape w d) c) (grams (shape w d) c)
     amount-plain z = let m : reversed c ≡ false = sym u.minus ∙ rw z in rw (m, known.0, known.1)
 
     -- minus zero is zero
-    pub amount-back : (from ≡ 0 → ⊥) → Grams n (ltb 0 n) ≡ amount_is (amount_right (shape w d) c) (grams (shape w d) c)
+    pub amount-back : (from ≡ 0 → ⊥) → Some (n, ltb 0 n) ≡ amount_is (amount_right (shape w d) c) (grams (shape w d) c)
     amount-back z = let m : reversed c ≡ true = sym u.minus ∙ lt-ltb 0 from (omega arith) in rw (m, known.0, ← known.1) (by n)
       where
-        by : (k : ℕ) → Grams k (ltb 0 k) ≡ amount_is true (signed true k)
+        by : (k : ℕ) → Some (k, ltb 0 k) ≡ amount_is true (signed true k)
         by zero = refl
         by (suc k) = rw (lt-ltb 0 (suc k) (omega arith))
 
-pub amount-first : (w d : ℕ) (c : List ℕ) {y : Weight} {n : ℕ} → y ≡ weight_is (weight_right (shape w d) c) (weight (shape w d) c) → y ≡ Weighs n →
-    Grams n false ≡ amount_is (amount_right (shape w d) c) (grams (shape w d) c)
+pub amount-first : (w d : ℕ) (c : List ℕ) {y : Option ℕ} {n : ℕ} → y ≡ weight_is (weight_right (shape w d) c) (weight (shape w d) c) → y ≡ Some n →
+    Some (n, false) ≡ amount_is (amount_right (shape w d) c) (grams (shape w d) c)
 amount-first w d c {y} {n} e f =
     let k = weight-known (weight_right (shape w d) c) n (weight (shape w d) c) (sym f ∙ e) in
     amount-plain w d (first-digit w d c k.0) e f refl
@@ -291,14 +284,14 @@ amount-first w d c {y} {n} e f =
 -- ---- units
 
 module _ (c : List ℕ) (kgm tne : ℕ) {p : Bool} (e : p ≡ same c (octets "KGM")) where
-  pub unit-kgm : p ≡ true → Of (record { whole = kgm; decimals = 3 }) ≡ unit_is (unit c (shape kgm 3) (shape tne 6))
+  pub unit-kgm : p ≡ true → Some (record { whole = kgm; decimals = 3 }) ≡ unit_is (unit c (shape kgm 3) (shape tne 6))
   unit-kgm h = rw (← e, h)
 
   module _ {q : Bool} (f : q ≡ same c (octets "TNE")) (h : p ≡ false) where
-    pub unit-tne : q ≡ true → Of (record { whole = tne; decimals = 6 }) ≡ unit_is (unit c (shape kgm 3) (shape tne 6))
+    pub unit-tne : q ≡ true → Some (record { whole = tne; decimals = 6 }) ≡ unit_is (unit c (shape kgm 3) (shape tne 6))
     unit-tne l = rw (← e, h, ← f, l)
 
-    pub unit-none : q ≡ false → Unknown ≡ unit_is (unit c (shape kgm 3) (shape tne 6))
+    pub unit-none : q ≡ false → None ≡ unit_is (unit c (shape kgm 3) (shape tne 6))
     unit-none l = rw (← e, h, ← f, l)
 
 -- ---- for callers: what an answer says, and that it is below 10 to the 18
@@ -320,7 +313,7 @@ digits-below n s h =
     let o = one-mul (tens (length s)) in
     (omega arith, l)
 
-fraction-below : (d : ℕ) (o : Option (List ℕ)) → T (fraction_right d o) → fraction d o < tens d
+fraction-below : (d : ℕ) (o : Maybe (List ℕ)) → T (fraction_right d o) → fraction d o < tens d
 fraction-below d none h = tens-pos d
 fraction-below d (some f) h =
     let k = digits-below d f h in
@@ -359,110 +352,110 @@ magnitude-signed true (suc n) = refl
 magnitude-signed false n = refl
 
 -- what stands in an amount is a sign and a magnitude of its grams
-grams-known : (b : Bool) (n : ℕ) (t : Bool) (z : number.Grams) → Grams n t ≡ amount_is b z → (b ≡ true) × (n ≡ magnitude z) × (t ≡ below z)
-grams-known true n t z e = let p : n ≡ magnitude z = cc in let q : t ≡ below z = cc in (refl, p, q)
-grams-known false n t z e = let i : ◌≡◌ {A = ℕ} 0 1 = cc in let y : ⊥ = omega arith in absurd y
+grams-known : (b : Bool) (n : ℕ) (t : Bool) (z : number.Grams) → Some (n, t) ≡ amount_is b z → (b ≡ true) × (n ≡ magnitude z) × (t ≡ below z)
+grams-known true n t z e = let w = same_Some _ _ e in (refl, ap (λ q. q.0) w, ap (λ q. q.1) w)
+grams-known false n t z e = absurd (none-some _ (sym e))
 
-bad-known : (b : Bool) (z : number.Grams) → Bad ≡ amount_is b z → b ≡ false
+bad-known : (b : Bool) (z : number.Grams) → None ≡ amount_is b z → b ≡ false
 bad-known true z e = cc
 bad-known false z e = refl
 
-module _ (w d : ℕ) (c : List ℕ) {r : Amount} (e : r ≡ amount_is (amount_right (shape w d) c) (grams (shape w d) c)) where
-  pub amount-grams : {n : ℕ} {t : Bool} → r ≡ Grams n t → (amount_right (shape w d) c ≡ true) × (n ≡ magnitude (grams (shape w d) c)) × (t ≡ below (grams (shape w d) c))
+module _ (w d : ℕ) (c : List ℕ) {r : Option (ℕ × Bool)} (e : r ≡ amount_is (amount_right (shape w d) c) (grams (shape w d) c)) where
+  pub amount-grams : {n : ℕ} {t : Bool} → r ≡ Some (n, t) → (amount_right (shape w d) c ≡ true) × (n ≡ magnitude (grams (shape w d) c)) × (t ≡ below (grams (shape w d) c))
   amount-grams {n} {t} h = grams-known (amount_right (shape w d) c) n t (grams (shape w d) c) (sym h ∙ e)
 
-  pub amount-bad : r ≡ Bad → amount_right (shape w d) c ≡ false
+  pub amount-bad : r ≡ None → amount_right (shape w d) c ≡ false
   amount-bad h = bad-known (amount_right (shape w d) c) (grams (shape w d) c) (sym h ∙ e)
 
   -- the number itself, and that it is no minus zero
-  amount-signed : {n : ℕ} {t : Bool} → r ≡ Grams n t → (signed t n ≡ grams (shape w d) c) × (below (signed t n) ≡ t)
+  amount-signed : {n : ℕ} {t : Bool} → r ≡ Some (n, t) → (signed t n ≡ grams (shape w d) c) × (below (signed t n) ≡ t)
   amount-signed {n} {t} h =
       let k = amount-grams h in
       let p : signed t n ≡ grams (shape w d) c = ap (λ (b : Bool). signed b n) k.2 ∙ ap (signed (below (grams (shape w d) c))) k.1 ∙ signed_back (grams (shape w d) c) in
       (p, ap below p ∙ sym k.2)
 
-  amount-weight : {n : ℕ} {t : Bool} → r ≡ Grams n t → n ≡ weight (shape w d) (unsigned c)
+  amount-weight : {n : ℕ} {t : Bool} → r ≡ Some (n, t) → n ≡ weight (shape w d) (unsigned c)
   amount-weight h = (amount-grams h).1 ∙ magnitude-signed (reversed c) (weight (shape w d) (unsigned c))
 
-  amount-right : {n : ℕ} {t : Bool} → r ≡ Grams n t → T (weight_right (shape w d) (unsigned c))
+  amount-right : {n : ℕ} {t : Bool} → r ≡ Some (n, t) → T (weight_right (shape w d) (unsigned c))
   amount-right h = rw (amount-grams h).0 tt
 
-  pub amount-fits : {n : ℕ} {t : Bool} → (w ≤ 12) × (d ≤ 6) → r ≡ Grams n t → n < 1000000000000000000
+  pub amount-fits : {n : ℕ} {t : Bool} → (w ≤ 12) × (d ≤ 6) → r ≡ Some (n, t) → n < 1000000000000000000
   amount-fits l h = rw (amount-weight h) (weight-fits w d (unsigned c) l (amount-right h))
 
-  amount-below : {n : ℕ} {t : Bool} → r ≡ Grams n t → n < tens (w + d)
+  amount-below : {n : ℕ} {t : Bool} → r ≡ Some (n, t) → n < tens (w + d)
   amount-below h = rw (amount-weight h) (weight-below w d (unsigned c) (amount-right h))
 
-unit-known : (o : Option Shape) {f : Form} → Of f ≡ unit_is o → o ≡ some (shape f.whole f.decimals)
+unit-known : (o : Maybe Shape) {f : Form} → Some f ≡ unit_is o → o ≡ some (shape f.whole f.decimals)
 unit-known none e = cc
 unit-known (some (shape w d)) {f} e =
     let p : record { whole = w; decimals = d } ≡ f = cc in
     rw (← p)
 
-unit-lacks : (o : Option Shape) → Unknown ≡ unit_is o → o ≡ none
+unit-lacks : (o : Maybe Shape) → None ≡ unit_is o → o ≡ none
 unit-lacks none e = refl
 unit-lacks (some (shape w d)) e = cc
 
-module _ (u : List ℕ) (kgm tne : ℕ) {r : amounts.Unit} (e : r ≡ unit_is (unit u (shape kgm 3) (shape tne 6))) where
-  pub unit-of : {f : Form} → r ≡ Of f → unit u (shape kgm 3) (shape tne 6) ≡ some (shape f.whole f.decimals)
+module _ (u : List ℕ) (kgm tne : ℕ) {r : Option Form} (e : r ≡ unit_is (unit u (shape kgm 3) (shape tne 6))) where
+  pub unit-of : {f : Form} → r ≡ Some f → unit u (shape kgm 3) (shape tne 6) ≡ some (shape f.whole f.decimals)
   unit-of h = unit-known (unit u (shape kgm 3) (shape tne 6)) (sym h ∙ e)
 
-  pub unit-unknown : r ≡ Unknown → unit u (shape kgm 3) (shape tne 6) ≡ none
+  pub unit-unknown : r ≡ None → unit u (shape kgm 3) (shape tne 6) ≡ none
   unit-unknown h = unit-lacks (unit u (shape kgm 3) (shape tne 6)) (sym h ∙ e)
 
   -- the form is within what `amount_in` asks
-  pub unit-fits : {f : Form} → (kgm ≤ 12) × (tne ≤ 12) → r ≡ Of f → (f.whole ≤ 12) × (f.decimals ≤ 6)
+  pub unit-fits : {f : Form} → (kgm ≤ 12) × (tne ≤ 12) → r ≡ Some f → (f.whole ≤ 12) × (f.decimals ≤ 6)
   unit-fits {f} l h = by-test (same u (octets "KGM")) (same u (octets "TNE")) (sym h ∙ e)
     where
-      form : {w d : ℕ} → (w ≤ 12) × (d ≤ 6) → Of f ≡ unit_is (some (shape w d)) → (f.whole ≤ 12) × (f.decimals ≤ 6)
+      form : {w d : ℕ} → (w ≤ 12) × (d ≤ 6) → Some f ≡ unit_is (some (shape w d)) → (f.whole ≤ 12) × (f.decimals ≤ 6)
       form {w} {d} k e = let p : record { whole = w; decimals = d } ≡ f = cc in rw (← p) k
 
-      by-test : (a b : Bool) → Of f ≡ unit_is (cond a (some (shape kgm 3)) (cond b (some (shape tne 6)) none)) → (f.whole ≤ 12) × (f.decimals ≤ 6)
+      by-test : (a b : Bool) → Some f ≡ unit_is (cond a (some (shape kgm 3)) (cond b (some (shape tne 6)) none)) → (f.whole ≤ 12) × (f.decimals ≤ 6)
       by-test true b e = form (l.0, omega arith) e
       by-test false true e = form (l.1, omega arith) e
       by-test false false e = let z : ◌≡◌ {A = ℕ} 0 1 = cc in let y : ⊥ = omega arith in absurd y
 
   -- all its digits
-  unit-digits : {f : Form} {n : ℕ} → (kgm + 3 ≡ n) × (tne + 6 ≡ n) → r ≡ Of f → f.whole + f.decimals ≡ n
+  unit-digits : {f : Form} {n : ℕ} → (kgm + 3 ≡ n) × (tne + 6 ≡ n) → r ≡ Some f → f.whole + f.decimals ≡ n
   unit-digits {f} {n} l h = by-test (same u (octets "KGM")) (same u (octets "TNE")) (sym h ∙ e)
     where
-      form : {w d : ℕ} → w + d ≡ n → Of f ≡ unit_is (some (shape w d)) → f.whole + f.decimals ≡ n
+      form : {w d : ℕ} → w + d ≡ n → Some f ≡ unit_is (some (shape w d)) → f.whole + f.decimals ≡ n
       form {w} {d} k e = let p : record { whole = w; decimals = d } ≡ f = cc in rw (← p) k
 
-      by-test : (a b : Bool) → Of f ≡ unit_is (cond a (some (shape kgm 3)) (cond b (some (shape tne 6)) none)) → f.whole + f.decimals ≡ n
+      by-test : (a b : Bool) → Some f ≡ unit_is (cond a (some (shape kgm 3)) (cond b (some (shape tne 6)) none)) → f.whole + f.decimals ≡ n
       by-test true b e = form l.0 e
       by-test false true e = form l.1 e
       by-test false false e = let z : ◌≡◌ {A = ℕ} 0 1 = cc in let y : ⊥ = omega arith in absurd y
 
   -- an amount c in that unit, as loads and control totals ask for it
-  pub unitless : (c : List ℕ) → r ≡ Unknown →
+  pub unitless : (c : List ℕ) → r ≡ None →
       (right_by (unit u (shape kgm 3) (shape tne 6)) c ≡ true) × (control_by (unit u (shape kgm 3) (shape tne 6)) c ≡ false) × (load_by (unit u (shape kgm 3) (shape tne 6)) c ≡ none)
   unitless c h =
       let o = unit-unknown h in
-      (ap (λ (y : Option Shape). right_by y c) o, ap (λ (y : Option Shape). control_by y c) o, ap (λ (y : Option Shape). load_by y c) o)
+      (ap (λ (y : Maybe Shape). right_by y c) o, ap (λ (y : Maybe Shape). control_by y c) o, ap (λ (y : Maybe Shape). load_by y c) o)
 
-  module _ (c : List ℕ) {f : Form} {y : Amount} (h : r ≡ Of f)
+  module _ (c : List ℕ) {f : Form} {y : Option (ℕ × Bool)} (h : r ≡ Some f)
       (d : y ≡ amount_is (amount_right (shape f.whole f.decimals) c) (grams (shape f.whole f.decimals) c)) where
-    pub weighs : {n : ℕ} {t : Bool} → (kgm ≤ 12) × (tne ≤ 12) → y ≡ Grams n t →
+    pub weighs : {n : ℕ} {t : Bool} → (kgm ≤ 12) × (tne ≤ 12) → y ≡ Some (n, t) →
         (right_by (unit u (shape kgm 3) (shape tne 6)) c ≡ true) × (control_by (unit u (shape kgm 3) (shape tne 6)) c ≡ true) ×
         (load_by (unit u (shape kgm 3) (shape tne 6)) c ≡ some (signed t n)) × (below (signed t n) ≡ t) × (n < 1000000000000000000)
     weighs {n} {t} l q =
         let o = unit-of h in
         let a = amount-grams f.whole f.decimals c d q in
         let b = amount-signed f.whole f.decimals c d q in (
-          ap (λ (z : Option Shape). right_by z c) o ∙ a.0,
-          ap (λ (z : Option Shape). control_by z c) o ∙ a.0,
-          ap (λ (z : Option Shape). load_by z c) o ∙ ap {B = Option number.Grams} (λ z. some z) (sym b.0),
+          ap (λ (z : Maybe Shape). right_by z c) o ∙ a.0,
+          ap (λ (z : Maybe Shape). control_by z c) o ∙ a.0,
+          ap (λ (z : Maybe Shape). load_by z c) o ∙ ap {B = Maybe number.Grams} (λ z. some z) (sym b.0),
           b.1,
           amount-fits f.whole f.decimals c d (unit-fits l h) q,
         )
 
-    pub weighs-not : y ≡ Bad → (right_by (unit u (shape kgm 3) (shape tne 6)) c ≡ false) × (control_by (unit u (shape kgm 3) (shape tne 6)) c ≡ false)
+    pub weighs-not : y ≡ None → (right_by (unit u (shape kgm 3) (shape tne 6)) c ≡ false) × (control_by (unit u (shape kgm 3) (shape tne 6)) c ≡ false)
     weighs-not q =
         let o = unit-of h in
         let a = amount-bad f.whole f.decimals c d q in
-        (ap (λ (z : Option Shape). right_by z c) o ∙ a, ap (λ (z : Option Shape). control_by z c) o ∙ a)
+        (ap (λ (z : Maybe Shape). right_by z c) o ∙ a, ap (λ (z : Maybe Shape). control_by z c) o ∙ a)
 
     -- a number of as many digits as the shapes have
-    pub weighs-below : {n k : ℕ} {t : Bool} → (kgm + 3 ≡ k) × (tne + 6 ≡ k) → y ≡ Grams n t → n < tens k
+    pub weighs-below : {n k : ℕ} {t : Bool} → (kgm + 3 ≡ k) × (tne + 6 ≡ k) → y ≡ Some (n, t) → n < tens k
     weighs-below {n} {k} l q = rw (← unit-digits l h) (amount-below f.whole f.decimals c d q)

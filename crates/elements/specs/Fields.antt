@@ -1,17 +1,13 @@
 -- What one pass over the pieces of a segment notes of it. Eight marks for an element: how many components its first repeat has, 1 if it
 -- repeats, and start and end of each of its first three components.
-use Rattle.std.specs.Prelude.{ℕ, suc, ◌+◌, ◌*◌, ◌-◌, ◌≤◌, ◌<◌, ◌≡◌, List, [], Bool, true, false, cond, ◌||◌, eqb, leb, ltb, length, get_or, set}
+use Rattle.elements.specs.declared.fields.Shape.{Shape}
+use Rattle.std.specs.Prelude.{ℕ, suc, ◌+◌, ◌*◌, ◌-◌, ◌≤◌, ◌<◌, ◌≡◌, List, [], Bool, true, false, cond, ◌||◌, eqb, leb, ltb, length, get_or, set, Option, Some, None}
 use Rattle.syntax.specs.Segment.{Piece, pieces_at, at_element, at_component, components, repeats, elements, any_repeats}
 use Rattle.syntax.specs.Scanning.{cut_at}
 use Rattle.syntax.specs.Clean.{sound}
 use Rattle.syntax.specs.declared.Service.{Service}
 use Rattle.syntax.specs.declared.Syntax.{Syntax}
 use Rattle.syntax.specs.declared.cutting.Cut.TheVariants.{Ends}
-use Rattle.elements.specs.declared.fields.Past.{Past}
-use Rattle.elements.specs.declared.fields.Past.TheVariants.{Behind, Broken}
-use Rattle.elements.specs.declared.fields.Pass.{Pass}
-use Rattle.elements.specs.declared.fields.Pass.TheVariants.{Whole, Broken as Torn}
-use Rattle.syntax.specs.declared.reading.Span.TheVariants.{Part}
 
 -- what is left of a segment: nothing, or what is read from i
 abbrev pub rest : Service → List ℕ → Bool → ℕ → List Piece
@@ -30,24 +26,24 @@ pub record Through (y : Syntax) (s : List ℕ) (i : ℕ) (at : ℕ) (ends : Bool
   pub end : ends ≡ true → (1 ≤ at) × (cut_at y s i ≡ Ends (at - 1))
 
 -- .. or it has no end, or an octet outside
-abbrev pub PassedAs : Syntax → List ℕ → ℕ → Past → Type 0
-PassedAs y s i (Behind at ends b) = Passed y.service s i at ends b × Through y s i at ends
-PassedAs y s i Broken = sound (cut_at y s i) ≡ false
+abbrev pub PassedAs : Syntax → List ℕ → ℕ → Option (ℕ × Bool × Bool) → Type 0
+PassedAs y s i (Some (at, ends, b)) = Passed y.service s i at ends b × Through y s i at ends
+PassedAs y s i None = sound (cut_at y s i) ≡ false
 
 -- the same of an element that repeats
-abbrev pub repeating_as : Past → Past
-repeating_as (Behind at ends b) = Behind at ends true
-repeating_as Broken = Broken
+abbrev pub repeating_as : Option (ℕ × Bool × Bool) → Option (ℕ × Bool × Bool)
+repeating_as (Some (at, ends, b)) = Some (at, ends, true)
+repeating_as None = None
 
 -- behind an element whose first repeat ends at q, before a separator of kind k
-pub record Again (y : Syntax) (s : List ℕ) (i : ℕ) (r : Past) : Type 0 where
-  pub rest : Past
+pub record Again (y : Syntax) (s : List ℕ) (i : ℕ) (r : Option (ℕ × Bool × Bool)) : Type 0 where
+  pub rest : Option (ℕ × Bool × Bool)
   pub passed : PassedAs y s i rest
   pub same : r ≡ repeating_as rest
 
-pub record ClosedAs (y : Syntax) (s : List ℕ) (q k : ℕ) (r : Past) : Type 0 where
+pub record ClosedAs (y : Syntax) (s : List ℕ) (q k : ℕ) (r : Option (ℕ × Bool × Bool)) : Type 0 where
   pub again : k ≡ 3 → Again y s (q + 1) r
-  pub once : (k ≡ 3 → ⊥) → r ≡ Behind (q + 1) (eqb k 5) false
+  pub once : (k ≡ 3 → ⊥) → r ≡ Some (q + 1, eqb k 5, false)
 
 -- the marks of its number of components, and of whether it repeats
 abbrev pub closed_marks : List ℕ → ℕ → ℕ → ℕ → List ℕ
@@ -61,7 +57,7 @@ placed m b n x z = cond (ltb n 3) (set (set m (b + 2 + 2 * n) x) (b + 2 + 2 * n 
 pub record Noted (ps : List Piece) (m : List ℕ) (b : ℕ) : Type 0 where
   pub parts : get_or m b 0 ≡ components ps
   pub repeated : eqb (get_or m (b + 1) 0) 1 ≡ repeats ps
-  pub spans : (c : ℕ) → c ≤ 2 → c < components ps → Part (get_or m (b + 2 + 2 * c) 0) (get_or m (b + 2 + 2 * c + 1) 0) ≡ at_component c ps
+  pub spans : (c : ℕ) → c ≤ 2 → c < components ps → Some (get_or m (b + 2 + 2 * c) 0, get_or m (b + 2 + 2 * c + 1) 0) ≡ at_component c ps
 
 abbrev pub Kept : ℕ → List ℕ → List ℕ → Type 0
 Kept b m₀ m = (x : ℕ) → x < b → get_or m x 0 ≡ get_or m₀ x 0
@@ -86,13 +82,13 @@ pub record TakenOne (σ : Service) (s : List ℕ) (i : ℕ) (at : ℕ) (ends : B
   pub kept : Kept (8 * n) m₀ m
   pub spared : Spared (8 * n) m₀ m
 
-abbrev pub TakenAs : Syntax → List ℕ → ℕ → Past → List ℕ → List ℕ → ℕ → Type 0
-TakenAs y s i (Behind at ends c) m₀ m b = Taken y.service s i at ends c m₀ m b × Through y s i at ends
-TakenAs y s i Broken m₀ m b = (sound (cut_at y s i) ≡ false) × (length m ≡ 40)
+abbrev pub TakenAs : Syntax → List ℕ → ℕ → Option (ℕ × Bool × Bool) → List ℕ → List ℕ → ℕ → Type 0
+TakenAs y s i (Some (at, ends, c)) m₀ m b = Taken y.service s i at ends c m₀ m b × Through y s i at ends
+TakenAs y s i None m₀ m b = (sound (cut_at y s i) ≡ false) × (length m ≡ 40)
 
-abbrev pub TakenOneAs : Syntax → List ℕ → ℕ → Past → List ℕ → List ℕ → ℕ → Type 0
-TakenOneAs y s i (Behind at ends c) m₀ m n = TakenOne y.service s i at ends c m₀ m n × Through y s i at ends
-TakenOneAs y s i Broken m₀ m n = (sound (cut_at y s i) ≡ false) × (length m ≡ 40)
+abbrev pub TakenOneAs : Syntax → List ℕ → ℕ → Option (ℕ × Bool × Bool) → List ℕ → List ℕ → ℕ → Type 0
+TakenOneAs y s i (Some (at, ends, c)) m₀ m n = TakenOne y.service s i at ends c m₀ m n × Through y s i at ends
+TakenOneAs y s i None m₀ m n = (sound (cut_at y s i) ≡ false) × (length m ≡ 40)
 
 -- no element from n on below p
 pub record Cleared (m : List ℕ) (n p : ℕ) : Type 0 where
@@ -110,9 +106,9 @@ pub record Fields (σ : Service) (s : List ℕ) (a : ℕ) (size : ℕ) (repeated
   pub marks : Marked σ s a m
 
 -- one pass over the segment at a: its end and its fields; or it has no end, or an octet outside
-abbrev pub FieldsAs : Syntax → List ℕ → ℕ → Pass → List ℕ → Type 0
-FieldsAs y s a (Whole e f) m = (cut_at y s a ≡ Ends e) × Fields y.service s a f.size f.repeats m
-FieldsAs y s a Torn m = (sound (cut_at y s a) ≡ false) × (length m ≡ 40)
+abbrev pub FieldsAs : Syntax → List ℕ → ℕ → Option (ℕ × Shape) → List ℕ → Type 0
+FieldsAs y s a (Some (e, f)) m = (cut_at y s a ≡ Ends e) × Fields y.service s a f.size f.repeats m
+FieldsAs y s a None m = (sound (cut_at y s a) ≡ false) × (length m ≡ 40)
 
 -- where component c of element p starts and ends by the marks; 0 and 0 if it is not there
 abbrev pub start_in : List ℕ → ℕ → ℕ → ℕ

@@ -1,5 +1,5 @@
 -- How the pass that notes a segment's fields goes, and what the marks give to those who look.
-use Rattle.std.specs.Prelude.{ℕ, zero, suc, ◌+◌, ◌*◌, ◌-◌, ◌≤◌, ◌<◌, List, [], ◌∷◌, ◌≡◌, refl, Bool, true, false, cond, ◌||◌, eqb, ltb, length, get_or, take, drop, set}
+use Rattle.std.specs.Prelude.{ℕ, zero, suc, ◌+◌, ◌*◌, ◌-◌, ◌≤◌, ◌<◌, List, [], ◌∷◌, ◌≡◌, refl, Bool, true, false, cond, ◌||◌, eqb, ltb, length, get_or, take, drop, set, Option, Some, None}
 use Rattle.std.proofs.Common.{arith, ap, sym, ◌∙◌, subst, true≢false, ltb-true, ltb-false, eqb-true, ne_eqb, lt-ltb, length-set, length-drop, drop_of_length-le, get_or-set_same, get_or-set_other}
 use Rattle.std.proofs.Math.Bool.{or-false, or-true, or_assoc}
 use Rattle.std.proofs.lemmas.Bool.{eqb-false}
@@ -9,19 +9,12 @@ use Rattle.syntax.specs.Service.{kind}
 use Rattle.syntax.proofs.SegmentLaws.{Stepped, edge-steps, edge-over, after}
 use Rattle.syntax.specs.declared.Service.{Service}
 use Rattle.syntax.specs.declared.Syntax.{Syntax}
-use Rattle.syntax.specs.declared.reading.Edge.{Edge}
-use Rattle.syntax.specs.declared.reading.Edge.TheVariants.{On, Off}
-use Rattle.syntax.specs.declared.reading.Span.{Span}
-use Rattle.syntax.specs.declared.reading.Span.TheVariants.{Part, Absent}
 use Rattle.syntax.specs.Scanning.{cut_at}
 use Rattle.syntax.specs.Clean.{sound, Clean, CleanEdge, TagAt}
 use Rattle.syntax.proofs.CleanLaws.{tidy-start, tidy-separator}
 use Rattle.syntax.specs.Classes.{class_of}
 use Rattle.syntax.specs.declared.cutting.Cut.TheVariants.{Ends}
 use Rattle.elements.specs.declared.fields.Shape.{Shape}
-use Rattle.elements.specs.declared.fields.Past.{Past}
-use Rattle.elements.specs.declared.fields.Past.TheVariants.{Behind, Broken}
-use Rattle.elements.specs.declared.fields.Pass.TheVariants.{Whole, Broken as Torn}
 use Rattle.elements.specs.Fields.{rest, Passed, Through, PassedAs, repeating_as, Again, ClosedAs, closed_marks, placed, Noted, Kept, Spared, Taken, TakenOne, TakenAs, TakenOneAs, Cleared, Marked, Fields, FieldsAs}
 
 -- ---- elements and components of a list of pieces
@@ -45,21 +38,21 @@ none-on ps m (suc d) k e h =
 pub no-element : (ps : List Piece) (m k : ℕ) → at_element m ps ≡ [] → m ≤ k → at_element k ps ≡ []
 no-element ps m k h l = none-on ps m (k - m) k (omega arith) h
 
-pub no_part : (ps : List Piece) (c : ℕ) → components ps ≤ c → at_component c ps ≡ Absent
+pub no_part : (ps : List Piece) (c : ℕ) → components ps ≤ c → at_component c ps ≡ None
 no_part [] c h = refl
 no_part (piece x z k ∷ ps) zero h = few (eqb k 2) h
   where
-    few : (t : Bool) → cond t (suc (components ps)) 1 ≤ 0 → Part x z ≡ Absent
+    few : (t : Bool) → cond t (suc (components ps)) 1 ≤ 0 → ◌≡◌ {A = Option (ℕ × ℕ)} (Some (x, z)) None
     few true h = let w : ⊥ = omega arith in absurd w
     few false h = let w : ⊥ = omega arith in absurd w
 no_part (piece x z k ∷ ps) (suc c) h = pick (eqb k 2) h (no_part ps c)
   where
-    pick : (t : Bool) → cond t (suc (components ps)) 1 ≤ suc c → (components ps ≤ c → at_component c ps ≡ Absent) → cond t (at_component c ps) Absent ≡ Absent
+    pick : (t : Bool) → cond t (suc (components ps)) 1 ≤ suc c → (components ps ≤ c → at_component c ps ≡ None) → cond t (at_component c ps) None ≡ None
     pick true h r = r (omega arith)
     pick false h r = refl
 
-same-part : {x z u w : ℕ} → x ≡ u → z ≡ w → Part x z ≡ Part u w
-same-part e d = cc
+same-part : {x z u w : ℕ} → x ≡ u → z ≡ w → ◌≡◌ {A = Option (ℕ × ℕ)} (Some (x, z)) (Some (u, w))
+same-part e d = rw (e, d) refl
 
 -- ---- the spans lie in the input
 
@@ -67,9 +60,9 @@ pub record In (n : ℕ) (x z : ℕ) : Type 0 where
   pub order : x ≤ z
   pub end : z < n
 
-abbrev pub SpanIn : ℕ → Span → Type 0
-SpanIn n (Part x z) = In n x z
-SpanIn n Absent = Unit {0}
+abbrev pub SpanIn : ℕ → Option (ℕ × ℕ) → Type 0
+SpanIn n (Some (x, z)) = In n x z
+SpanIn n None = Unit {0}
 
 abbrev AllIn : ℕ → List Piece → Type 0
 AllIn n [] = Unit {0}
@@ -100,7 +93,7 @@ span-in n c [] h = tt
 span-in n zero (piece x z k ∷ ps) h = h.0
 span-in n (suc c) (piece x z k ∷ ps) h = pick (eqb k 2) (span-in n c ps h.1)
   where
-    pick : (t : Bool) → SpanIn n (at_component c ps) → SpanIn n (cond t (at_component c ps) Absent)
+    pick : (t : Bool) → SpanIn n (at_component c ps) → SpanIn n (cond t (at_component c ps) None)
     pick true u = u
     pick false u = tt
 
@@ -111,7 +104,7 @@ component-in σ s a p c = span-in (length s) c (at_element p (pieces_at σ s a))
     pick true e = let h = ltb-true a (length s) e in let w = length-drop a s in pieces-in σ (length s) (drop a s) false a a (omega arith) (omega arith)
     pick false e = rw (drop_of_length-le s (ltb-false a (length s) e)) tt
 
-pub part_in : (σ : Service) (s : List ℕ) (a p c : ℕ) {x z : ℕ} → Part x z ≡ component_at σ s a p c → In (length s) x z
+pub part_in : (σ : Service) (s : List ℕ) (a p c : ℕ) {x z : ℕ} → Some (x, z) ≡ component_at σ s a p c → In (length s) x z
 part_in σ s a p c e = subst (SpanIn (length s)) (sym e) (component-in σ s a p c)
 
 -- ---- within an element that starts at a: it goes on at j. b: it repeats on the way
@@ -127,10 +120,10 @@ pub inside-start : (y : Syntax) (s : List ℕ) (a : ℕ) → Inside y s a false 
 inside-start y s a = record { low = omega arith; next = refl; count = refl; any = refl; cuts = refl }
 
 -- a step of the cursor
-clean_at : (y : Syntax) (s : List ℕ) (j : ℕ) {q k : ℕ} {r : Edge} → CleanEdge y s j r → r ≡ On q k → Clean y s j q k
+clean_at : (y : Syntax) (s : List ℕ) (j : ℕ) {q k : ℕ} {r : Option (ℕ × ℕ)} → CleanEdge y s j r → r ≡ Some (q, k) → Clean y s j q k
 clean_at y s j e d = subst (CleanEdge y s j) d e
 
-clean-steps : (y : Syntax) (s : List ℕ) (j : ℕ) {q k : ℕ} {r : Edge} → CleanEdge y s j r → r ≡ On q k → Stepped y.service s j q k
+clean-steps : (y : Syntax) (s : List ℕ) (j : ℕ) {q k : ℕ} {r : Option (ℕ × ℕ)} → CleanEdge y s j r → r ≡ Some (q, k) → Stepped y.service s j q k
 clean-steps y s j e d = edge-steps y.service s j (clean_at y s j e d).edge refl
 
 through-on : {y : Syntax} {s : List ℕ} {i at : ℕ} → cut_at y s at ≡ cut_at y s i → Through y s i at false
@@ -144,11 +137,11 @@ through-end {y} {s} {i} {q} e =
 through-from : {y : Syntax} {s : List ℕ} {a i at : ℕ} {ends : Bool} → cut_at y s i ≡ cut_at y s a → Through y s i at ends → Through y s a at ends
 through-from e t = record { on = λ h. t.on h ∙ e; end = λ h. ((t.end h).0, sym e ∙ (t.end h).1) }
 
-module _ {y : Syntax} {s : List ℕ} {a j : ℕ} {b : Bool} (g : Inside y s a b j) {r : Edge} (e : CleanEdge y s j r) where
-  pub inside-over : r ≡ Off → sound (cut_at y s a) ≡ false
+module _ {y : Syntax} {s : List ℕ} {a j : ℕ} {b : Bool} (g : Inside y s a b j) {r : Option (ℕ × ℕ)} (e : CleanEdge y s j r) where
+  pub inside-over : r ≡ None → sound (cut_at y s a) ≡ false
   inside-over d = ap sound (sym g.cuts) ∙ subst (CleanEdge y s j) d e
 
-  module _ {q k : ℕ} (d : r ≡ On q k) where
+  module _ {q k : ℕ} (d : r ≡ Some (q, k)) where
     pub inside-fits : (j ≤ q) × (q < length s)
     inside-fits = let w = clean-steps y s j e d in (w.low, w.high)
 
@@ -179,10 +172,10 @@ module _ {y : Syntax} {s : List ℕ} {a j : ℕ} {b : Bool} (g : Inside y s a b 
           on = λ (h : true ≡ false). absurd (true≢false h);
         }
 
-    pub inside-next : k ≡ 4 → PassedAs y s a (Behind (q + 1) false b)
+    pub inside-next : k ≡ 4 → PassedAs y s a (Some (q + 1, false, b))
     inside-next t = (passed-next t, through-on (goes_on_lem (λ z. omega arith)))
 
-    pub inside-last : k ≡ 5 → PassedAs y s a (Behind (q + 1) true b)
+    pub inside-last : k ≡ 5 → PassedAs y s a (Some (q + 1, true, b))
     inside-last t = (passed-last t, through-end (ends-here t))
 
     pub inside-repeats : k ≡ 3 → Inside y s a true (q + 1)
@@ -268,7 +261,7 @@ module _ (m : List ℕ) (b n x z : ℕ) (h : length m ≡ 40) (room : b + 8 ≤ 
 
 -- the spans of n components are in the marks from b on
 abbrev pub Listed : List Piece → List ℕ → ℕ → ℕ → Type 0
-Listed ps m b n = (c : ℕ) → c ≤ 2 → c < n → Part (get_or m (b + 2 + 2 * c) 0) (get_or m (b + 2 + 2 * c + 1) 0) ≡ at_component c ps
+Listed ps m b n = (c : ℕ) → c ≤ 2 → c < n → Some (get_or m (b + 2 + 2 * c) 0, get_or m (b + 2 + 2 * c + 1) 0) ≡ at_component c ps
 
 pub done-long : (m : List ℕ) (b n v : ℕ) → length m ≡ 40 → length (set (set m b n) (b + 1) v) ≡ 40
 done-long m b n v h = length-set (set m b n) (b + 1) v ∙ length-set m b n ∙ h
@@ -324,11 +317,11 @@ noting-start y s a m b h =
     }
 
 module _ {y : Syntax} {s : List ℕ} {a : ℕ} {m₀ m : List ℕ} {b j n : ℕ} (g : Noting y s a m₀ m b j n) (room : b + 8 ≤ 40)
-    {r : Edge} (e : CleanEdge y s j r) where
-  pub noting-over : r ≡ Off → TakenAs y s a Broken m₀ m b
+    {r : Option (ℕ × ℕ)} (e : CleanEdge y s j r) where
+  pub noting-over : r ≡ None → TakenAs y s a None m₀ m b
   noting-over d = (inside-over g.inside e d, g.long)
 
-  module _ {q k : ℕ} (d : r ≡ On q k) where
+  module _ {q k : ℕ} (d : r ≡ Some (q, k)) where
     pub noting-fits : n < length s
     noting-fits = let w = clean-steps y s j e d in let u = w.low in let v = w.high in let f = g.few in omega arith
 
@@ -348,7 +341,7 @@ module _ {y : Syntax} {s : List ℕ} {a : ℕ} {m₀ m : List ℕ} {b j n : ℕ}
       repeating-on : repeats (pieces_at y.service s a) ≡ repeats (piece j q k ∷ after k (pieces_at y.service s (q + 1)))
       repeating-on = g.repeating ∙ ap repeats (clean-steps y s j e d).first
 
-      this : n ≤ 2 → Part (get_or m' (b + 2 + 2 * n) 0) (get_or m' (b + 2 + 2 * n + 1) 0) ≡ at_component n (pieces_at y.service s a)
+      this : n ≤ 2 → Some (get_or m' (b + 2 + 2 * n) 0, get_or m' (b + 2 + 2 * n + 1) 0) ≡ at_component n (pieces_at y.service s a)
       this l =
           let z : n ≡ n + 0 = omega arith in
           same-part (ap (λ (u : List ℕ). get_or u (b + 2 + 2 * n) 0) p ∙ placed-start m b n j q g.long room l)
@@ -358,7 +351,7 @@ module _ {y : Syntax} {s : List ℕ} {a : ℕ} {m₀ m : List ℕ} {b j n : ℕ}
       behind-on : Listed (pieces_at y.service s a) m' b (n + 1)
       behind-on c l h = pick (ltb c n) refl
         where
-          pick : (t : Bool) → ltb c n ≡ t → Part (get_or m' (b + 2 + 2 * c) 0) (get_or m' (b + 2 + 2 * c + 1) 0) ≡ at_component c (pieces_at y.service s a)
+          pick : (t : Bool) → ltb c n ≡ t → Some (get_or m' (b + 2 + 2 * c) 0, get_or m' (b + 2 + 2 * c + 1) 0) ≡ at_component c (pieces_at y.service s a)
           pick true o =
               let f = ltb-true c n o in
               same-part (ap (λ (u : List ℕ). get_or u (b + 2 + 2 * c) 0) p ∙ placed_below m b n j q g.long room (b + 2 + 2 * c) (omega arith))
@@ -367,7 +360,7 @@ module _ {y : Syntax} {s : List ℕ} {a : ℕ} {m₀ m : List ℕ} {b j n : ℕ}
           pick false o =
               let f = ltb-false c n o in
               let z : c ≡ n = omega arith in
-              subst (λ (c : ℕ). Part (get_or m' (b + 2 + 2 * c) 0) (get_or m' (b + 2 + 2 * c + 1) 0) ≡ at_component c (pieces_at y.service s a)) (sym z) (this (omega arith))
+              subst (λ (c : ℕ). Some (get_or m' (b + 2 + 2 * c) 0, get_or m' (b + 2 + 2 * c + 1) 0) ≡ at_component c (pieces_at y.service s a)) (sym z) (this (omega arith))
 
       pub noting-on : k ≡ 2 → Noting y s a m₀ m' b (q + 1) (n + 1)
       noting-on t =
@@ -392,8 +385,8 @@ module _ {y : Syntax} {s : List ℕ} {a : ℕ} {m₀ m : List ℕ} {b j n : ℕ}
         last : components (pieces_at y.service s a) ≡ n + 1
         last = parts-on ∙ rw (ne_eqb k 2 t)
 
-        noting-repeats : k ≡ 3 → (p : Past) → PassedAs y s (q + 1) p → TakenAs y s a (repeating_as p) m₀ (set (set m' b (n + 1)) (b + 1) 1) b
-        noting-repeats o (Behind at ends c) (w, x) = (
+        noting-repeats : k ≡ 3 → (p : Option (ℕ × Bool × Bool)) → PassedAs y s (q + 1) p → TakenAs y s a (repeating_as p) m₀ (set (set m' b (n + 1)) (b + 1) 1) b
+        noting-repeats o (Some (at, ends, c)) (w, x) = (
           record {
             pass = inside-skipped g.inside e d o w;
             long = done-long m' b (n + 1) 1 noting-long;
@@ -403,7 +396,7 @@ module _ {y : Syntax} {s : List ℕ} {a : ℕ} {m₀ m : List ℕ} {b j n : ℕ}
           },
           through-from (inside-repeats g.inside e d o).cuts x,
         )
-        noting-repeats o Broken w = (ap sound (sym (inside-repeats g.inside e d o).cuts) ∙ w, done-long m' b (n + 1) 1 noting-long)
+        noting-repeats o None w = (ap sound (sym (inside-repeats g.inside e d o).cuts) ∙ w, done-long m' b (n + 1) 1 noting-long)
 
         module _ (o : k ≡ 3 → ⊥) where
           once : false ≡ repeats (pieces_at y.service s a)
@@ -418,10 +411,10 @@ module _ {y : Syntax} {s : List ℕ} {a : ℕ} {m₀ m : List ℕ} {b j n : ℕ}
             spared = done-spared (pieces_at y.service s a) m' b (n + 1) 0 noting-long room m₀ spared-on;
           }
 
-          noting-once : TakenAs y s a (Behind (q + 1) (eqb k 5) false) m₀ (set (set m' b (n + 1)) (b + 1) 0) b
+          noting-once : TakenAs y s a (Some (q + 1, eqb k 5, false)) m₀ (set (set m' b (n + 1)) (b + 1) 0) b
           noting-once = by (eqb k 5) refl
             where
-              by : (x : Bool) → eqb k 5 ≡ x → TakenAs y s a (Behind (q + 1) x false) m₀ (set (set m' b (n + 1)) (b + 1) 0) b
+              by : (x : Bool) → eqb k 5 ≡ x → TakenAs y s a (Some (q + 1, x, false)) m₀ (set (set m' b (n + 1)) (b + 1) 0) b
               by true h = let v = inside-last g.inside e d (eqb-true k 5 h) in (taken-once v.0, v.1)
               by false h =
                   let w = clean-steps y s j e d in let l = w.least in let u = w.most in let f = eqb-false k 5 h in
@@ -430,21 +423,21 @@ module _ {y : Syntax} {s : List ℕ} {a : ℕ} {m₀ m : List ℕ} {b j n : ℕ}
         pub noting-closed-long : {m'' : List ℕ} → m'' ≡ closed_marks m' b (n + 1) k → length m'' ≡ 40
         noting-closed-long f = ap length f ∙ done-long m' b (n + 1) (cond (eqb k 3) 1 0) noting-long
 
-        pub noting-closed : {p : Past} {m'' : List ℕ} → ClosedAs y s q k p → m'' ≡ closed_marks m' b (n + 1) k → TakenAs y s a p m₀ m'' b
+        pub noting-closed : {p : Option (ℕ × Bool × Bool)} {m'' : List ℕ} → ClosedAs y s q k p → m'' ≡ closed_marks m' b (n + 1) k → TakenAs y s a p m₀ m'' b
         noting-closed {p} {m''} c f = rw f (by (eqb k 3) refl)
           where
             by : (x : Bool) → eqb k 3 ≡ x → TakenAs y s a p m₀ (set (set m' b (n + 1)) (b + 1) (cond x 1 0)) b
             by true h =
                 let o = eqb-true k 3 h in let z = c.again o in
-                subst (λ (p : Past). TakenAs y s a p m₀ (set (set m' b (n + 1)) (b + 1) 1) b) (sym z.same) (noting-repeats o z.rest z.passed)
+                subst (λ (p : Option (ℕ × Bool × Bool)). TakenAs y s a p m₀ (set (set m' b (n + 1)) (b + 1) 1) b) (sym z.same) (noting-repeats o z.rest z.passed)
             by false h =
                 let o = eqb-false k 3 h in
-                subst (λ (p : Past). TakenAs y s a p m₀ (set (set m' b (n + 1)) (b + 1) 0) b) (sym (c.once o)) (noting-once o)
+                subst (λ (p : Option (ℕ × Bool × Bool)). TakenAs y s a p m₀ (set (set m' b (n + 1)) (b + 1) 0) b) (sym (c.once o)) (noting-once o)
 
-pub closed-again : {y : Syntax} {s : List ℕ} {q k : ℕ} {r : Past} (p : Past) → k ≡ 3 → PassedAs y s (q + 1) p → r ≡ repeating_as p → ClosedAs y s q k r
+pub closed-again : {y : Syntax} {s : List ℕ} {q k : ℕ} {r : Option (ℕ × Bool × Bool)} (p : Option (ℕ × Bool × Bool)) → k ≡ 3 → PassedAs y s (q + 1) p → r ≡ repeating_as p → ClosedAs y s q k r
 closed-again p t w e = record { again = λ h. record { rest = p; passed = w; same = e }; once = λ h. absurd (h t) }
 
-pub closed-once : {y : Syntax} {s : List ℕ} {q k : ℕ} {r : Past} → (k ≡ 3 → ⊥) → r ≡ Behind (q + 1) (eqb k 5) false → ClosedAs y s q k r
+pub closed-once : {y : Syntax} {s : List ℕ} {q k : ℕ} {r : Option (ℕ × Bool × Bool)} → (k ≡ 3 → ⊥) → r ≡ Some (q + 1, eqb k 5, false) → ClosedAs y s q k r
 closed-once t e = record { again = λ h. absurd (t h); once = λ h. e }
 
 -- ---- no element yet
@@ -515,14 +508,14 @@ noted-kept {ps} {m} {m'} {b} g k =
       spans = λ c l h. same-part (k (b + 2 + 2 * c) (omega arith)) (k (b + 2 + 2 * c + 1) (omega arith)) ∙ g.spans c l h;
     }
 
-pub one-past : (y : Syntax) (s : List ℕ) (i : ℕ) (m : List ℕ) (n : ℕ) (r : Past) → PassedAs y s i r → length m ≡ 40 → 5 ≤ n → TakenOneAs y s i r m m n
-one-past y s i m n (Behind at ends c) (w, x) h l =
+pub one-past : (y : Syntax) (s : List ℕ) (i : ℕ) (m : List ℕ) (n : ℕ) (r : Option (ℕ × Bool × Bool)) → PassedAs y s i r → length m ≡ 40 → 5 ≤ n → TakenOneAs y s i r m m n
+one-past y s i m n (Some (at, ends, c)) (w, x) h l =
     (record { pass = w; long = h; noted = λ u. let z : ⊥ = omega arith in absurd z; kept = λ x u. refl; spared = λ x u. refl }, x)
-one-past y s i m n Broken w h l = (w, h)
+one-past y s i m n None w h l = (w, h)
 
-pub one-taken : (y : Syntax) (s : List ℕ) (i : ℕ) (m₀ m : List ℕ) (n : ℕ) (r : Past) → TakenAs y s i r m₀ m (8 * n) → TakenOneAs y s i r m₀ m n
-one-taken y s i m₀ m n (Behind at ends c) (w, x) = (record { pass = w.pass; long = w.long; noted = λ u. w.noted; kept = w.kept; spared = w.spared }, x)
-one-taken y s i m₀ m n Broken w = w
+pub one-taken : (y : Syntax) (s : List ℕ) (i : ℕ) (m₀ m : List ℕ) (n : ℕ) (r : Option (ℕ × Bool × Bool)) → TakenAs y s i r m₀ m (8 * n) → TakenOneAs y s i r m₀ m n
+one-taken y s i m₀ m n (Some (at, ends, c)) (w, x) = (record { pass = w.pass; long = w.long; noted = λ u. w.noted; kept = w.kept; spared = w.spared }, x)
+one-taken y s i m₀ m n None w = w
 
 -- n elements of the segment at a taken; the next starts at i, unless it ends. b: something before repeats
 pub record Fielding (y : Syntax) (s : List ℕ) (a : ℕ) (m : List ℕ) (i : ℕ) (ends : Bool) (b : Bool) (n : ℕ) : Type 0 where
@@ -534,7 +527,7 @@ pub record Fielding (y : Syntax) (s : List ℕ) (a : ℕ) (m : List ℕ) (i : �
   pub done : (p : ℕ) → p < n → p < 5 → Noted (at_element (suc p) (pieces_at y.service s a)) m (8 * p)
   pub free : Cleared m n 5
 
-pub fielding-start : {y : Syntax} {s : List ℕ} {a : ℕ} {m : List ℕ} {i : ℕ} {ends b : Bool} → PassedAs y s a (Behind i ends b) → Cleared m 0 5 →
+pub fielding-start : {y : Syntax} {s : List ℕ} {a : ℕ} {m : List ℕ} {i : ℕ} {ends b : Bool} → PassedAs y s a (Some (i, ends, b)) → Cleared m 0 5 →
     Fielding y s a m i ends b 0
 fielding-start (w, x) h =
     record {
@@ -568,24 +561,24 @@ module _ {y : Syntax} {s : List ℕ} {a : ℕ} {m : List ℕ} {i : ℕ} {ends b 
           subst (λ (ps : List Piece). Noted ps m (8 * p)) (sym (no-element (pieces_at y.service s a) (suc n) (suc p) gone (omega arith)))
           (record { parts = o.0; repeated = rw o.1; spans = λ c l k. let z : ⊥ = omega arith in absurd z })
 
-  pub fielding-end : {e : ℕ} {f : Shape} → ends ≡ true → e ≡ i - 1 → f.size ≡ n → f.repeats ≡ b → FieldsAs y s a (Whole e f) m
+  pub fielding-end : {e : ℕ} {f : Shape} → ends ≡ true → e ≡ i - 1 → f.size ≡ n → f.repeats ≡ b → FieldsAs y s a (Some (e, f)) m
   fielding-end t u v w = (rw u (g.through.end t).1, rw (v, w) (all_noted t))
 
   pub fielding-high : ends ≡ true → 1 ≤ i
   fielding-high t = (g.through.end t).0
 
-  module _ (t : ends ≡ false) (r : Past) (m' : List ℕ) (v : TakenOneAs y s i r m m' n) where
+  module _ (t : ends ≡ false) (r : Option (ℕ × Bool × Bool)) (m' : List ℕ) (v : TakenOneAs y s i r m m' n) where
     pub fielding-fits : n < length s
     fielding-fits = let w = g.few t in omega arith
 
-    pub fielding-broken : r ≡ Broken → FieldsAs y s a Torn m'
+    pub fielding-broken : r ≡ None → FieldsAs y s a None m'
     fielding-broken d =
-        let w : TakenOneAs y s i Broken m m' n = subst (λ (r : Past). TakenOneAs y s i r m m' n) d v in
+        let w : TakenOneAs y s i None m m' n = subst (λ (r : Option (ℕ × Bool × Bool)). TakenOneAs y s i r m m' n) d v in
         (ap sound (sym (g.through.on t)) ∙ w.0, w.1)
 
-    module _ {at : ℕ} {ends' c : Bool} (d : r ≡ Behind at ends' c) where
-      both : TakenOneAs y s i (Behind at ends' c) m m' n
-      both = subst (λ (r : Past). TakenOneAs y s i r m m' n) d v
+    module _ {at : ℕ} {ends' c : Bool} (d : r ≡ Some (at, ends', c)) where
+      both : TakenOneAs y s i (Some (at, ends', c)) m m' n
+      both = subst (λ (r : Option (ℕ × Bool × Bool)). TakenOneAs y s i r m m' n) d v
 
       w : TakenOne y.service s i at ends' c m m' n
       w = both.0
@@ -630,8 +623,8 @@ module _ {y : Syntax} {s : List ℕ} {a : ℕ} {m : List ℕ} {i : ℕ} {ends b 
 -- ---- a tag is passed at once
 
 -- an element separator stands at i
-pub pass-separator : {y : Syntax} {s : List ℕ} {i c : ℕ} → i < length s → c ≡ class_of y (get_or s i 0) → c ≡ 4 → PassedAs y s i (Behind (i + 1) false false)
-pass-separator {y} {s} {i} {c} h e d = inside-next (inside-start y s i) {r = On i c} (tidy-separator (tidy-start y s i) h e (omega (arith, e, d)) (omega arith)) refl d
+pub pass-separator : {y : Syntax} {s : List ℕ} {i c : ℕ} → i < length s → c ≡ class_of y (get_or s i 0) → c ≡ 4 → PassedAs y s i (Some (i + 1, false, false))
+pass-separator {y} {s} {i} {c} h e d = inside-next (inside-start y s i) {r = Some (i, c)} (tidy-separator (tidy-start y s i) h e (omega (arith, e, d)) (omega arith)) refl d
 
 tag-count : {σ : Service} {s : List ℕ} {a i at : ℕ} {ends b : Bool} → a ≤ i → at_element 1 (pieces_at σ s a) ≡ at_element 1 (pieces_at σ s i) →
     elements (pieces_at σ s a) ≡ elements (pieces_at σ s i) → any_repeats (pieces_at σ s a) ≡ any_repeats (pieces_at σ s i) → Passed σ s i at ends b → Passed σ s a at ends b
@@ -641,25 +634,25 @@ module _ {y : Syntax} {s : List ℕ} {a : ℕ} (g : TagAt y s a) where
   tag-first : {at : ℕ} {ends b : Bool} → Passed y.service s (a + 3) at ends b → Passed y.service s a at ends b
   tag-first {at} {ends} {b} w = by (edge_at y.service s (a + 3)) refl (ap (edge_of y.service s) (sym g.stops))
     where
-      by : (r : Edge) → edge_at y.service s (a + 3) ≡ r → edge_at y.service s (a + 3) ≡ edge_at y.service s a → Passed y.service s a at ends b
-      by (On q k) e d =
+      by : (r : Option (ℕ × ℕ)) → edge_at y.service s (a + 3) ≡ r → edge_at y.service s (a + 3) ≡ edge_at y.service s a → Passed y.service s a at ends b
+      by (Some (q, k)) e d =
           let u = (edge-steps y.service s (a + 3) (sym e) refl).first in
           let v = (edge-steps y.service s a (sym e ∙ d) refl).first in
           tag-count (omega arith) (rw (u, v)) (rw (u, v)) (rw (u, v)) w
-      by Off e d =
+      by None e d =
           let u = edge-over y.service s (a + 3) (sym e) refl in
           let v = edge-over y.service s a (sym e ∙ d) refl in
           tag-count (omega arith) (rw (u, v)) (rw (u, v)) (rw (u, v)) w
 
-  pub tag-passed : (p : Past) → PassedAs y s (a + 3) p → PassedAs y s a p
-  tag-passed (Behind at ends b) (w, x) = (tag-first w, through-from g.cuts x)
-  tag-passed Broken w = ap sound (sym g.cuts) ∙ w
+  pub tag-passed : (p : Option (ℕ × Bool × Bool)) → PassedAs y s (a + 3) p → PassedAs y s a p
+  tag-passed (Some (at, ends, b)) (w, x) = (tag-first w, through-from g.cuts x)
+  tag-passed None w = ap sound (sym g.cuts) ∙ w
 
-pub tag-behind : {y : Syntax} {s : List ℕ} {a : ℕ} {p : Past} {at : ℕ} {ends b : Bool} → TagAt y s a → PassedAs y s (a + 3) p → p ≡ Behind at ends b → PassedAs y s a (Behind at ends b)
-tag-behind {y} {s} {a} {p} {at} {ends} {b} g w d = tag-passed g (Behind at ends b) (subst (PassedAs y s (a + 3)) d w)
+pub tag-behind : {y : Syntax} {s : List ℕ} {a : ℕ} {p : Option (ℕ × Bool × Bool)} {at : ℕ} {ends b : Bool} → TagAt y s a → PassedAs y s (a + 3) p → p ≡ Some (at, ends, b) → PassedAs y s a (Some (at, ends, b))
+tag-behind {y} {s} {a} {p} {at} {ends} {b} g w d = tag-passed g (Some (at, ends, b)) (subst (PassedAs y s (a + 3)) d w)
 
-pub tag-broken : {y : Syntax} {s : List ℕ} {a : ℕ} {p : Past} (m : List ℕ) → TagAt y s a → PassedAs y s (a + 3) p → p ≡ Broken → length m ≡ 40 → FieldsAs y s a Torn m
-tag-broken {y} {s} {a} m g w d l = (tag-passed g Broken (subst (PassedAs y s (a + 3)) d w), l)
+pub tag-broken : {y : Syntax} {s : List ℕ} {a : ℕ} {p : Option (ℕ × Bool × Bool)} (m : List ℕ) → TagAt y s a → PassedAs y s (a + 3) p → p ≡ None → length m ≡ 40 → FieldsAs y s a None m
+tag-broken {y} {s} {a} m g w d l = (tag-passed g None (subst (PassedAs y s (a + 3)) d w), l)
 
 -- ---- those who look
 
@@ -676,11 +669,11 @@ module _ {σ : Service} {s : List ℕ} {a : ℕ} {m : List ℕ} (g : Marked σ s
   marked-repeated = marked-at.repeated
 
   module _ {c : ℕ} where
-    pub marked-absent : get_or m (8 * (p - 1)) 0 ≤ c → component_at σ s a p c ≡ Absent
+    pub marked-absent : get_or m (8 * (p - 1)) 0 ≤ c → component_at σ s a p c ≡ None
     marked-absent u = let w = marked-parts in no_part (at_element p (pieces_at σ s a)) c (omega arith)
 
     pub marked-part : c ≤ 2 → c < get_or m (8 * (p - 1)) 0 →
-        Part (get_or m (8 * (p - 1) + 2 + 2 * c) 0) (get_or m (8 * (p - 1) + 2 + 2 * c + 1) 0) ≡ component_at σ s a p c
+        Some (get_or m (8 * (p - 1) + 2 + 2 * c) 0, get_or m (8 * (p - 1) + 2 + 2 * c + 1) 0) ≡ component_at σ s a p c
     marked-part u v = let w = marked-parts in marked-at.spans c u (omega arith)
 
     pub marked-in : c ≤ 2 → c < get_or m (8 * (p - 1)) 0 → In (length s) (get_or m (8 * (p - 1) + 2 + 2 * c) 0) (get_or m (8 * (p - 1) + 2 + 2 * c + 1) 0)

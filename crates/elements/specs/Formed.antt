@@ -1,11 +1,11 @@
 -- Checked elements (number 8) by the code's kinds.
-use Rattle.std.specs.Prelude.{ℕ, Bool, true, false, cond, not, ◌&&◌, List}
+use Rattle.grammar.specs.declared.Subset.{Subset}
+use Rattle.std.specs.Prelude.{ℕ, Bool, true, false, cond, not, ◌&&◌, List, Option}
 use Rattle.syntax.specs.Octets.{octets, same}
 use Rattle.syntax.specs.declared.Version.{Version}
 use Rattle.grammar.specs.Segments as named
 use Rattle.grammar.specs.Segments.{Asked}
 use Rattle.grammar.specs.Loads.{control_written}
-use Rattle.grammar.specs.declared.Subset.{Subset}
 use Rattle.grammar.specs.Elements.{not_empty, not_empty_reference, either, in_range, row, formed_row, subset_row}
 use Rattle.elements.specs.declared.Kind.{Kind}
 use Rattle.elements.specs.declared.Kind.TheVariants.{Unb, Unh, Unt, Unz, Ush, Usa, Usc, Usr, Ust, Usb, Usx, Usy, Reserved, Qty, Cnt, Other}
@@ -33,7 +33,7 @@ formed_by v Cnt a = not a.any_repeated && control_of a
 formed_by v Other a = true
 
 -- what a subset of AUTACK checks besides
-abbrev pub subset_by : Kind → Subset → Asked → Bool
+abbrev pub subset_by : Kind → Option Subset → Asked → Bool
 subset_by Unb b a = true
 subset_by Unh b a = true
 subset_by Unt b a = true

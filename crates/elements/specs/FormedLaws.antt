@@ -1,16 +1,14 @@
 -- Checked elements: from what the code asks, one test after the other, to what the grammar says.
-use Rattle.std.specs.Prelude.{ℕ, zero, suc, ◌+◌, ◌-◌, ◌≤◌, ◌<◌, ◌≡◌, refl, Bool, true, false, cond, not, ◌&&◌, List, [], ◌∷◌, eqb, leb, length, get_or, drop}
+use Rattle.std.specs.Prelude.{ℕ, zero, suc, ◌+◌, ◌-◌, ◌≤◌, ◌<◌, ◌≡◌, refl, Bool, true, false, cond, not, ◌&&◌, List, [], ◌∷◌, eqb, leb, length, get_or, drop, Option, Some, None}
 use Rattle.std.proofs.Common.{arith, ap, sym, ◌∙◌, le-leb, eq-eqb, ne_eqb}
 use Rattle.std.proofs.lemmas.Bool.{false≢true, lt-leb}
 use Rattle.std.proofs.Math.Bool.{and-true}
-use Rattle.std.proofs.Math.Option.{Option}
+use Rattle.std.proofs.Math.Option.{Option as Maybe}
 use Rattle.syntax.specs.Octets.{octets, same, within}
 use Rattle.syntax.specs.Content.{releases, content_from, content, all_digits, blank}
 use Rattle.syntax.specs.Scanning.{next_of}
 use Rattle.syntax.proofs.ContentLaws.{Digital, digital-end, digital-below, digital-above, digital-on, Lengthening, lengthening-end, lengthening-less, lengthening-fits, lengthening-on}
 use Rattle.syntax.specs.Segment.{pieces_at, at_element, component_at, part_of, components, repeats, any_repeats}
-use Rattle.syntax.specs.declared.content.Next.{Next}
-use Rattle.syntax.specs.declared.content.Next.TheVariants.{Octet, Over}
 use Rattle.syntax.specs.declared.Service.{Service}
 use Rattle.syntax.specs.declared.Version.{Version}
 use Rattle.grammar.specs.Segments as named
@@ -25,10 +23,6 @@ use Rattle.elements.specs.Amounts.{amount_is, unit_is}
 use Rattle.elements.specs.AmountsLaws.{amount-grams, amount-bad, unit-of, unit-unknown, unit-fits}
 use Rattle.elements.specs.Formed.{control_of, formed_by, looked}
 use Rattle.elements.specs.declared.amounts.Form.{Form}
-use Rattle.elements.specs.declared.amounts.Amount.{Amount}
-use Rattle.elements.specs.declared.amounts.Amount.TheVariants.{Grams, Bad}
-use Rattle.elements.specs.declared.amounts.Unit as amounts
-use Rattle.elements.specs.declared.amounts.Unit.TheVariants.{Of, Unknown}
 use Rattle.elements.specs.declared.Kind.{Kind}
 use Rattle.elements.specs.declared.Kind.TheVariants.{Unb, Unh, Unt, Unz, Ush, Usa, Usc, Usr, Ust, Usb, Usx, Usy, Reserved, Qty, Cnt, Other}
 
@@ -195,8 +189,8 @@ pub record Tallying (ρ : ℕ) (x : List ℕ) (i n : ℕ) : Type 0 where
 pub tallying-start : (ρ : ℕ) (x : List ℕ) → Tallying ρ x 0 0
 tallying-start ρ x = record { are = record { are = refl }; size = record { few = omega arith; sums = omega arith } }
 
-module _ {ρ : ℕ} {x : List ℕ} {i n : ℕ} (g : Tallying ρ x i n) {r : Next} (e : r ≡ next_of ρ (drop i x) i) where
-  module _ (d : r ≡ Over) (least most : ℕ) where
+module _ {ρ : ℕ} {x : List ℕ} {i n : ℕ} (g : Tallying ρ x i n) {r : Option (ℕ × ℕ)} (e : r ≡ next_of ρ (drop i x) i) where
+  module _ (d : r ≡ None) (least most : ℕ) where
     ended : {q : Bool} → q ≡ within least most n → q ≡ in_range (digits least most) (content ρ x)
     ended u = and-go (digital-end g.are e d) refl (u ∙ ap (within least most) (lengthening-end g.size e d))
 
@@ -206,7 +200,7 @@ module _ {ρ : ℕ} {x : List ℕ} {i n : ℕ} (g : Tallying ρ x i n) {r : Next
     pub tallying-end : least ≤ n → leb n most ≡ in_range (digits least most) (content ρ x)
     tallying-end h = ended (rw (le-leb least n h))
 
-  module _ {b j : ℕ} (d : r ≡ Octet b j) where
+  module _ {b j : ℕ} (d : r ≡ Some (b, j)) where
     pub tallying-fits : n < length x
     tallying-fits = lengthening-fits g.size e d
 
@@ -230,30 +224,30 @@ date-is e a q = q ∙ ap (λ (k : ℕ). formed_as (composite (digits k k ∷ dig
 -- ---- the amount of a CNT
 
 module _ (σ : Service) (s : List ℕ) (a : ℕ) {x : List ℕ} (e : x ≡ part_of s (component_at σ s a 1 2))
-    {r : amounts.Unit} (u : r ≡ unit_is (unit (content σ.release x) (shape 12 3) (shape 9 6))) where
-  unit-read : {o : Option Shape} → unit (content σ.release x) (shape 12 3) (shape 9 6) ≡ o → control_unit (text_at σ s a 1 2) ≡ o
+    {r : Option Form} (u : r ≡ unit_is (unit (content σ.release x) (shape 12 3) (shape 9 6))) where
+  unit-read : {o : Maybe Shape} → unit (content σ.release x) (shape 12 3) (shape 9 6) ≡ o → control_unit (text_at σ s a 1 2) ≡ o
   unit-read q = ap (λ (t : List ℕ). unit (content σ.release t) (shape 12 3) (shape 9 6)) (sym e) ∙ q
 
-  pub control-none : r ≡ Unknown → false ≡ control_by (control_unit (text_at σ s a 1 2)) (text_at σ s a 1 1)
-  control-none h = sym (ap (λ (o : Option Shape). control_by o (text_at σ s a 1 1)) (unit-read (unit-unknown (content σ.release x) 12 9 u h)))
+  pub control-none : r ≡ None → false ≡ control_by (control_unit (text_at σ s a 1 2)) (text_at σ s a 1 1)
+  control-none h = sym (ap (λ (o : Maybe Shape). control_by o (text_at σ s a 1 1)) (unit-read (unit-unknown (content σ.release x) 12 9 u h)))
 
-  module _ {f : Form} (h : r ≡ Of f) where
+  module _ {f : Form} (h : r ≡ Some f) where
     pub control-fits : (f.whole ≤ 12) × (f.decimals ≤ 6)
     control-fits = unit-fits (content σ.release x) 12 9 u (omega arith, omega arith) h
 
-    module _ {z : List ℕ} (g : z ≡ part_of s (component_at σ s a 1 1)) {q : Amount}
+    module _ {z : List ℕ} (g : z ≡ part_of s (component_at σ s a 1 1)) {q : Option (ℕ × Bool)}
         (m : q ≡ amount_is (amount_right (shape f.whole f.decimals) (content σ.release z)) (grams (shape f.whole f.decimals) (content σ.release z))) where
       amount-read : {b : Bool} → amount_right (shape f.whole f.decimals) (content σ.release z) ≡ b →
           b ≡ control_by (control_unit (text_at σ s a 1 2)) (text_at σ s a 1 1)
       amount-read k =
-          sym (ap (λ (o : Option Shape). control_by o (text_at σ s a 1 1)) (unit-read (unit-of (content σ.release x) 12 9 u h))
+          sym (ap (λ (o : Maybe Shape). control_by o (text_at σ s a 1 1)) (unit-read (unit-of (content σ.release x) 12 9 u h))
           ∙ ap (λ (t : List ℕ). amount_right (shape f.whole f.decimals) (content σ.release t)) (sym g)
           ∙ k)
 
-      pub control-right : {n : ℕ} {t : Bool} → q ≡ Grams n t → true ≡ control_by (control_unit (text_at σ s a 1 2)) (text_at σ s a 1 1)
+      pub control-right : {n : ℕ} {t : Bool} → q ≡ Some (n, t) → true ≡ control_by (control_unit (text_at σ s a 1 2)) (text_at σ s a 1 1)
       control-right k = amount-read (amount-grams f.whole f.decimals (content σ.release z) m k).0
 
-      pub control-wrong : q ≡ Bad → false ≡ control_by (control_unit (text_at σ s a 1 2)) (text_at σ s a 1 1)
+      pub control-wrong : q ≡ None → false ≡ control_by (control_unit (text_at σ s a 1 2)) (text_at σ s a 1 1)
       control-wrong k = amount-read (amount-bad f.whole f.decimals (content σ.release z) m k)
 
 -- ---- a CNT

@@ -1,10 +1,10 @@
 -- What a subset of AUTACK checks besides: from what the code asks to what the grammar says.
-use Rattle.std.specs.Prelude.{ℕ, ◌≤◌, ◌<◌, ◌≡◌, refl, Bool, true, false, not, ◌&&◌, ◌||◌, List, [], ◌∷◌, leb}
+use Rattle.grammar.specs.declared.Subset.{Subset}
+use Rattle.std.specs.Prelude.{ℕ, ◌≤◌, ◌<◌, ◌≡◌, refl, Bool, true, false, not, ◌&&◌, ◌||◌, List, [], ◌∷◌, leb, Option, None, Some}
 use Rattle.std.proofs.Common.{arith, ap, sym, ◌∙◌}
 use Rattle.std.proofs.lemmas.Bool.{false≢true}
 use Rattle.syntax.specs.Octets.{octets, same}
-use Rattle.grammar.specs.declared.Subset.{Subset}
-use Rattle.grammar.specs.declared.Subset.TheVariants.{None, F01, Gs1}
+use Rattle.grammar.specs.declared.Subset.TheVariants.{F01, Gs1}
 use Rattle.grammar.specs.Segments as named
 use Rattle.grammar.specs.Segments.{Name, Asked}
 use Rattle.grammar.specs.Elements.{Range, not_empty, not_empty_reference, either, simple, in_range, formed_as, formed_row, subset_row}
@@ -43,7 +43,7 @@ module _ (x t u : List ℕ) {b : Bool} (d : b ≡ same x t) where
 -- ---- by the kind of segment: p is the position of the element that is checked, 0 where there is none
 
 module _ (a : Asked) {p : ℕ} where
-  pub unchecked-so : (k : Kind) → p ≡ position_gs1 k → p < 1 → true ≡ subset_by k Gs1 a
+  pub unchecked-so : (k : Kind) → p ≡ position_gs1 k → p < 1 → true ≡ subset_by k (Some Gs1) a
   unchecked-so Unb d l = refl
   unchecked-so Unh d l = refl
   unchecked-so Unt d l = refl
@@ -66,7 +66,7 @@ module _ (a : Asked) {p : ℕ} where
     alone_at : {q : ℕ} → p ≡ q → r ≡ (not (a.repeated q) && leb (a.parts q) 1)
     alone_at d = e ∙ ap (λ (n : ℕ). not (a.repeated n) && leb (a.parts n) 1) d
 
-    pub checked-stop : (k : Kind) → p ≡ position_gs1 k → 1 ≤ p → r ≡ false → false ≡ subset_by k Gs1 a
+    pub checked-stop : (k : Kind) → p ≡ position_gs1 k → 1 ≤ p → r ≡ false → false ≡ subset_by k (Some Gs1) a
     checked-stop Unb d l f = absurd (omega (arith, d, l))
     checked-stop Unh d l f = absurd (omega (arith, d, l))
     checked-stop Unt d l f = absurd (omega (arith, d, l))
@@ -84,7 +84,7 @@ module _ (a : Asked) {p : ℕ} where
     checked-stop Cnt d l f = absurd (omega (arith, d, l))
     checked-stop Other d l f = absurd (omega (arith, d, l))
 
-    pub checked-go : (k : Kind) → p ≡ position_gs1 k → 1 ≤ p → r ≡ true → {q : Bool} → q ≡ right_gs1 k (a.text p 0) → q ≡ subset_by k Gs1 a
+    pub checked-go : (k : Kind) → p ≡ position_gs1 k → 1 ≤ p → r ≡ true → {q : Bool} → q ≡ right_gs1 k (a.text p 0) → q ≡ subset_by k (Some Gs1) a
     checked-go Unb d l t g = absurd (omega (arith, d, l))
     checked-go Unh d l t g = absurd (omega (arith, d, l))
     checked-go Unt d l t g = absurd (omega (arith, d, l))
@@ -104,21 +104,21 @@ module _ (a : Asked) {p : ℕ} where
 
 -- ---- by the subset
 
-gs1-alone : (b : Subset) → is_gs1 b ≡ true → b ≡ Gs1
+gs1-alone : (b : Option Subset) → is_gs1 b ≡ true → b ≡ (Some Gs1)
 gs1-alone None h = absurd (false≢true h)
-gs1-alone F01 h = absurd (false≢true h)
-gs1-alone Gs1 h = refl
+gs1-alone (Some F01) h = absurd (false≢true h)
+gs1-alone (Some Gs1) h = refl
 
-pub gs1-besides : (b : Subset) → is_gs1 b ≡ true → (k : Kind) (a : Asked) {q : Bool} → q ≡ subset_by k Gs1 a → q ≡ subset_by k b a
-gs1-besides b t k a g = g ∙ ap (λ (x : Subset). subset_by k x a) (sym (gs1-alone b t))
+pub gs1-besides : (b : Option Subset) → is_gs1 b ≡ true → (k : Kind) (a : Asked) {q : Bool} → q ≡ subset_by k (Some Gs1) a → q ≡ subset_by k b a
+gs1-besides b t k a g = g ∙ ap (λ (x : Option Subset). subset_by k x a) (sym (gs1-alone b t))
 
-nothing-in : (b : Subset) → is_gs1 b ≡ false → (n : Name) (a : Asked) → true ≡ formed_row (subset_row b n) a 1
+nothing-in : (b : Option Subset) → is_gs1 b ≡ false → (n : Name) (a : Asked) → true ≡ formed_row (subset_row b n) a 1
 nothing-in None h n a = refl
-nothing-in F01 h n a = refl
-nothing-in Gs1 h n a = absurd (false≢true (sym h))
+nothing-in (Some F01) h n a = refl
+nothing-in (Some Gs1) h n a = absurd (false≢true (sym h))
 
 -- the others check nothing besides
-pub nothing-besides : (b : Subset) → is_gs1 b ≡ false → (k : Kind) (a : Asked) → true ≡ subset_by k b a
+pub nothing-besides : (b : Option Subset) → is_gs1 b ≡ false → (k : Kind) (a : Asked) → true ≡ subset_by k b a
 nothing-besides b h Unb a = refl
 nothing-besides b h Unh a = refl
 nothing-besides b h Unt a = refl

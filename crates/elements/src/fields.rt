@@ -1,14 +1,12 @@
 // One pass over the pieces of a segment that notes what the checks ask of it, so that each of them costs a look.
-ghost use Rattle.std.specs.Prelude.{◌≡◌, ◌||◌, ◌+◌, ◌≤◌, ◌<◌, length};
-ghost use Rattle.syntax.specs.Classes.{Table};
+ghost use Rattle.std.specs.Prelude.{◌≡◌, ◌||◌, ◌+◌, ◌≤◌, ◌<◌, length, Some};
 ghost use Rattle.syntax.specs.Segment.{pieces_at, at_element, components, repeats, component_at, part_of};
 ghost use Rattle.syntax.specs.Clean.{TagAt};
 ghost use Rattle.elements.specs.Fields.{PassedAs, repeating_as, closed_marks, ClosedAs, placed, TakenAs, TakenOneAs, Cleared, Marked, FieldsAs, start_in, end_in};
-ghost use Rattle.elements.specs.declared.fields.Past.TheVariants.{Behind};
 
 use syntax::Syntax;
-use syntax::reading::{Edge, clean_end};
-use syntax::repertoire::class;
+use syntax::classes::Classes;
+use syntax::reading::clean_end;
 
 // How many elements a segment has, and whether anything in it repeats.
 #[derive(Clone, Copy)]
@@ -17,58 +15,28 @@ pub struct Shape {
     pub repeats: bool,
 }
 
-// Behind an element: where the next one starts, whether the segment ends there instead, and whether the element repeats. Broken: the segment has no
-// end, or an octet outside the repertoire.
-#[derive(Clone, Copy)]
-pub enum Past {
-    Behind(usize, bool, bool),
-    Broken,
-}
-
-// A segment's end, and its shape; or that it has no end, or an octet outside the repertoire.
-#[derive(Clone, Copy)]
-pub enum Pass {
-    Whole(usize, Shape),
-    Broken,
-}
-
-fn either(a: bool, b: bool) -> bool
-    ensures { result ≡ (a || b) }
-{
-    if a {
-        return true;
-    }
-    b
-}
-
-// From a piece at `from` to behind its element.
-fn skip(s: &[u8], from: usize, t: &[u8; 256], y: Syntax) -> Past
-    requires { Table y t.now }
-    ensures { PassedAs y s.now from result }
+// From a piece at `from` to behind its element: where the next one starts, whether the segment ends there instead, and whether the element repeats. None,
+// here and below: the segment has no end, or an octet outside the repertoire.
+fn skip(s: &[u8], from: usize, t: &Classes) -> Option<(usize, bool, bool)>
+    ensures { PassedAs t.now.syntax s.now from result }
 {
     let mut j = from;
     let mut b = false;
-    loop {
-        match clean_end(s, j, t, y) {
-            Edge::On(q, k) => {
-                if k == 4 {
-                    return Past::Behind(q + 1, false, b);
-                }
-                if k == 5 {
-                    return Past::Behind(q + 1, true, b);
-                }
-                if k == 3 {
-                    b = true;
-                    j = q + 1;
-                    continue;
-                }
-                j = q + 1;
-            }
-            Edge::Off => {
-                return Past::Broken;
-            }
+    while let Some((q, k)) = clean_end(s, j, t) {
+        if k == 4 {
+            return Some((q + 1, false, b));
         }
+        if k == 5 {
+            return Some((q + 1, true, b));
+        }
+        if k == 3 {
+            b = true;
+            j = q + 1;
+            continue;
+        }
+        j = q + 1;
     }
+    None
 }
 
 // Component `n` goes from `x` to `z`: noted for the first three.
@@ -83,13 +51,11 @@ fn place(marks: &mut [usize], b: usize, n: usize, x: usize, z: usize)
     }
 }
 
-fn repeating(p: Past) -> Past
+fn repeating(p: Option<(usize, bool, bool)>) -> Option<(usize, bool, bool)>
     ensures { result ≡ repeating_as p }
 {
-    match p {
-        Past::Behind(at, ends, _) => Past::Behind(at, ends, true),
-        Past::Broken => Past::Broken,
-    }
+    let (at, ends, _) = p?;
+    Some((at, ends, true))
 }
 
 // The element's first repeat, of `n` components, ends at `q`, before a separator of kind `k`: goes behind the element.
@@ -97,62 +63,64 @@ fn closed(
     s: &[u8],
     q: usize,
     k: u8,
-    t: &[u8; 256],
-    y: Syntax,
+    t: &Classes,
     marks: &mut [usize],
     b: usize,
     n: usize,
-) -> Past
-    requires table { Table y t.now }
+) -> Option<(usize, bool, bool)>
     requires marks_len { (length marks.old ≡ 40) × (b + 8 ≤ 40) × (q < length s.now) }
-    ensures closed_as { ClosedAs y s.now q k result }
+    ensures closed_as { ClosedAs t.now.syntax s.now q k result }
     ensures marks_after { marks.new ≡ closed_marks marks.old b n k }
 {
     marks[b] = n;
     if k == 3 {
         marks[b + 1] = 1;
-        return repeating(skip(s, q + 1, t, y));
+        return repeating(skip(s, q + 1, t));
     }
     marks[b + 1] = 0;
-    Past::Behind(q + 1, k == 5, false)
+    Some((q + 1, k == 5, false))
 }
 
 // Notes the element at `from` in the eight marks from `b` on, and goes behind it.
-fn note(s: &[u8], from: usize, t: &[u8; 256], y: Syntax, marks: &mut [usize], b: usize) -> Past
-    requires table { Table y t.now }
+fn note(
+    s: &[u8],
+    from: usize,
+    t: &Classes,
+    marks: &mut [usize],
+    b: usize,
+) -> Option<(usize, bool, bool)>
     requires marks_len { (length marks.old ≡ 40) × (b + 8 ≤ 40) }
-    ensures { TakenAs y s.now from result marks.old marks.new b }
+    ensures { TakenAs t.now.syntax s.now from result marks.old marks.new b }
 {
     let mut j = from;
     let mut n: usize = 0;
-    loop {
-        match clean_end(s, j, t, y) {
-            Edge::On(q, k) => {
-                place(marks, b, n, j, q);
-                n += 1;
-                if k == 2 {
-                    j = q + 1;
-                    continue;
-                }
-                return closed(s, q, k, t, y, marks, b, n);
-            }
-            Edge::Off => {
-                return Past::Broken;
-            }
+    while let Some((q, k)) = clean_end(s, j, t) {
+        place(marks, b, n, j, q);
+        n += 1;
+        if k == 2 {
+            j = q + 1;
+            continue;
         }
+        return closed(s, q, k, t, marks, b, n);
     }
+    None
 }
 
 // The element with `n` before it: noted if it is one of the first five.
-fn take_one(s: &[u8], from: usize, t: &[u8; 256], y: Syntax, marks: &mut [usize], n: usize) -> Past
-    requires table { Table y t.now }
+fn take_one(
+    s: &[u8],
+    from: usize,
+    t: &Classes,
+    marks: &mut [usize],
+    n: usize,
+) -> Option<(usize, bool, bool)>
     requires marks_len { length marks.old ≡ 40 }
-    ensures { TakenOneAs y s.now from result marks.old marks.new n }
+    ensures { TakenOneAs t.now.syntax s.now from result marks.old marks.new n }
 {
     if n < 5 {
-        return note(s, from, t, y, marks, 8 * n);
+        return note(s, from, t, marks, 8 * n);
     }
-    skip(s, from, t, y)
+    skip(s, from, t)
 }
 
 // No element is noted yet.
@@ -160,11 +128,9 @@ fn clear(marks: &mut [usize])
     requires { length marks.old ≡ 40 }
     ensures { Cleared marks.new 0 5 }
 {
-    let mut p: usize = 0;
-    while p < 5 {
+    for p in 0..5 {
         marks[8 * p] = 0;
         marks[8 * p + 1] = 0;
-        p += 1;
     }
 }
 
@@ -175,65 +141,53 @@ fn elements_from(
     from: usize,
     over: bool,
     repeats: bool,
-    t: &[u8; 256],
-    y: Syntax,
+    t: &Classes,
     marks: &mut [usize],
-) -> Pass
-    requires table { Table y t.now }
-    requires passed_as { PassedAs y s.now at (Behind from over repeats) × Cleared marks.old 0 5 }
-    ensures { FieldsAs y s.now at result marks.new }
+) -> Option<(usize, Shape)>
+    requires passed_as { PassedAs t.now.syntax s.now at (Some (from, over, repeats)) × Cleared marks.old 0 5 }
+    ensures { FieldsAs t.now.syntax s.now at result marks.new }
 {
     let mut i = from;
     let mut ends = over;
     let mut b = repeats;
     let mut n: usize = 0;
     while !ends {
-        match take_one(s, i, t, y, marks, n) {
-            Past::Broken => {
-                return Pass::Broken;
-            }
-            Past::Behind(a, e, r) => {
-                n += 1;
-                i = a;
-                ends = e;
-                b = either(b, r);
-            }
-        }
+        let (next, last, repeats) = take_one(s, i, t, marks, n)?;
+        n += 1;
+        i = next;
+        ends = last;
+        b |= repeats;
     }
-    Pass::Whole(
+    Some((
         i - 1,
         Shape {
             size: n,
             repeats: b,
         },
-    )
+    ))
 }
 
 // The same from `from`, behind the three octets of a tag: nearly always the tag ends there.
-fn pass_tag(s: &[u8], from: usize, t: &[u8; 256], y: Syntax) -> Past
-    requires table { Table y t.now }
+fn pass_tag(s: &[u8], from: usize, t: &Classes) -> Option<(usize, bool, bool)>
     requires from_in_bounds { from < length s.now }
-    ensures { PassedAs y s.now from result }
+    ensures { PassedAs t.now.syntax s.now from result }
 {
-    if class(t, y, s[from]) == 4 {
-        return Past::Behind(from + 1, false, false);
+    if t.class(s[from]) == 4 {
+        return Some((from + 1, false, false));
     }
-    skip(s, from, t, y)
+    skip(s, from, t)
 }
 
 // One pass over the segment with a tag at `at`: it is cut, and of each element p from 1 to 5 it is noted, in the eight marks from 8 * (p - 1) on: how many
 // components its first repeat has (0: it is not there), 1 if it repeats, and start and end of its first three components, as far as they are there.
-pub fn fields(s: &[u8], at: usize, t: &[u8; 256], y: Syntax, marks: &mut [usize]) -> Pass
-    requires table { Table y t.now }
-    requires tag_at { TagAt y s.now at × (length marks.old ≡ 40) }
-    ensures { FieldsAs y s.now at result marks.new }
+pub fn fields(s: &[u8], at: usize, t: &Classes, marks: &mut [usize]) -> Option<(usize, Shape)>
+    requires tag_at { TagAt t.now.syntax s.now at × (length marks.old ≡ 40) }
+    ensures { FieldsAs t.now.syntax s.now at result marks.new }
 {
     // Before the elements: the number of stores is known here, so no branch is guessed wrong as behind the last one.
     clear(marks);
-    match pass_tag(s, at + 3, t, y) {
-        Past::Broken => Pass::Broken,
-        Past::Behind(i, ends, b) => elements_from(s, at, i, ends, b, t, y, marks),
-    }
+    let (from, ends, repeats) = pass_tag(s, at + 3, t)?;
+    elements_from(s, at, from, ends, repeats, t, marks)
 }
 
 // What `fields` noted of the segment at `at`: the octets of component `c` of element `p`, empty if it is not there.

@@ -14,9 +14,9 @@ ghost use Rattle.elements.specs.Fields.{Marked, Fields};
 ghost use Rattle.elements.specs.Formed.{control_of, looked};
 
 use crate::Kind;
-use crate::amounts::{Amount, Unit, amount_in, unit_in};
+use crate::amounts::{amount_in, unit_in};
 use crate::fields::{Shape, field, parts, repeated};
-use syntax::content::{Next, content_is, content_length, is_blank, next_octet};
+use syntax::content::{content_is, content_length, is_blank, next_octet};
 use syntax::opening::is_earlier;
 use syntax::{Syntax, Version};
 
@@ -114,26 +114,20 @@ fn digits_within(x: &[u8], release: u8, least: usize, most: usize) -> bool
 {
     let mut i = 0;
     let mut n: usize = 0;
-    loop {
-        match next_octet(x, i, release) {
-            Next::Octet(b, j) => {
-                if b < 48 {
-                    return false;
-                }
-                if 57 < b {
-                    return false;
-                }
-                n += 1;
-                i = j;
-            }
-            Next::Over => {
-                if n < least {
-                    return false;
-                }
-                return n <= most;
-            }
+    while let Some((b, j)) = next_octet(x, i, release) {
+        if b < 48 {
+            return false;
         }
+        if 57 < b {
+            return false;
+        }
+        n += 1;
+        i = j;
     }
+    if n < least {
+        return false;
+    }
+    n <= most
 }
 
 // A component's length is within bounds.
@@ -449,11 +443,11 @@ fn control_formed(s: &[u8], at: usize, y: Syntax, marks: &[usize]) -> bool
 {
     let v = y.service;
     match unit_in(field(s, at, y, marks, 1, 2), v.release, 12, 9) {
-        Unit::Of(u) => match amount_in(field(s, at, y, marks, 1, 1), v.release, u) {
-            Amount::Grams(_, _) => true,
-            Amount::Bad => false,
+        Some(u) => match amount_in(field(s, at, y, marks, 1, 1), v.release, u) {
+            Some((_, _)) => true,
+            None => false,
         },
-        Unit::Unknown => false,
+        None => false,
     }
 }
 

@@ -1,9 +1,8 @@
 // What a subset of AUTACK checks besides (number 8). It is read off the octets: USC has no fields noted, and USX's 0062 stands behind the last noted one.
-ghost use Rattle.std.specs.Prelude.{◌≡◌, true, not, ◌&&◌, ◌≤◌, ◌+◌, leb};
+ghost use Rattle.std.specs.Prelude.{◌≡◌, true, not, ◌&&◌, ◌≤◌, ◌+◌, leb, Some};
 ghost use Rattle.std.proofs.Math.Seq.{slice};
 ghost use Rattle.syntax.specs.Octets.{octets};
 ghost use Rattle.syntax.specs.Content.{content};
-ghost use Rattle.syntax.specs.Classes.{Table};
 ghost use Rattle.grammar.specs.Elements.{either, in_range, formed};
 ghost use Rattle.grammar.specs.declared.Subset.TheVariants.{Gs1};
 ghost use Rattle.elements.specs.Octets.{parts_at, repeated_at, asked_at};
@@ -15,20 +14,19 @@ use crate::Kind;
 use crate::fields::Shape;
 use crate::formed::{is_formed, not_empty, reference_there};
 use grammar::{Subset, is_gs1};
-use syntax::Syntax;
+use syntax::classes::Classes;
 use syntax::content::content_is;
 use syntax::reading::{component_part, count_components, element_repeats};
 
 // Whether the element at position `p` has one component and does not repeat.
-fn is_single(s: &[u8], at: usize, t: &[u8; 256], y: Syntax, p: usize) -> bool
-    requires table { Table y t.now }
+fn is_single(s: &[u8], at: usize, t: &Classes, p: usize) -> bool
     requires le_p { 1 ≤ p }
-    ensures { result ≡ (not (repeated_at y.service s.now at p) && leb (parts_at y.service s.now at p) 1) }
+    ensures { result ≡ (not (repeated_at t.now.syntax.service s.now at p) && leb (parts_at t.now.syntax.service s.now at p) 1) }
 {
-    if element_repeats(s, at, t, y, p) {
+    if element_repeats(s, at, t, p) {
         return false;
     }
-    count_components(s, at, t, y, p) <= 1
+    count_components(s, at, t, p) <= 1
 }
 
 // The position of the element that the subset of GS1 checks in a segment of this kind; 0 where it checks none.
@@ -90,42 +88,39 @@ fn is_right(x: &[u8], release: u8, k: Kind) -> bool
 }
 
 // One way for the three kinds: the compiler puts it into the loop over segments, where three ways would cost every segment.
-fn gs1_formed(s: &[u8], at: usize, t: &[u8; 256], y: Syntax, k: Kind) -> bool
-    requires { Table y t.now }
-    ensures { result ≡ subset_by k Gs1 (asked_at y.service s.now at) }
+fn gs1_formed(s: &[u8], at: usize, t: &Classes, k: Kind) -> bool
+    ensures { result ≡ subset_by k (Some Gs1) (asked_at t.now.syntax.service s.now at) }
 {
     let p = position_in(k);
     if p < 1 {
         return true;
     }
-    if !is_single(s, at, t, y, p) {
+    if !is_single(s, at, t, p) {
         return false;
     }
-    let v = y.service;
-    is_right(component_part(s, at, t, y, p, 0), v.release, k)
+    let v = t.syntax.service;
+    is_right(component_part(s, at, t, p, 0), v.release, k)
 }
 
 // 8, in a message of the subset `b`: the checked elements of the segment's row, then those that the subset checks besides.
 pub fn formed_in(
     s: &[u8],
     at: usize,
-    t: &[u8; 256],
-    y: Syntax,
+    t: &Classes,
     marks: &[usize],
     f: Shape,
     k: Kind,
-    b: Subset,
+    b: Option<Subset>,
 ) -> bool
-    requires table { Table y t.now }
-    requires fields { looked k ≡ true → Fields y.service s.now at f.size f.repeats marks.now }
+    requires fields { looked k ≡ true → Fields t.now.syntax.service s.now at f.size f.repeats marks.now }
     requires k_value { k ≡ tag_kind (slice at (at + 3) s.now) }
-    ensures { result ≡ (formed y.version (asked_at y.service s.now at) && subset_by k b (asked_at y.service s.now at)) }
+    ensures { result ≡ (formed t.now.syntax.version (asked_at t.now.syntax.service s.now at) && subset_by k b (asked_at t.now.syntax.service s.now at)) }
 {
-    if !is_formed(s, at, y, marks, f, k) {
+    if !is_formed(s, at, t.syntax, marks, f, k) {
         return false;
     }
     if is_gs1(b) {
-        return gs1_formed(s, at, t, y, k);
+        return gs1_formed(s, at, t, k);
     }
     true
 }

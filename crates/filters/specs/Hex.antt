@@ -1,6 +1,6 @@
 -- "Code 2: upper-case hex, even length, high half first." Item 9: "An odd length is now read as if one zero stood before it, for code 2 only; the
 -- empty text stays refused. We still write even lengths, so a written value comes back unchanged."
-use Rattle.std.specs.Prelude.{ℕ, ◌+◌, ◌-◌, ◌*◌, ◌/◌, ◌%◌, List, [], ◌∷◌, ◌++◌, cond, eqb, ltb, length}
+use Rattle.std.specs.Prelude.{ℕ, ◌+◌, ◌-◌, ◌*◌, ◌/◌, ◌%◌, List, [], ◌∷◌, ◌++◌, cond, eqb, ltb, length, Option as Maybe, Some, None}
 use Rattle.std.proofs.Math.Option.{Option, none, some}
 use Rattle.syntax.specs.Octets.{octet, octets}
 use Rattle.filters.specs.Octets.{before}
@@ -17,6 +17,10 @@ hex_text (x ∷ v) = hex_digit (x / 16) ∷ hex_digit (x % 16) ∷ hex_text v
 -- the half octet that a character stands for; 16 where it is no digit. 58 comes behind 9
 abbrev pub half_of : ℕ → ℕ
 half_of c = cond (ltb (octet "F") c) 16 (cond (ltb c (octet "0")) 16 (cond (ltb c 58) (c - octet "0") (cond (ltb c (octet "A")) 16 (c - 55))))
+
+-- none where the character is no digit
+abbrev pub half_in : ℕ → Maybe ℕ
+half_in c = cond (ltb (half_of c) 16) (Some (half_of c)) None
 
 abbrev pub pair_of : ℕ → ℕ → Option (List ℕ) → Option (List ℕ)
 pair_of a b v = cond (ltb a 16) (cond (ltb b 16) (before ((a * 16 + b) ∷ []) v) none) none

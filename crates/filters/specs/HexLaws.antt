@@ -1,5 +1,5 @@
 -- Texts of code 2 and values are one to one.
-use Rattle.std.specs.Prelude.{ℕ, ◌+◌, ◌-◌, ◌*◌, ◌/◌, ◌%◌, ◌<◌, List, [], ◌∷◌, ◌≡◌, refl, ◌⊎◌, Bool, true, false, cond, T, ltb, eqb, length}
+use Rattle.std.specs.Prelude.{ℕ, ◌+◌, ◌*◌, ◌/◌, ◌%◌, ◌<◌, List, [], ◌∷◌, ◌≡◌, refl, ◌⊎◌, Bool, true, false, cond, T, ltb, eqb, length}
 use Rattle.std.proofs.Common.{arith, inl, inr, eqb→eq, lt-ltb, ltb-true, ltb-false}
 use Rattle.std.proofs.Math.Option.{Option, none, some}
 use Rattle.filters.specs.BelowLaws.{at_each}

@@ -1,10 +1,8 @@
--- The octets of content from i of x on, two or four at a time.
-use Rattle.std.specs.Prelude.{ℕ, ◌+◌, ◌≤◌, ◌<◌, List, [], ◌∷◌, ◌++◌, ◌≡◌, length, drop}
+-- The octets of content from i of x on, some at a time.
+use Rattle.std.specs.Prelude.{ℕ, ◌+◌, ◌≤◌, ◌<◌, List, [], ◌++◌, ◌≡◌, length, drop}
 use Rattle.syntax.specs.Content.{content}
-use Rattle.filters.specs.declared.pieces.Pair.{Pair}
-use Rattle.filters.specs.declared.pieces.Pair.TheVariants.{Of as Two, Short as Odd, Over as NoPair}
-use Rattle.filters.specs.declared.pieces.Four.{Four}
-use Rattle.filters.specs.declared.pieces.Four.TheVariants.{Of, Short, Over}
+use Rattle.filters.specs.declared.pieces.Piece.{Piece}
+use Rattle.filters.specs.declared.pieces.Piece.TheVariants.{Of, Short, Over}
 
 -- the content from i is these octets and the content from j
 pub record Taken (ρ : ℕ) (x : List ℕ) (i : ℕ) (t : List ℕ) (j : ℕ) : Type 0 where
@@ -17,18 +15,11 @@ pub record Few (ρ : ℕ) (x : List ℕ) (i n : ℕ) : Type 0 where
   pub some : 0 < length (content ρ (drop i x))
   pub few : length (content ρ (drop i x)) < n
 
-abbrev pub PairBy : ℕ → List ℕ → ℕ → Pair → Type 0
-PairBy ρ x i (Two a b j) = Taken ρ x i (a ∷ b ∷ []) j
-PairBy ρ x i Odd = Few ρ x i 2
-PairBy ρ x i NoPair = content ρ (drop i x) ≡ []
+abbrev pub PieceBy : (n : ℕ) → ℕ → List ℕ → ℕ → Piece n → Type 0
+PieceBy n ρ x i (Of t j) = Taken ρ x i t j × (length t ≡ n)
+PieceBy n ρ x i Short = Few ρ x i n
+PieceBy n ρ x i Over = content ρ (drop i x) ≡ []
 
-pub record PairAt (ρ : ℕ) (x : List ℕ) (i : ℕ) (r : Pair) : Type 0 where
-  pub is : PairBy ρ x i r
-
-abbrev pub FourBy : ℕ → List ℕ → ℕ → Four → Type 0
-FourBy ρ x i (Of a b c d j) = Taken ρ x i (a ∷ b ∷ c ∷ d ∷ []) j
-FourBy ρ x i Short = Few ρ x i 4
-FourBy ρ x i Over = content ρ (drop i x) ≡ []
-
-pub record FourAt (ρ : ℕ) (x : List ℕ) (i : ℕ) (r : Four) : Type 0 where
-  pub is : FourBy ρ x i r
+-- n at a time
+pub record PieceAt (n : ℕ) (ρ : ℕ) (x : List ℕ) (i : ℕ) (r : Piece n) : Type 0 where
+  pub is : PieceBy n ρ x i r

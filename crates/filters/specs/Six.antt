@@ -1,6 +1,6 @@
 -- "Code 7: base 64 of RFC 1521, length a multiple of 4, padding only at the end, spare bits zero."
 -- So `====` and `A===` are bad, and so is a line break.
-use Rattle.std.specs.Prelude.{ℕ, ◌+◌, ◌-◌, ◌*◌, ◌/◌, ◌%◌, List, [], ◌∷◌, Bool, cond, ltb, eqb, length}
+use Rattle.std.specs.Prelude.{ℕ, ◌+◌, ◌-◌, ◌*◌, ◌/◌, ◌%◌, List, [], ◌∷◌, Bool, true, cond, ltb, eqb, length, Option as Maybe, Some, None}
 use Rattle.std.proofs.Math.Option.{Option, none, some}
 use Rattle.syntax.specs.Octets.{octet}
 use Rattle.filters.specs.Octets.{before}
@@ -21,6 +21,10 @@ abbrev pub bits_of : ℕ → ℕ
 bits_of c =
     cond (ltb (octet "z") c) 64 (cond (ltb 96 c) (c - 71) (cond (ltb (octet "Z") c) 64 (cond (ltb 64 c) (c - octet "A") (cond (eqb c (octet "=")) 65
     (cond (ltb (octet "9") c) 64 (cond (ltb 47 c) (c + 4) (cond (eqb c (octet "/")) 63 (cond (eqb c (octet "+")) 62 64))))))))
+
+-- none where the character is no digit
+abbrev pub bits_in : ℕ → Maybe ℕ
+bits_in c = cond (ltb (bits_of c) 64) (Some (bits_of c)) None
 
 -- how many octets four characters stand for by their bits, 0 where for none: no pad; one pad, two spare bits; two pads, four spare bits
 abbrev pub size_of : ℕ → ℕ → ℕ → ℕ → ℕ
@@ -46,6 +50,10 @@ last_group k last p q r =
 
 abbrev pub group_of : ℕ → Bool → ℕ → ℕ → ℕ → ℕ → Option (List ℕ) → Option (List ℕ)
 group_of k last p q r s v = cond (eqb k 3) (before (first_of p q ∷ second_of q r ∷ third_of r s ∷ []) v) (last_group k last p q r)
+
+-- the octets of a group whose last character is a pad, and that ends the text
+abbrev pub padded : ℕ → ℕ → ℕ → Option (List ℕ)
+padded p q r = last_group (size_of p q r 65) true p q r
 
 -- "length a multiple of 4": the octets that a text stands for
 abbrev pub six_value : List ℕ → Option (List ℕ)

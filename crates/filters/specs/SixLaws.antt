@@ -1,5 +1,5 @@
 -- Texts of code 7 and values are one to one.
-use Rattle.std.specs.Prelude.{ℕ, zero, suc, ◌+◌, ◌-◌, ◌*◌, ◌/◌, ◌%◌, ◌<◌, List, [], ◌∷◌, ◌++◌, ◌≡◌, refl, Bool, true, false, cond, T, ltb, eqb, length}
+use Rattle.std.specs.Prelude.{ℕ, zero, suc, ◌+◌, ◌*◌, ◌/◌, ◌%◌, ◌<◌, List, [], ◌∷◌, ◌++◌, ◌≡◌, refl, Bool, true, false, cond, T, ltb, eqb, length}
 use Rattle.std.proofs.Common.{arith, sym, ◌∙◌, eqb→eq, lt-ltb, le-ltb, ltb-true, ltb-false, eqb-true}
 use Rattle.std.proofs.Math.Option.{Option, none, some, none-ne-some}
 use Rattle.std.proofs.Math.Dec.{eqb-suc-zero}
@@ -25,7 +25,7 @@ digit-bits c h = by (ltb 122 c) refl
 pad-low : (c : ℕ) → c < 123 → T (cond (eqb (bits_of c) 65) (eqb c 61) true)
 pad-low c h = at_each (λ k. cond (eqb (bits_of k) 65) (eqb k 61) true) 123 tt c h
 
-pad-is : (c : ℕ) → bits_of c ≡ 65 → c ≡ 61
+pub pad-is : (c : ℕ) → bits_of c ≡ 65 → c ≡ 61
 pad-is c h = by (ltb 122 c) refl
   where
     by : (b : Bool) → ltb 122 c ≡ b → c ≡ 61

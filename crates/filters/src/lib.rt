@@ -4,10 +4,3 @@
 pub mod hex;
 pub mod pieces;
 pub mod six;
-
-// What reading a text gives: how many octets it stands for, or that it stands for none.
-#[derive(Clone, Copy)]
-pub enum Decoded {
-    Length(usize),
-    Bad,
-}

@@ -1,22 +1,15 @@
-// The content of a component, two or four octets at a time. Nothing is copied.
-ghost use Rattle.std.specs.Prelude.{◌≡◌, eqb, length, drop};
+// The content of a component, some octets at a time. Nothing is copied.
+ghost use Rattle.std.specs.Prelude.{◌≡◌, ◌<◌, eqb, length, drop};
 ghost use Rattle.syntax.specs.Content.{content};
-ghost use Rattle.filters.specs.Pieces.{PairAt, FourAt};
+ghost use Rattle.filters.specs.Pieces.{PieceAt};
 
-use syntax::content::{Next, next_octet};
+use syntax::content::next_octet;
 
-// The next two octets of content, and the place after them.
+// The next N octets of content, and the place after them; or fewer are left, or none.
+// Kept: an enum for three ends, since a `Result` of an `Option` would be taken apart twice at each call.
 #[derive(Clone, Copy)]
-pub enum Pair {
-    Of(u8, u8, usize),
-    Short,
-    Over,
-}
-
-// The next four, and the place after them.
-#[derive(Clone, Copy)]
-pub enum Four {
-    Of(u8, u8, u8, u8, usize),
+pub enum Piece<const N: usize> {
+    Of([u8; N], usize),
     Short,
     Over,
 }
@@ -24,34 +17,21 @@ pub enum Four {
 pub fn is_over(x: &[u8], i: usize, release: u8) -> bool
     ensures { result ≡ eqb (length (content release (drop i x.now))) 0 }
 {
-    match next_octet(x, i, release) {
-        Next::Octet(_, _) => false,
-        Next::Over => true,
-    }
+    next_octet(x, i, release).is_none()
 }
 
-pub fn next_pair(x: &[u8], i: usize, release: u8) -> Pair
-    ensures { PairAt release x.now i result }
+pub fn next_piece<const N: usize>(x: &[u8], i: usize, release: u8) -> Piece<N>
+    requires { 0 < N }
+    ensures { PieceAt N release x.now i result }
 {
-    let Next::Octet(a, j) = next_octet(x, i, release) else {
-        return Pair::Over;
-    };
-    let Next::Octet(b, k) = next_octet(x, j, release) else {
-        return Pair::Short;
-    };
-    Pair::Of(a, b, k)
-}
-
-pub fn next_four(x: &[u8], i: usize, release: u8) -> Four
-    ensures { FourAt release x.now i result }
-{
-    match next_pair(x, i, release) {
-        Pair::Over => Four::Over,
-        Pair::Short => Four::Short,
-        Pair::Of(a, b, j) => match next_pair(x, j, release) {
-            Pair::Over => Four::Short,
-            Pair::Short => Four::Short,
-            Pair::Of(c, d, k) => Four::Of(a, b, c, d, k),
-        },
+    let mut octets = [0u8; N];
+    let mut j = i;
+    for (k, slot) in octets.iter_mut().enumerate() {
+        let Some((b, next)) = next_octet(x, j, release) else {
+            return if k == 0 { Piece::Over } else { Piece::Short };
+        };
+        *slot = b;
+        j = next;
     }
+    Piece::Of(octets, j)
 }

@@ -1,5 +1,6 @@
 -- Laws of the search for the message that a call names.
-use Rattle.std.specs.Prelude.{ℕ, suc, ◌+◌, ◌≤◌, ◌<◌, ◌≡◌, refl, Bool, true, false, cond, List, [], ◌∷◌, ◌++◌, length, take, drop, get_or, set}
+use Rattle.syntax.specs.declared.Breach.{Breach}
+use Rattle.std.specs.Prelude.{ℕ, suc, ◌+◌, ◌≤◌, ◌<◌, ◌≡◌, refl, Bool, true, false, cond, List, [], ◌∷◌, ◌++◌, length, take, drop, get_or, set, Result, Ok, Some, None, Err, Option}
 use Rattle.std.proofs.Common.{arith, ap, sym, ◌∙◌, subst, length-set}
 use Rattle.std.proofs.lemmas.Bool.{false≢true}
 use Rattle.std.proofs.Math.Option.{none, some}
@@ -22,8 +23,6 @@ use Rattle.walk.specs.SectionLaws.{Looping, unread-start}
 use Rattle.finding.specs.Finding.{named_by, SeeksBy, FoundIs}
 use Rattle.walk.specs.declared.sections.Layout.{Layout}
 use Rattle.walk.specs.declared.sections.Section.{Section}
-use Rattle.finding.specs.declared.Found.{Found}
-use Rattle.finding.specs.declared.Found.TheVariants.{Message as Here, Missing, Refused as NotRead}
 use Rattle.turns.specs.declared.state.State.{State}
 
 -- ---- the search, a section further
@@ -34,10 +33,10 @@ stays-placed σ p r (ends u ms z) = refl
 stays-placed σ p r (breaks u ms o) = refl
 
 -- the same of another reading in which it stands as well
-seeks-as : (f : Found) (σ : Service) (s : List ℕ) (p : ℕ) (x z : Reading) (r rows : List ℕ) → placed_at σ p z r ≡ placed_at σ p x r → SeeksBy f σ s p x r rows → SeeksBy f σ s p z r rows
-seeks-as (Here c) σ s p x z r rows e q = (q.0, q.1, q.2, (e ∙ q.3.0, q.3.1))
-seeks-as Missing σ s p x z r rows e q = e ∙ q
-seeks-as (NotRead f) σ s p x z r rows e q = q
+seeks-as : (f : Result (Option Layout) Breach) (σ : Service) (s : List ℕ) (p : ℕ) (x z : Reading) (r rows : List ℕ) → placed_at σ p z r ≡ placed_at σ p x r → SeeksBy f σ s p x r rows → SeeksBy f σ s p z r rows
+seeks-as (Ok (Some c)) σ s p x z r rows e q = (q.0, q.1, q.2, (e ∙ q.3.0, q.3.1))
+seeks-as (Ok None) σ s p x z r rows e q = e ∙ q
+seeks-as (Err f) σ s p x z r rows e q = q
 
 closed-placed : (σ : Service) (p : ℕ) (r : List ℕ) (u : Leaf) (ms : Snoc Message) (o : Open) (t : Leaf) (b : Bool) → same (ref_o o) r ≡ b
     → placed_in σ p u (ms ▷ message o t) r ≡ cond b (some (placed (message o t) (p + wide σ (shown (idle u ms))))) (placed_in σ p u ms r)
@@ -46,7 +45,7 @@ closed-placed σ p r u ms o t b e = ap (λ (c : Bool). cond c (some (placed (mes
 module _ {y : Syntax} {s : List ℕ} {from : ℕ} {x : State} {h l b : List ℕ} {i : ℕ} (w : Walking y s from x h l b i) {c : Section} {h' l' b' here : List ℕ} (g : Passing w c h' l' b' here)
     (r : List ℕ) where
   -- another message, or none
-  pub seeks-on : (k : Found) (rows : List ℕ) → named_by y.service.release s c.closed c.layout r ≡ false
+  pub seeks-on : (k : Result (Option Layout) Breach) (rows : List ℕ) → named_by y.service.release s c.closed c.layout r ≡ false
       → SeeksBy k y.service s from w.tree r rows → SeeksBy k y.service s from g.walks.tree r rows
   seeks-on k rows n q = by c.closed n g.by
     where
@@ -63,11 +62,11 @@ module _ {y : Syntax} {s : List ℕ} {from : ℕ} {x : State} {h l b : List ℕ}
           q
 
   -- the message that is sought
-  pub seeks-hit : named_by y.service.release s c.closed c.layout r ≡ true → SeeksBy (Here c.layout) y.service s from g.walks.tree r here
+  pub seeks-hit : named_by y.service.release s c.closed c.layout r ≡ true → SeeksBy (Ok (Some c.layout)) y.service s from g.walks.tree r here
   seeks-hit n = by c.closed n g.by
     where
       by : (f : Bool) → named_by y.service.release s f c.layout r ≡ true → SectionBy f y s i w.tree g.walks.tree c.layout here
-          → SeeksBy (Here c.layout) y.service s from g.walks.tree r here
+          → SeeksBy (Ok (Some c.layout)) y.service s from g.walks.tree r here
       by false n v = absurd (false≢true n)
       by true n v =
           let e = v.4.0 in
@@ -87,14 +86,14 @@ module _ {y : Syntax} {s : List ℕ} {from : ℕ} {x : State} {h l b : List ℕ}
 
 -- ---- the end: all was read
 
-pub whole-read : {y : Syntax} {s : List ℕ} {p : ℕ} {x : State} {h l b : List ℕ} {i : ℕ} (w : Walking y s p x h l b i) (f : Found) (r rows : List ℕ) → ReadAll w
+pub whole-read : {y : Syntax} {s : List ℕ} {p : ℕ} {x : State} {h l b : List ℕ} {i : ℕ} (w : Walking y s p x h l b i) (f : Result (Option Layout) Breach) (r rows : List ℕ) → ReadAll w
     → SeeksBy f y.service s p w.tree r rows → FoundIs y s p r f rows
 whole-read {y} {s} {p} w f r rows a q = by f q
   where
-    by : (f : Found) → SeeksBy f y.service s p w.tree r rows → FoundIs y s p r f rows
-    by (Here c) q = (a.1.0, a.1.1, a.1.2, (a.0 ∙ ap read a.1.3, subst (λ (v : Reading). SeeksBy (Here c) y.service s p v r rows) a.1.3 q))
-    by Missing q = (a.1.0, a.1.1, a.1.2, (a.0 ∙ ap read a.1.3, subst (λ (v : Reading). SeeksBy Missing y.service s p v r rows) a.1.3 q))
-    by (NotRead f) q = absurd q
+    by : (f : Result (Option Layout) Breach) → SeeksBy f y.service s p w.tree r rows → FoundIs y s p r f rows
+    by (Ok (Some c)) q = (a.1.0, a.1.1, a.1.2, (a.0 ∙ ap read a.1.3, subst (λ (v : Reading). SeeksBy (Ok (Some c)) y.service s p v r rows) a.1.3 q))
+    by (Ok None) q = (a.1.0, a.1.1, a.1.2, (a.0 ∙ ap read a.1.3, subst (λ (v : Reading). SeeksBy (Ok None) y.service s p v r rows) a.1.3 q))
+    by (Err f) q = absurd q
 
 -- ---- the rows of the message found
 
@@ -152,15 +151,15 @@ module _ (ρ : ℕ) (s r : List ℕ) (c : Layout) {d : Bool} where
 
 -- ---- the walk of the search: what holds at its head
 
-pub record Sifting (y : Syntax) (s : List ℕ) (from : ℕ) (r : List ℕ) (x : State) (h l b : List ℕ) (i : ℕ) (m here l₀ b₀ : List ℕ) (f : Found) (rows : List ℕ) : Type 0 where
+pub record Sifting (y : Syntax) (s : List ℕ) (from : ℕ) (r : List ℕ) (x : State) (h l b : List ℕ) (i : ℕ) (m here l₀ b₀ : List ℕ) (f : Result (Option Layout) Breach) (rows : List ℕ) : Type 0 where
   pub looping : Looping y s from x h l b i m here l₀ b₀
   pub seeks : SeeksBy f y.service s from looping.walks.tree r rows
   pub long : length rows ≡ 18
 
 -- the search with what it holds now
-pub seeks-eq : (σ : Service) (s : List ℕ) (p : ℕ) (z : Reading) (r : List ℕ) {k f : Found} {rows left : List ℕ} → f ≡ k → left ≡ rows → SeeksBy k σ s p z r rows → SeeksBy f σ s p z r left
+pub seeks-eq : (σ : Service) (s : List ℕ) (p : ℕ) (z : Reading) (r : List ℕ) {k f : Result (Option Layout) Breach} {rows left : List ℕ} → f ≡ k → left ≡ rows → SeeksBy k σ s p z r rows → SeeksBy f σ s p z r left
 seeks-eq σ s p z r {k} {f} {rows} {left} e h q =
-    subst (λ (a : Found). SeeksBy a σ s p z r left) (sym e) (subst (λ (a : List ℕ). SeeksBy k σ s p z r a) (sym h) q)
+    subst (λ (a : Result (Option Layout) Breach). SeeksBy a σ s p z r left) (sym e) (subst (λ (a : List ℕ). SeeksBy k σ s p z r a) (sym h) q)
 
 -- nothing was read yet
 pub seeks-start : {y : Syntax} {s : List ℕ} {p : ℕ} {x : State} {h l b : List ℕ} {i : ℕ} (w : Walking y s p x h l b i) (r : List ℕ) → x ≡ unread_as
@@ -169,7 +168,7 @@ seeks-start {y} {p = p} w r e = ap (λ (z : Reading). placed_at y.service p z r)
 
 -- ---- the reference as it was given, and its bare part
 
-pub found-bare : (y : Syntax) (s : List ℕ) (from ρ : ℕ) (x z : List ℕ) (f : Found) (rows : List ℕ) → content ρ z ≡ compared (content ρ x)
+pub found-bare : (y : Syntax) (s : List ℕ) (from ρ : ℕ) (x z : List ℕ) (f : Result (Option Layout) Breach) (rows : List ℕ) → content ρ z ≡ compared (content ρ x)
     → FoundIs y s from (compared (content ρ z)) f rows → FoundIs y s from (compared (content ρ x)) f rows
 found-bare y s from ρ x z f rows e q =
     subst (λ (r : List ℕ). FoundIs y s from r f rows) (ap compared e ∙ compared-twice (content ρ x)) q

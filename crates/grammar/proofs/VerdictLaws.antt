@@ -1,5 +1,6 @@
 -- The verdict reads a tree exactly where it is valid and these are its octets. The demands are corollaries.
-use Rattle.std.specs.Prelude.{ℕ, Bool, true, false, List, [], ◌∷◌, ◌++◌, ◌↔◌, ◌≡◌, refl, T, length, drop}
+use Rattle.syntax.specs.declared.Breach.{Breach}
+use Rattle.std.specs.Prelude.{ℕ, Bool, true, false, List, [], ◌∷◌, ◌++◌, ◌↔◌, ◌≡◌, refl, T, length, drop, Result, Ok, Err}
 use Rattle.std.proofs.Common.{arith, ap, sym, ◌∙◌, subst}
 use Rattle.std.proofs.Math.Option.{Option, none, some}
 use Rattle.syntax.specs.Content.{compared}
@@ -13,8 +14,6 @@ use Rattle.syntax.specs.Reader.{chain}
 use Rattle.syntax.specs.declared.Refusal.{Refusal}
 use Rattle.syntax.specs.declared.Syntax.{Syntax}
 use Rattle.syntax.specs.declared.opening.Start.{Start}
-use Rattle.syntax.specs.declared.opening.Begun.{Begun}
-use Rattle.syntax.specs.declared.opening.Begun.TheVariants.{Ready, Refused}
 use Rattle.grammar.specs.Lists.{Snoc, joined, list, each, holds}
 use Rattle.grammar.specs.Segments.{Unb, seg, element_at, asked}
 use Rattle.grammar.specs.Elements.{formed}
@@ -67,7 +66,7 @@ ends s n (refused k p) t e = absurd (never e)
 unb-formed : (y : Syntax) (u : Leaf) (ms : Snoc Message) (z : Leaf) → holds (well_formed y (done u ms z)) → T (formed y.version (asked (seg Unb u)))
 unb-formed y u ms z h = every_front (formed_s y) (seg Unb u) (joined show_message ms) h.0
 
-valid-read : (s : List ℕ) (x : Start) → begun_of s ≡ Ready x → (u : Leaf) (ms : Snoc Message) (z : Leaf)
+valid-read : (s : List ℕ) (x : Start) → begun_of s ≡ Ok x → (u : Leaf) (ms : Snoc Message) (z : Leaf)
     → walk x.syntax start (chain x.syntax.service false (drop x.at s)) x.at ≡ read (done u ms z)
     → Valid (interchange (una_at s) u ms z) × (print_interchange (interchange (una_at s) u ms z) ≡ s)
 valid-read s x h u ms z w =
@@ -109,9 +108,9 @@ valid-read s x h u ms z w =
 reads : (s : List ℕ) (t : Interchange) → verdict_of s ≡ accepted t → Valid t × (print_interchange t ≡ s)
 reads s t e = by (begun_of s) refl e
   where
-    by : (b : Begun) → begun_of s ≡ b → verdict_by s b ≡ accepted t → Valid t × (print_interchange t ≡ s)
-    by (Refused f) h e = absurd (never e)
-    by (Ready x) h e =
+    by : (b : Result Start Breach) → begun_of s ≡ b → verdict_by s b ≡ accepted t → Valid t × (print_interchange t ≡ s)
+    by (Err f) h e = absurd (never e)
+    by (Ok x) h e =
         let d = ends s (una_at s) (walk x.syntax start (chain x.syntax.service false (drop x.at s)) x.at) t e in
         subst (λ (t : Interchange). Valid t × (print_interchange t ≡ s)) d.whole (valid-read s x h d.u d.ms d.z d.walked)
 

@@ -1,12 +1,12 @@
 -- Checked elements, as one table: number 8.
-use Rattle.std.specs.Prelude.{ℕ, zero, suc, Bool, true, false, cond, not, ◌&&◌, ◌||◌, List, [], ◌∷◌, leb, length}
+use Rattle.grammar.specs.declared.Subset.{Subset}
+use Rattle.std.specs.Prelude.{ℕ, zero, suc, Bool, true, false, cond, not, ◌&&◌, ◌||◌, List, [], ◌∷◌, leb, length, Option, None, Some}
 use Rattle.syntax.specs.Octets.{octets, same, within}
 use Rattle.syntax.specs.Content.{all_digits, blank}
 use Rattle.syntax.specs.Opening.{earlier}
 use Rattle.syntax.specs.declared.Version.{Version}
 use Rattle.syntax.specs.declared.Version.TheVariants.{Two, Three, Four}
-use Rattle.grammar.specs.declared.Subset.{Subset}
-use Rattle.grammar.specs.declared.Subset.TheVariants.{None, F01, Gs1}
+use Rattle.grammar.specs.declared.Subset.TheVariants.{F01, Gs1}
 use Rattle.grammar.specs.Segments.{Name, Unb, Unh, Unt, Unz, Ush, Usa, Usc, Usr, Ust, Usb, Usx, Usy, Kind, Named, Reserved, Free, kind_in, tags, Asked}
 use Rattle.grammar.specs.Loads.{control_right}
 
@@ -86,10 +86,10 @@ row_gs1 Usr = []
 row_gs1 Ust = []
 row_gs1 Usy = []
 
-abbrev pub subset_row : Subset → Name → List Checked
+abbrev pub subset_row : Option Subset → Name → List Checked
 subset_row None n = []
-subset_row F01 n = []
-subset_row Gs1 n = row_gs1 n
+subset_row (Some F01) n = []
+subset_row (Some Gs1) n = row_gs1 n
 
 -- ---- whether an element is as its row says
 

@@ -1,11 +1,11 @@
 -- A rule's test tells what the rule says; and what is asked of a subset.
-use Rattle.std.specs.Prelude.{Bool, true, false, cond, not, ◌&&◌, ◌≡◌, refl}
+use Rattle.std.specs.Prelude.{Bool, true, false, cond, not, ◌&&◌, ◌≡◌, refl, None, Some}
 use Rattle.std.proofs.lemmas.Bool.{false≢true}
 use Rattle.std.proofs.Common.{ap, sym}
 use Rattle.syntax.specs.Octets.{octets, same}
 use Rattle.syntax.specs.RepertoireLaws.{and_l, and_r}
 use Rattle.grammar.specs.Lists.{Snoc, nil, ◌▷◌, any, Rule, always, test, ◌and◌, holds, check, every, every_before}
-use Rattle.grammar.specs.declared.Subset.TheVariants.{None, F01, Gs1}
+use Rattle.grammar.specs.declared.Subset.TheVariants.{F01, Gs1}
 use Rattle.grammar.specs.Segments.{unh0057}
 use Rattle.grammar.specs.Interchange.{Leaf, Header, header, Body, plain, ack}
 use Rattle.grammar.specs.Rules.{autack, subset, is_autack, is_gs1, certified, ok_heads}
@@ -32,7 +32,7 @@ every-before f (s ▷ a) h = h.0
 pub is-autack : (h : Leaf) → is_autack (subset h) ≡ autack h
 is-autack h = by (autack h) (same (unh0057 h) (octets "EAN001"))
   where
-    by : (a c : Bool) → is_autack (cond a (cond c Gs1 F01) None) ≡ a
+    by : (a c : Bool) → is_autack (cond a (cond c (Some Gs1) (Some F01)) None) ≡ a
     by true true = refl
     by true false = refl
     by false c = refl
@@ -41,7 +41,7 @@ is-autack h = by (autack h) (same (unh0057 h) (octets "EAN001"))
 pub free-heads : (h : Leaf) → autack h ≡ false → (hs : Snoc Header) (b : Body) → holds (ok_heads (subset h) hs b)
 free-heads h e hs b = heads b
   where
-    other : (a c : Bool) → a ≡ false → is_gs1 (cond a (cond c Gs1 F01) None) ≡ false
+    other : (a c : Bool) → a ≡ false → is_gs1 (cond a (cond c (Some Gs1) (Some F01)) None) ≡ false
     other true c e = absurd (false≢true (sym e))
     other false c e = refl
 

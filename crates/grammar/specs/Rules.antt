@@ -2,8 +2,9 @@
 -- A rule on single segments (3, 8, 12) is tested on each segment shown.
 -- The last letter of a name says of what it is: S a segment, C a certificate, H a header group, T a trailer group, L a link, B a body, O an open message,
 -- M a message.
-use Rattle.std.specs.Prelude.{ℕ, zero, suc, ◌+◌, Bool, true, false, cond, not, ◌&&◌, ◌||◌, List, [], ◌∷◌, eqb}
-use Rattle.std.proofs.Math.Option.{Option, none, some}
+use Rattle.grammar.specs.declared.Subset.{Subset}
+use Rattle.std.specs.Prelude.{ℕ, zero, suc, ◌+◌, Bool, true, false, cond, not, ◌&&◌, ◌||◌, List, [], ◌∷◌, eqb, Option, None, Some}
+use Rattle.std.proofs.Math.Option.{Option as Maybe, none, some}
 use Rattle.syntax.specs.Octets.{octets, same}
 use Rattle.syntax.specs.Content.{value_from}
 use Rattle.syntax.specs.Cutting.{first_outside}
@@ -11,8 +12,7 @@ use Rattle.syntax.specs.Opening.{earlier, is_there}
 use Rattle.syntax.specs.Tree.{Segment, print_s}
 use Rattle.syntax.specs.declared.Syntax.{Syntax}
 use Rattle.syntax.specs.declared.Version.{Version}
-use Rattle.grammar.specs.declared.Subset.{Subset}
-use Rattle.grammar.specs.declared.Subset.TheVariants.{None, F01, Gs1}
+use Rattle.grammar.specs.declared.Subset.TheVariants.{F01, Gs1}
 use Rattle.grammar.specs.Lists.{Snoc, nil, ◌▷◌, each, joined, size, any, among, Rule, always, test, ◌and◌, every, every_before, few, distinct}
 use Rattle.grammar.specs.Grams.{Grams, same_grams, sum}
 use Rattle.grammar.specs.Segments.{Name, Usc, Usb, Usx, Kind, Named, Reserved, Free, segment_kind, seg, asked, unb0020, unh0062, unh0065, unh0057, unt0074, unt0062, unz0036, unz0020, ush0534, ush0541, ust0534, ust0588, usy0534}
@@ -36,21 +36,21 @@ autack h = same (unh0065 h) (octets "AUTACK")
 
 -- the subset of AUTACK that a message of this type and association code is written by: that of GS1, "chosen by UNH's association code EAN001", else F01;
 -- None: it is no AUTACK
-abbrev pub subset_of : List ℕ → List ℕ → Subset
-subset_of t c = cond (same t (octets "AUTACK")) (cond (same c (octets "EAN001")) Gs1 F01) None
+abbrev pub subset_of : List ℕ → List ℕ → Option Subset
+subset_of t c = cond (same t (octets "AUTACK")) (cond (same c (octets "EAN001")) (Some Gs1) (Some F01)) None
 
-abbrev pub subset : Leaf → Subset
+abbrev pub subset : Leaf → Option Subset
 subset h = subset_of (unh0065 h) (unh0057 h)
 
-abbrev pub is_autack : Subset → Bool
+abbrev pub is_autack : Option Subset → Bool
 is_autack None = false
-is_autack F01 = true
-is_autack Gs1 = true
+is_autack (Some F01) = true
+is_autack (Some Gs1) = true
 
-abbrev pub is_gs1 : Subset → Bool
+abbrev pub is_gs1 : Option Subset → Bool
 is_gs1 None = false
-is_gs1 F01 = false
-is_gs1 Gs1 = true
+is_gs1 (Some F01) = false
+is_gs1 (Some Gs1) = true
 
 -- "0 to 3 USA", "0 to 2 times (USC, ..)"
 abbrev pub ok_certificate : Certificate → Rule
@@ -60,11 +60,11 @@ abbrev pub ok_header : Header → Rule
 ok_header (header c us cs) = few 3 us and few 2 cs and every ok_certificate cs
 
 -- of the subset of GS1: "USC with 0536 is required in each header"
-abbrev pub certified : Subset → Header → Rule
+abbrev pub certified : Option Subset → Header → Rule
 certified a (header c us cs) = test (any cs || not (is_gs1 a))
 
 -- "7 at the segment after a header without USC": the last header may be just begun, until the body of AUTACK begins
-abbrev pub ok_heads : Subset → Snoc Header → Body → Rule
+abbrev pub ok_heads : Option Subset → Snoc Header → Body → Rule
 ok_heads a hs (plain b) = every_before (certified a) hs
 ok_heads a hs (ack c ls) = every (certified a) hs
 
@@ -121,19 +121,19 @@ abbrev pub well_formed : Syntax → Reading → Rule
 well_formed y x = every (formed_s y) (shown x)
 
 -- and, of the subset that a message is written by: "8 for a missing 0536, 0062 or wrong 0503"
-abbrev pub formed_in : Subset → Name → Leaf → Rule
+abbrev pub formed_in : Option Subset → Name → Leaf → Rule
 formed_in a n c = test (formed_row (subset_row a n) (asked (seg n c)) 1)
 
-abbrev pub subset_c : Subset → Certificate → Rule
+abbrev pub subset_c : Option Subset → Certificate → Rule
 subset_c a (certificate c us r) = formed_in a Usc c
 
-abbrev pub subset_h : Subset → Header → Rule
+abbrev pub subset_h : Option Subset → Header → Rule
 subset_h a (header c us cs) = every (subset_c a) cs
 
-abbrev pub subset_l : Subset → Link → Rule
+abbrev pub subset_l : Option Subset → Link → Rule
 subset_l a (link c ys) = formed_in a Usx c
 
-abbrev pub subset_b : Subset → Body → Rule
+abbrev pub subset_b : Option Subset → Body → Rule
 subset_b a (plain b) = always
 subset_b a (ack c ls) = formed_in a Usb c and every (subset_l a) ls
 
@@ -232,12 +232,12 @@ counts v (done u ms z) = every (counts_message v) ms and test (eqb (unz0036 z) (
 -- ---- 11: "0541 is 1 or 2; in AUTACK it is F01 and nothing else.", and in the subset of GS1 "0541 is 3"
 
 -- whether 0541 may be this, in a message of the subset
-abbrev pub scope_code : Subset → List ℕ → Bool
+abbrev pub scope_code : Option Subset → List ℕ → Bool
 scope_code None s = same s (octets "1") || same s (octets "2")
-scope_code F01 s = same s (octets "F01")
-scope_code Gs1 s = same s (octets "3")
+scope_code (Some F01) s = same s (octets "F01")
+scope_code (Some Gs1) s = same s (octets "3")
 
-abbrev pub scope_right : Subset → Header → Rule
+abbrev pub scope_right : Option Subset → Header → Rule
 scope_right a (header c us cs) = test (scope_code a (ush0541 c))
 
 abbrev pub scopes_open : Open → Rule

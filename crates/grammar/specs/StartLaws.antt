@@ -1,7 +1,9 @@
 -- The start of an interchange, read and printed: what `begun_of` reads with no repetition in force is what a tree says under the service characters in force.
-use Rattle.std.specs.Prelude.{ℕ, zero, suc, ◌+◌, ◌-◌, ◌≤◌, ◌<◌, List, [], ◌∷◌, ◌++◌, ◌≡◌, refl, Bool, true, false, cond, not, ◌&&◌, T, eqb, leb, ltb, length, get_or, drop}
+use Rattle.syntax.specs.declared.Version.{Version}
+use Rattle.syntax.specs.declared.Level.{Level}
+use Rattle.std.specs.Prelude.{ℕ, zero, suc, ◌+◌, ◌-◌, ◌≤◌, ◌<◌, List, [], ◌∷◌, ◌++◌, ◌≡◌, refl, Bool, true, false, cond, not, ◌&&◌, T, eqb, leb, ltb, length, get_or, drop, Option, Result, Some, None, Ok, Err}
 use Rattle.std.proofs.Common.{arith, ap, ap₂, sym, ◌∙◌, subst, ne_eqb, le-ltb, ltb-false, leb-false, eqb-true, le-leb, leb→le}
-use Rattle.std.proofs.Math.Option.{Option, none, some}
+use Rattle.std.proofs.Math.Option.{Option as Maybe, none, some}
 use Rattle.std.proofs.lemmas.Bool.{false≢true, lt-leb, eqb-false}
 use Rattle.syntax.specs.Octets.{within}
 use Rattle.syntax.specs.Service.{standard, without_repetition, servant, repetition_differs, fit, kind}
@@ -19,20 +21,8 @@ use Rattle.syntax.proofs.ReaderLaws.{well-uncons}
 use Rattle.syntax.specs.declared.Breach.{Breach}
 use Rattle.syntax.specs.declared.Service.{Service}
 use Rattle.syntax.specs.declared.Syntax.{Syntax}
-use Rattle.syntax.specs.declared.Found.TheVariants.{At}
-use Rattle.syntax.specs.declared.cutting.Tag.{Tag}
-use Rattle.syntax.specs.declared.cutting.Tag.TheVariants.{Is, Bad}
-use Rattle.syntax.specs.declared.reading.Span.{Span}
 use Rattle.syntax.specs.declared.opening.Opening.{Opening}
-use Rattle.syntax.specs.declared.opening.Opened.{Opened}
-use Rattle.syntax.specs.declared.opening.Opened.TheVariants.{Known, Refused as Closed}
-use Rattle.syntax.specs.declared.opening.LevelName.{LevelName}
-use Rattle.syntax.specs.declared.opening.LevelName.TheVariants.{Is as Leveled, Unknown as NoLevel}
-use Rattle.syntax.specs.declared.opening.VersionName.{VersionName}
-use Rattle.syntax.specs.declared.opening.VersionName.TheVariants.{Is as Versioned, Unknown as NoVersion}
 use Rattle.syntax.specs.declared.opening.Start.{Start}
-use Rattle.syntax.specs.declared.opening.Begun.{Begun}
-use Rattle.syntax.specs.declared.opening.Begun.TheVariants.{Ready, Refused}
 use Rattle.grammar.specs.Lists.{Snoc, nil, ◌▷◌, ◌+++◌, joined, list, Rule, holds, every}
 use Rattle.grammar.specs.Segments.{asked, Unb, Unz, seg, element_at, element_content}
 use Rattle.grammar.specs.Interchange.{Leaf, Message, done, shown, show_message}
@@ -72,7 +62,7 @@ stop5-same σ f [] i = refl
 stop5-same σ f (b ∷ s) i = by (kinds σ f b) (λ g. stop5-same σ g s (suc i))
   where
     by : {k₀ k : ℕ} → Kinds k₀ k → ((g : Bool) → stop_from (without_repetition σ) 5 g s (suc i) ≡ stop_from σ 5 g s (suc i)) →
-        cond (leb 5 k₀) (At i) (stop_from (without_repetition σ) 5 (eqb k₀ 0) s (suc i)) ≡ cond (leb 5 k) (At i) (stop_from σ 5 (eqb k 0) s (suc i))
+        cond (leb 5 k₀) (Some i) (stop_from (without_repetition σ) 5 (eqb k₀ 0) s (suc i)) ≡ cond (leb 5 k) (Some i) (stop_from σ 5 (eqb k 0) s (suc i))
     by k-release r = r true
     by k-data r = r false
     by k-component r = r false
@@ -134,7 +124,7 @@ pub names_same : (σ : Service) → T (fit σ) → (s : List ℕ) (a : ℕ) (u :
     repeats_of (element_at u 1) ≡ false → (c : ℕ) → content σ.release (part_of s (component_at (without_repetition σ) s a 1 c)) ≡ element_content u 1 c
 names_same σ f s a u r w d e c =
     let b : Agrees σ s a (seg Unb u) = bridge σ f s a (seg Unb u) r w d in
-    ap (λ (x : Span). content σ.release (part_of s x)) (first-same σ s a (b.element-repeats 0) (b.element-repeats 1 ∙ e) c)
+    ap (λ (x : Option (ℕ × ℕ)). content σ.release (part_of s x)) (first-same σ s a (b.element-repeats 0) (b.element-repeats 1 ∙ e) c)
     ∙ b.component-content 1 c
 
 -- ---- tests
@@ -161,7 +151,7 @@ fit-without σ h =
     (cond (eqb σ.repetition 32) true (repetition_differs σ)) h
 
 -- what UNA gives, or is standard, fits
-pub fit-opening : (n : Option Una) → T (una_right n) → T (fit (opening_in n).service)
+pub fit-opening : (n : Maybe Una) → T (una_right n) → T (fit (opening_in n).service)
 fit-opening none h = tt
 fit-opening (some (una σ m)) h = h
 
@@ -171,17 +161,17 @@ record Settled (o : Opening) (x : Start) : Type 0 where
   fits : T (fit o.service) → T (fit x.syntax.service)
   place : x.at ≡ o.at
 
-never : {A : Type 0} {f : Breach} {x : Start} → Refused f ≡ Ready x → A
+never : {A : Type 0} {f : Breach} {x : Start} → Err f ≡ Ok x → A
 never e = let z : ◌≡◌ {A = ℕ} 0 1 = cc in let y : ⊥ = omega arith in absurd y
 
-settled-by : (o : Opening) (l : LevelName) (n : VersionName) (x : Start) → both_named o l n ≡ Ready x → Settled o x
-settled-by o NoLevel n x e = never e
-settled-by o (Leveled l) NoVersion x e = never e
-settled-by o (Leveled l) (Versioned n) x e = by (goes l n) (repeating n) (o.una && not (eqb o.service.repetition 32)) e
+settled-by : (o : Opening) (l : Option Level) (n : Option Version) (x : Start) → both_named o l n ≡ Ok x → Settled o x
+settled-by o None n x e = never e
+settled-by o (Some l) None x e = never e
+settled-by o (Some l) (Some n) x e = by (goes l n) (repeating n) (o.una && not (eqb o.service.repetition 32)) e
   where
-    by : (g r t : Bool) → cond g (cond r (Ready (record { syntax = record { version = n; level = l; service = o.service }; at = o.at }))
-        (cond t (refused_unb 6 o.at) (Ready (record { syntax = record { version = n; level = l; service = without_repetition o.service }; at = o.at }))))
-        (refused_unb 6 o.at) ≡ Ready x → Settled o x
+    by : (g r t : Bool) → cond g (cond r (Ok (record { syntax = record { version = n; level = l; service = o.service }; at = o.at }))
+        (cond t (refused_unb 6 o.at) (Ok (record { syntax = record { version = n; level = l; service = without_repetition o.service }; at = o.at }))))
+        (refused_unb 6 o.at) ≡ Ok x → Settled o x
     by false r t e = never e
     by true true t e =
         let p : record { syntax = record { version = n; level = l; service = o.service }; at = o.at } ≡ x = cc in
@@ -235,37 +225,37 @@ begun-print : (s : List ℕ) (o : Opening) (σ : Service) → without_repetition
     begun_at s o ≡ both_named o (level_named (element_content u 1 0)) (version_named (element_content u 1 1))
 begun-print s o σ q f u r w d e =
     let b : Agrees σ s o.at (seg Unb u) = bridge σ f s o.at (seg Unb u) r w d in
-    let h : end_at (without_repetition o.service) s o.at ≡ At (o.at + (length (print_s σ (seg Unb u)) - 1)) =
+    let h : end_at (without_repetition o.service) s o.at ≡ Some (o.at + (length (print_s σ (seg Unb u)) - 1)) =
     ap (λ (x : Service). end_at x s o.at) (sym q) ∙ stop5-same σ false (drop o.at s) o.at ∙ b.end in
-    let k : tag_of o.service (drop o.at s) ≡ Is 85 78 66 = tag-alike o.service σ (sym q) (drop o.at s) ∙ b.tag in
+    let k : tag_of o.service (drop o.at s) ≡ Some (85, 78, 66) = tag-alike o.service σ (sym q) (drop o.at s) ∙ b.tag in
     steps (lt-leb (length s) o.at (drop-short o.at s d)) (ap is_there h) k
     ∙ ap₂ (both_named o) (ap level_named (names-alike σ o.service q f s o.at u r w d e 0)) (ap version_named (names-alike σ o.service q f s o.at u r w d e 1))
   where
-    steps : leb (length s) o.at ≡ false → is_there (end_at (without_repetition o.service) s o.at) ≡ true → tag_of o.service (drop o.at s) ≡ Is 85 78 66 →
+    steps : leb (length s) o.at ≡ false → is_there (end_at (without_repetition o.service) s o.at) ≡ true → tag_of o.service (drop o.at s) ≡ Some (85, 78, 66) →
         begun_at s o ≡ declared_at s (without_repetition o.service) o
     steps x y z = rw (x, y, z)
 
 -- ---- what is printed
 
 -- what is known before UNB
-openings : (s : List ℕ) → T (within 1 65535 (length s)) → opening_of s ≡ cond (starts_una s) (read_una s) (Known (opening_in none))
+openings : (s : List ℕ) → T (within 1 65535 (length s)) → opening_of s ≡ cond (starts_una s) (read_una s) (Ok (opening_in none))
 openings s h =
     let a : 1 ≤ length s = leb→le 1 (length s) (and_left (leb 1 (length s)) (leb (length s) 65535) h) in
     let b : length s ≤ 65535 = leb→le (length s) 65535 (and_right (leb 1 (length s)) (leb (length s) 65535) h) in
     rw (ne_eqb (length s) 0 (λ z. omega arith), le-ltb 65535 (length s) b)
 
-module _ (n : Option Una) (u : Leaf) (ms : Snoc Message) (z : Leaf) (v : Valid (interchange n u ms z)) where
-  settles : (x : Start) × (begun_in (interchange n u ms z) ≡ Ready x) × (x.syntax ≡ v.y)
+module _ (n : Maybe Una) (u : Leaf) (ms : Snoc Message) (z : Leaf) (v : Valid (interchange n u ms z)) where
+  settles : (x : Start) × (begun_in (interchange n u ms z) ≡ Ok x) × (x.syntax ≡ v.y)
   settles = by (begun_in (interchange n u ms z)) v.named
     where
-      by : (b : Begun) → readied b ≡ some v.y → (x : Start) × (b ≡ Ready x) × (x.syntax ≡ v.y)
-      by (Ready x) e = (x, refl, cc)
-      by (Refused f) e = let k : ◌≡◌ {A = ℕ} 0 1 = cc in let y : ⊥ = omega arith in absurd y
+      by : (b : Result Start Breach) → readied b ≡ some v.y → (x : Start) × (b ≡ Ok x) × (x.syntax ≡ v.y)
+      by (Ok x) e = (x, refl, cc)
+      by (Err f) e = let k : ◌≡◌ {A = ℕ} 0 1 = cc in let y : ⊥ = omega arith in absurd y
 
-  ready : begun_in (interchange n u ms z) ≡ Ready (record { syntax = v.y; at = (opening_in n).at })
+  ready : begun_in (interchange n u ms z) ≡ Ok (record { syntax = v.y; at = (opening_in n).at })
   ready =
       let w = settles in
-      w.1 ∙ ap₂ (λ (a : Syntax) (b : ℕ). Ready (record { syntax = a; at = b })) w.2 (settled-by (opening_in n) (level_named (element_content u 1 0)) (version_named (element_content u 1 1)) w.0 w.1).place
+      w.1 ∙ ap₂ (λ (a : Syntax) (b : ℕ). Ok (record { syntax = a; at = b })) w.2 (settled-by (opening_in n) (level_named (element_content u 1 0)) (version_named (element_content u 1 1)) w.0 w.1).place
 
   settles-so : Settled (opening_in n) (record { syntax = v.y; at = (opening_in n).at })
   settles-so = settled-by (opening_in n) (level_named (element_content u 1 0)) (version_named (element_content u 1 1)) (record { syntax = v.y; at = (opening_in n).at }) ready
@@ -274,7 +264,7 @@ module _ (n : Option Una) (u : Leaf) (ms : Snoc Message) (z : Leaf) (v : Valid (
   in-force = settles-so.fits (fit-opening n v.service_right)
 
   printed : print_interchange (interchange n u ms z) ≡ print_una n ++ syntax.print v.y.service (segments (interchange n u ms z))
-  printed = ap (λ (y : Option Syntax). print_una n ++ syntax.print (in_force y) (segments (interchange n u ms z))) v.named
+  printed = ap (λ (y : Maybe Syntax). print_una n ++ syntax.print (in_force y) (segments (interchange n u ms z))) v.named
 
   -- UNB's octets, and what follows them
   first-print : syntax.print v.y.service (segments (interchange n u ms z)) ≡ print_s v.y.service (seg Unb u) ++ syntax.print v.y.service (behind ms z)
@@ -302,20 +292,20 @@ pub rest-printed : (t : Interchange) (v : Valid t) → drop (opening_in (una_of 
 rest-printed (interchange none u ms z) v = printed none u ms z v
 rest-printed (interchange (some (una σ m)) u ms z) v = ap (drop 9) (printed (some (una σ m)) u ms z v)
 
-readies : (σ : Service) (m : ℕ) (r : List ℕ) → T (fit σ) → read_una (print_una (some (una σ m)) ++ r) ≡ Known (opening_in (some (una σ m)))
+readies : (σ : Service) (m : ℕ) (r : List ℕ) → T (fit σ) → read_una (print_una (some (una σ m)) ++ r) ≡ Ok (opening_in (some (una σ m)))
 readies σ m r h = rw (le-ltb (length (print_una (some (una σ m)) ++ r)) 9 (omega arith), is_true (fit σ) h)
 
 -- what is known before UNB is what the tree says
-pub opening-printed : (t : Interchange) (v : Valid t) → opening_of (print_interchange t) ≡ Known (opening_in (una_of t))
+pub opening-printed : (t : Interchange) (v : Valid t) → opening_of (print_interchange t) ≡ Ok (opening_in (una_of t))
 opening-printed (interchange none u ms z) v =
     openings (print_interchange (interchange none u ms z)) v.octets_right
-    ∙ ap (λ (s : List ℕ). cond (starts_una s) (read_una s) (Known (opening_in none))) (printed none u ms z v ∙ first-print none u ms z v)
+    ∙ ap (λ (s : List ℕ). cond (starts_una s) (read_una s) (Ok (opening_in none))) (printed none u ms z v ∙ first-print none u ms z v)
 opening-printed (interchange (some (una σ m)) u ms z) v =
     openings (print_interchange (interchange (some (una σ m)) u ms z)) v.octets_right
     ∙ readies σ m (syntax.print (in_force (syntax_in (interchange (some (una σ m)) u ms z))) (segments (interchange (some (una σ m)) u ms z))) v.service_right
 
 -- the start of what is printed is read as the tree's syntax, and the place behind UNA
-pub start-printed : (t : Interchange) (v : Valid t) → begun_of (print_interchange t) ≡ Ready (record { syntax = v.y; at = (opening_in (una_of t)).at })
+pub start-printed : (t : Interchange) (v : Valid t) → begun_of (print_interchange t) ≡ Ok (record { syntax = v.y; at = (opening_in (una_of t)).at })
 start-printed (interchange n u ms z) v =
     ap (begun_by (print_interchange (interchange n u ms z))) (opening-printed (interchange n u ms z) v)
     ∙ begun-print (print_interchange (interchange n u ms z)) (opening_in n) v.y.service (settles-so n u ms z v).same (in-force n u ms z v) u
@@ -336,13 +326,13 @@ pub record StartRead (s : List ℕ) (x : Start) : Type 0 where
   pub whole : print_una (una_at s) ++ drop x.at s ≡ s
   pub at : x.at ≡ (opening_in (una_at s)).at
   pub fits : T (fit x.syntax.service)
-  pub named : both_named (opening_in (una_at s)) (level_named (name_in s x.at 0)) (version_named (name_in s x.at 1)) ≡ Ready x
-  pub tag : tag_of x.syntax.service (drop x.at s) ≡ Is 85 78 66
+  pub named : both_named (opening_in (una_at s)) (level_named (name_in s x.at 0)) (version_named (name_in s x.at 1)) ≡ Ok x
+  pub tag : tag_of x.syntax.service (drop x.at s) ≡ Some (85, 78, 66)
   pub service : without_repetition x.syntax.service ≡ without_repetition (opening_in (una_at s)).service
   pub left : x.at < length s
   pub end : is_there (end_at x.syntax.service s x.at) ≡ true
 
-closed : {A : Type 0} {f : Breach} {o : Opening} → Closed f ≡ Known o → A
+closed : {A : Type 0} {f : Breach} {o : Opening} → Err f ≡ Ok o → A
 closed e = let z : ◌≡◌ {A = ℕ} 0 1 = cc in let y : ⊥ = omega arith in absurd y
 
 -- UNA's octets, and those behind them
@@ -367,13 +357,13 @@ whole-una (a ∷ b ∷ c ∷ d ∷ e ∷ f ∷ g ∷ []) h k = unset k
 whole-una (a ∷ b ∷ c ∷ d ∷ e ∷ f ∷ g ∷ i ∷ []) h k = unset k
 whole-una (a ∷ b ∷ c ∷ d ∷ e ∷ f ∷ g ∷ i ∷ j ∷ s) h k = is-una a b c (d ∷ e ∷ f ∷ g ∷ i ∷ j ∷ s) h
 
-record OpeningRead (s : List ℕ) (o : Opening) (n : Option Una) : Type 0 where
+record OpeningRead (s : List ℕ) (o : Opening) (n : Maybe Una) : Type 0 where
   lengths : T (within 1 65535 (length s))
   una-right : T (una_right n)
   whole : print_una n ++ drop o.at s ≡ s
   same : o ≡ opening_in n
 
-opening-read : (s : List ℕ) (o : Opening) → opening_of s ≡ Known o → OpeningRead s o (una_at s)
+opening-read : (s : List ℕ) (o : Opening) → opening_of s ≡ Ok o → OpeningRead s o (una_at s)
 opening-read s o e = by (eqb (length s) 0) (ltb 65535 (length s)) (starts_una s) refl refl refl e
   where
     inside : eqb (length s) 0 ≡ false → ltb 65535 (length s) ≡ false → T (within 1 65535 (length s))
@@ -388,7 +378,7 @@ opening-read s o e = by (eqb (length s) 0) (ltb 65535 (length s)) (starts_una s)
         some-there (suc n) a = omega arith
 
     by-una : (a b : Bool) → ltb (length s) 9 ≡ a → fit (una_service s) ≡ b → T (within 1 65535 (length s)) → starts_una s ≡ true →
-        cond a (Closed (record { number = 2; place = 0 })) (cond b (Known (record { service = una_service s; una = true; at = 9 })) (Closed (record { number = 2; place = 0 }))) ≡ Known o →
+        cond {A = Result Opening Breach} a (Err (record { number = 2; place = 0 })) (cond b (Ok (record { service = una_service s; una = true; at = 9 })) (Err (record { number = 2; place = 0 }))) ≡ Ok o →
         OpeningRead s o (some (una (una_service s) (get_or s 5 0)))
     by-una true b x y l z e = closed e
     by-una false false x y l z e = closed e
@@ -397,8 +387,8 @@ opening-read s o e = by (eqb (length s) 0) (ltb 65535 (length s)) (starts_una s)
         rw (← p) (record { lengths = l; una-right = passes (fit (una_service s)) y; whole = whole-una s z x; same = refl })
 
     by : (a b c : Bool) → eqb (length s) 0 ≡ a → ltb 65535 (length s) ≡ b → starts_una s ≡ c →
-        cond a (Closed (record { number = 1; place = 0 })) (cond b (Closed (record { number = 1; place = 0 }))
-        (cond c (read_una s) (Known (record { service = standard; una = false; at = 0 })))) ≡ Known o →
+        cond {A = Result Opening Breach} a (Err (record { number = 1; place = 0 })) (cond b (Err (record { number = 1; place = 0 }))
+        (cond c (read_una s) (Ok (record { service = standard; una = false; at = 0 })))) ≡ Ok o →
         OpeningRead s o (cond c (some (una (una_service s) (get_or s 5 0))) none)
     by true b c x y z e = closed e
     by false true c x y z e = closed e
@@ -407,11 +397,11 @@ opening-read s o e = by (eqb (length s) 0) (ltb 65535 (length s)) (starts_una s)
         let p : record { service = standard; una = false; at = 0 } ≡ o = cc in
         rw (← p) (record { lengths = inside x y; una-right = tt; whole = refl; same = refl })
 
-is-unb : (t : Tag) → is_unb t ≡ true → t ≡ Is 85 78 66
-is-unb Bad h = absurd (false≢true h)
-is-unb (Is a b c) h = by (eqb a 85) (eqb b 78) (eqb c 66) refl refl refl h
+is-unb : (t : Option (ℕ × ℕ × ℕ)) → is_unb t ≡ true → t ≡ Some (85, 78, 66)
+is-unb None h = absurd (false≢true h)
+is-unb (Some (a, b, c)) h = by (eqb a 85) (eqb b 78) (eqb c 66) refl refl refl h
   where
-    by : (p q w : Bool) → eqb a 85 ≡ p → eqb b 78 ≡ q → eqb c 66 ≡ w → cond p (cond q (cond w true false) false) false ≡ true → Is a b c ≡ Is 85 78 66
+    by : (p q w : Bool) → eqb a 85 ≡ p → eqb b 78 ≡ q → eqb c 66 ≡ w → cond p (cond q (cond w true false) false) false ≡ true → ◌≡◌ {A = Option (ℕ × ℕ × ℕ)} (Some (a, b, c)) (Some (85, 78, 66))
     by true true true x y z h = rw (eqb-true a 85 x, eqb-true b 78 y, eqb-true c 66 z)
     by true true false x y z h = absurd (false≢true h)
     by true false w x y z h = absurd (false≢true h)
@@ -420,17 +410,17 @@ is-unb (Is a b c) h = by (eqb a 85) (eqb b 78) (eqb c 66) refl refl refl h
 record BegunRead (s : List ℕ) (o : Opening) (x : Start) : Type 0 where
   left : o.at < length s
   end : is_there (end_at (without_repetition o.service) s o.at) ≡ true
-  tag : tag_of o.service (drop o.at s) ≡ Is 85 78 66
-  named : declared_at s (without_repetition o.service) o ≡ Ready x
+  tag : tag_of o.service (drop o.at s) ≡ Some (85, 78, 66)
+  named : declared_at s (without_repetition o.service) o ≡ Ok x
 
-begun-read : (s : List ℕ) (o : Opening) (x : Start) → begun_at s o ≡ Ready x → BegunRead s o x
+begun-read : (s : List ℕ) (o : Opening) (x : Start) → begun_at s o ≡ Ok x → BegunRead s o x
 begun-read s o x e =
     by (leb (length s) o.at) (is_there (end_at (without_repetition o.service) s o.at)) (is_tag (tag_of o.service (drop o.at s)))
     (is_unb (tag_of o.service (drop o.at s))) refl refl refl e
   where
     by : (a b c d : Bool) → leb (length s) o.at ≡ a → is_there (end_at (without_repetition o.service) s o.at) ≡ b → is_unb (tag_of o.service (drop o.at s)) ≡ d →
         cond a (refused_unb 5 o.at) (cond (not b) (refused_unb 4 o.at) (cond (not c) (refused_unb 4 o.at) (cond (not d) (refused_unb 5 o.at)
-        (declared_at s (without_repetition o.service) o)))) ≡ Ready x → BegunRead s o x
+        (declared_at s (without_repetition o.service) o)))) ≡ Ok x → BegunRead s o x
     by true b c d p q r e = never e
     by false false c d p q r e = never e
     by false true false d p q r e = never e
@@ -439,7 +429,7 @@ begun-read s o x e =
         record { left = leb-false (length s) o.at p; end = q; tag = is-unb (tag_of o.service (drop o.at s)) r; named = e }
 
 -- what is told by a start that is read
-pub start-read : (s : List ℕ) (x : Start) → begun_of s ≡ Ready x → StartRead s x
+pub start-read : (s : List ℕ) (x : Start) → begun_of s ≡ Ok x → StartRead s x
 start-read s x e = by (opening_of s) refl e
   where
     known : (o : Opening) → o ≡ opening_in (una_at s) → OpeningRead s o (una_at s) → BegunRead s o x → Settled o x → StartRead s x
@@ -462,15 +452,15 @@ start-read s x e = by (opening_of s) refl e
               ∙ ap (λ (w : Service). is_there (end_at w s o.at)) c.same ∙ b.end;
         }
 
-    by : (w : Opened) → opening_of s ≡ w → begun_by s w ≡ Ready x → StartRead s x
-    by (Closed f) h e = never e
-    by (Known o) h e =
+    by : (w : Result Opening Breach) → opening_of s ≡ w → begun_by s w ≡ Ok x → StartRead s x
+    by (Err f) h e = never e
+    by (Ok o) h e =
         let a = opening-read s o h in let b = begun-read s o x e in
         known o a.same a b
         (settled-by o (level_named (name_at (without_repetition o.service) s o.at 0)) (version_named (name_at (without_repetition o.service) s o.at 1)) x b.named)
 
 -- a tree whose UNB stands where UNB is read, and whose first element does not repeat, says the syntax that is read
-pub syntax-read : (s : List ℕ) (x : Start) → begun_of s ≡ Ready x → (u : Leaf) (r : List ℕ) → T (well x.syntax.service (seg Unb u ∷ [])) →
+pub syntax-read : (s : List ℕ) (x : Start) → begun_of s ≡ Ok x → (u : Leaf) (r : List ℕ) → T (well x.syntax.service (seg Unb u ∷ [])) →
     drop x.at s ≡ print_s x.syntax.service (seg Unb u) ++ r → repeats_of (element_at u 1) ≡ false → (ms : Snoc Message) (z : Leaf) →
     syntax_in (interchange (una_at s) u ms z) ≡ some x.syntax
 syntax-read s x e u r w d h ms z =

@@ -1,5 +1,6 @@
 -- An interchange, how it is printed, and which are valid. Nothing here reads octets.
-use Rattle.std.specs.Prelude.{ℕ, Bool, true, false, List, [], ◌∷◌, ◌++◌, ◌≡◌, T, length}
+use Rattle.syntax.specs.declared.Breach.{Breach}
+use Rattle.std.specs.Prelude.{ℕ, Bool, true, false, List, [], ◌∷◌, ◌++◌, ◌≡◌, T, length, Result, Ok, Err}
 use Rattle.std.proofs.Math.Option.{Option, none, some}
 use Rattle.syntax.specs.Octets.{octets, within}
 use Rattle.syntax.specs.Service.{standard, fit}
@@ -10,8 +11,6 @@ use Rattle.syntax.specs.declared.Service.{Service}
 use Rattle.syntax.specs.declared.Syntax.{Syntax}
 use Rattle.syntax.specs.declared.opening.Opening.{Opening}
 use Rattle.syntax.specs.declared.opening.Start.{Start}
-use Rattle.syntax.specs.declared.opening.Begun.{Begun}
-use Rattle.syntax.specs.declared.opening.Begun.TheVariants.{Ready, Refused}
 use Rattle.grammar.specs.Lists.{Snoc, list, holds}
 use Rattle.grammar.specs.Segments.{unb0001, unb0002}
 use Rattle.grammar.specs.Interchange.{Leaf, Message, Reading, done, shown}
@@ -37,12 +36,12 @@ abbrev pub opening_in : Option Una → Opening
 opening_in none = record { service = standard; una = false; at = 0 }
 opening_in (some (una σ m)) = record { service = σ; una = true; at = 9 }
 
-abbrev pub begun_in : Interchange → Begun
+abbrev pub begun_in : Interchange → Result Start Breach
 begun_in (interchange n u ms z) = both_named (opening_in n) (level_named (unb0001 u)) (version_named (unb0002 u))
 
-abbrev pub readied : Begun → Option Syntax
-readied (Ready x) = some x.syntax
-readied (Refused f) = none
+abbrev pub readied : Result Start Breach → Option Syntax
+readied (Ok x) = some x.syntax
+readied (Err f) = none
 
 abbrev pub syntax_in : Interchange → Option Syntax
 syntax_in t = readied (begun_in t)

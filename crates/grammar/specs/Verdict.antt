@@ -1,6 +1,7 @@
 -- The verdict, as document 01 prints it: for every list of octets the reading, or the first refusal in the paper's order.
-use Rattle.std.specs.Prelude.{ℕ, ◌+◌, Bool, true, false, cond, not, ◌&&◌, List, [], ◌∷◌, length, get_or, drop}
-use Rattle.std.proofs.Math.Option.{Option, none, some}
+use Rattle.syntax.specs.declared.Breach.{Breach}
+use Rattle.std.specs.Prelude.{ℕ, ◌+◌, Bool, true, false, cond, not, ◌&&◌, List, [], ◌∷◌, length, get_or, drop, Option, Result, Some, None, Ok, Err}
+use Rattle.std.proofs.Math.Option.{Option as Maybe, none, some}
 use Rattle.syntax.specs.Content.{compared}
 use Rattle.syntax.specs.Octets.{same}
 use Rattle.syntax.specs.Cutting.{first_outside}
@@ -10,11 +11,7 @@ use Rattle.syntax.specs.Tree.{Segment, print_s}
 use Rattle.syntax.specs.Reader.{Chain, over, left, open', chain, cut}
 use Rattle.syntax.specs.declared.Refusal.{Refusal}
 use Rattle.syntax.specs.declared.Syntax.{Syntax}
-use Rattle.syntax.specs.declared.Found.{Found}
-use Rattle.syntax.specs.declared.Found.TheVariants.{At, Nothing}
 use Rattle.syntax.specs.declared.opening.Start.{Start}
-use Rattle.syntax.specs.declared.opening.Begun.{Begun}
-use Rattle.syntax.specs.declared.opening.Begun.TheVariants.{Ready, Refused}
 use Rattle.grammar.specs.Lists.{Snoc, nil, ◌▷◌, size, Rule, check}
 use Rattle.grammar.specs.Grams.{Grams, no_grams, sum}
 use Rattle.grammar.specs.Interchange.{Body, plain, ack, Open, msg, Message, message, Reading, start, idle, busy, done}
@@ -30,18 +27,18 @@ pub data Test : Type 0 where
   tested : ℕ → ℕ → Bool → Test
 
 -- a rule of what was read so far with the segment in it; a segment that has no place breaks it
-abbrev pub on : (Reading → Rule) → Option Reading → Bool
+abbrev pub on : (Reading → Rule) → Maybe Reading → Bool
 on rule none = false
 on rule (some x) = check (rule x)
 
 -- the place of 3 is "the octet": the first one outside
-abbrev pub found_at : ℕ → Found → ℕ
-found_at p (At q) = q
-found_at p Nothing = p
+abbrev pub found_at : ℕ → Option ℕ → ℕ
+found_at p (Some q) = q
+found_at p None = p
 
 -- "Others: 4, 3, 7, 8, 9, 10, 11, 12." 4 is told where the segment is cut. At UNB, whose 4, 5, 6 come first, only 3 and 8 can fail.
 -- `x` is what was read so far with the segment g, which stands at p, in its place
-abbrev pub tests : Syntax → Segment → ℕ → Option Reading → List Test
+abbrev pub tests : Syntax → Segment → ℕ → Maybe Reading → List Test
 tests y g p x =
     tested 3 (found_at p (first_outside y (print_s y.service g) p)) (check (inside_s y g))
     ∷ tested 7 p (on order x)
@@ -59,7 +56,7 @@ pub data Answer : Type 0 where
   refused : ℕ → ℕ → Answer
 
 -- the first test that is not passed decides
-abbrev pub decided : List Test → Option Reading → Answer
+abbrev pub decided : List Test → Maybe Reading → Answer
 decided [] none = refused 7 0
 decided [] (some x) = read x
 decided (tested n p b ∷ ts) x = cond b (decided ts x) (refused n p)
@@ -83,7 +80,7 @@ unless-done (busy u ms o) p a = a
 unless-done (done u ms z) p a = refused 7 p
 
 -- 4: "no terminator, or bad tag"
-abbrev pub tagged-or : ℕ → Option Segment → (Segment → Answer) → Answer
+abbrev pub tagged-or : ℕ → Maybe Segment → (Segment → Answer) → Answer
 tagged-or p none k = refused 4 p
 tagged-or p (some g) k = k g
 
@@ -102,21 +99,21 @@ pub data Verdict : Type 0 where
   accepted : Interchange → Verdict
   refused_with : Refusal → Verdict
 
-abbrev pub una_at : List ℕ → Option Una
+abbrev pub una_at : List ℕ → Maybe Una
 una_at s = cond (starts_una s) (some (una (una_service s) (get_or s 5 0))) none
 
 -- of the octets s, once their walk has ended. A walk that reads ends in `done` (`WalkLaws.walk-runs`: what it read is `Finished`; else `at_end` has
 -- refused it, with its place), so that the cases `start`, `idle` and `busy` never come about
-abbrev pub concluded : List ℕ → Option Una → Answer → Verdict
+abbrev pub concluded : List ℕ → Maybe Una → Answer → Verdict
 concluded s n (read start) = refused_with (refusal_at s 7 0)
 concluded s n (read (idle u ms)) = refused_with (refusal_at s 7 0)
 concluded s n (read (busy u ms o)) = refused_with (refusal_at s 7 0)
 concluded s n (read (done u ms z)) = accepted (interchange n u ms z)
 concluded s n (refused k p) = refused_with (refusal_at s k p)
 
-abbrev pub verdict_by : List ℕ → Begun → Verdict
-verdict_by s (Refused f) = refused_with (refusal_at s f.number f.place)
-verdict_by s (Ready x) = concluded s (una_at s) (walk x.syntax start (chain x.syntax.service false (drop x.at s)) x.at)
+abbrev pub verdict_by : List ℕ → Result Start Breach → Verdict
+verdict_by s (Err f) = refused_with (refusal_at s f.number f.place)
+verdict_by s (Ok x) = concluded s (una_at s) (walk x.syntax start (chain x.syntax.service false (drop x.at s)) x.at)
 
 abbrev pub verdict_of : List ℕ → Verdict
 verdict_of s = verdict_by s (begun_of s)

@@ -4,32 +4,23 @@
 ghost use Rattle.std.specs.Prelude.{◌≡◌};
 ghost use Rattle.grammar.specs.Rules.{is_autack, is_gs1};
 
-// The subset of AUTACK that a message is written by, F01 or that of GS1; None: it is no AUTACK.
+// The subset of AUTACK that a message is written by, F01 or that of GS1. A message that is no AUTACK has none.
 #[derive(Clone, Copy)]
 pub enum Subset {
-    None,
     F01,
     Gs1,
 }
 
 // Whether it is an AUTACK.
-pub fn is_autack(x: Subset) -> bool
+pub fn is_autack(x: Option<Subset>) -> bool
     ensures { result ≡ is_autack x }
 {
-    match x {
-        Subset::None => false,
-        Subset::F01 => true,
-        Subset::Gs1 => true,
-    }
+    x.is_some()
 }
 
 // Whether it is the subset of GS1.
-pub fn is_gs1(x: Subset) -> bool
+pub fn is_gs1(x: Option<Subset>) -> bool
     ensures { result ≡ is_gs1 x }
 {
-    match x {
-        Subset::None => false,
-        Subset::F01 => false,
-        Subset::Gs1 => true,
-    }
+    matches!(x, Some(Subset::Gs1))
 }

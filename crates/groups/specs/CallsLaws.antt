@@ -1,5 +1,5 @@
 -- The message that is found is the one that is named, and stands where the layout says.
-use Rattle.std.specs.Prelude.{ℕ, ◌+◌, ◌≤◌, ◌≡◌, List, [], ◌++◌, Bool, true, false, cond, T, leb, length, drop}
+use Rattle.std.specs.Prelude.{ℕ, ◌+◌, ◌≤◌, ◌≡◌, List, [], ◌++◌, Bool, true, false, cond, T, leb, length, drop, Result, Ok, Err, Some, None, Option}
 use Rattle.std.proofs.Common.{arith, ap, ◌∙◌, sym, subst, append-nil, leb→le}
 use Rattle.std.proofs.Math.Option.{none, some, none-ne-some}
 use Rattle.syntax.proofs.ContentLaws.{plain-content}
@@ -7,7 +7,6 @@ use Rattle.syntax.specs.Content.{content, compared}
 use Rattle.syntax.specs.Octets.{same}
 use Rattle.syntax.specs.Service.{fit}
 use Rattle.syntax.specs.Opening.{begun_of}
-use Rattle.syntax.specs.Classes.{Table}
 use Rattle.syntax.specs.Tree.{print, well}
 use Rattle.syntax.proofs.TreeLaws.{and_right}
 use Rattle.syntax.specs.declared.Service.{Service}
@@ -16,8 +15,6 @@ use Rattle.syntax.specs.Refusals.{refusal_at}
 use Rattle.syntax.specs.declared.Breach.{Breach}
 use Rattle.syntax.specs.declared.Refusal.{Refusal}
 use Rattle.syntax.specs.declared.opening.Start.{Start}
-use Rattle.syntax.specs.declared.opening.Begun.{Begun}
-use Rattle.syntax.specs.declared.opening.Begun.TheVariants.{Ready as Begins, Refused as Refuses}
 use Rattle.grammar.specs.Lists.{Snoc, nil, ◌▷◌, ◌+++◌, joined, size, Rule, holds, every}
 use Rattle.grammar.specs.Segments.{Unb, Unz, seg}
 use Rattle.grammar.specs.Interchange.{Leaf, Message, idle, done, shown, show_message}
@@ -34,14 +31,11 @@ use Rattle.walk.specs.RunLaws.{verdict-by}
 use Rattle.walk.specs.Runs.{answer_from}
 use Rattle.walk.specs.declared.sections.Layout.{Layout}
 use Rattle.finding.specs.Finding.{FoundIs, WholeBy, SeeksBy}
-use Rattle.finding.specs.declared.Found.{Found}
-use Rattle.finding.specs.declared.Found.TheVariants.{Message as There, Missing, Refused as NotRead}
 use Rattle.groups.specs.Stand.{Stand}
 use Rattle.groups.specs.StandLaws.{stand-front, stand-back}
 use Rattle.groups.specs.Calls.{service_in, message_in, version_by, version_in, Holds, NamedIs}
 use Rattle.groups.specs.declared.calls.Opened.{Opened}
-use Rattle.groups.specs.declared.calls.Named.{Named}
-use Rattle.groups.specs.declared.calls.Named.TheVariants.{Message as Here, Missing as NoneSuch, Refused as NotHere}
+use Rattle.syntax.specs.declared.classes.Classes.{Classes}
 
 -- ---- a message of the reading, by its 0062
 
@@ -95,11 +89,11 @@ pub record Begin (s : List ℕ) (i : Interchange) (x : Start) : Type 0 where
   pub at : (opening_in (una_of i)).at ≡ x.at
   pub stands : Stand x.syntax.service s x.at (shown (reading i))
 
-pub begins : (s : List ℕ) (i : Interchange) (x : Start) → begun_of s ≡ Begins x → verdict_of s ≡ accepted i → Begin s i x
+pub begins : (s : List ℕ) (i : Interchange) (x : Start) → begun_of s ≡ Ok x → verdict_of s ≡ accepted i → Begin s i x
 begins s i x e d =
     let k = (verdict-exact s i).0 d in
     let v = k.0 in
-    let g : Begins (record { syntax = v.y; at = (opening_in (una_of i)).at }) ≡ Begins x = sym (start-printed i v) ∙ ap begun_of k.1 ∙ e in
+    let g : ◌≡◌ {A = Result Start Breach} (Ok (record { syntax = v.y; at = (opening_in (una_of i)).at })) (Ok x) = sym (start-printed i v) ∙ ap begun_of k.1 ∙ e in
     let f : record { syntax = v.y; at = (opening_in (una_of i)).at } ≡ x = ready-one g in
     let y : v.y ≡ x.syntax = ap (λ (z : Start). z.syntax) f in
     let a : (opening_in (una_of i)).at ≡ x.at = ap (λ (z : Start). z.at) f in
@@ -118,40 +112,40 @@ begins s i x e d =
       };
     }
   where
-    ready-one : {a b : Start} → Begins a ≡ Begins b → a ≡ b
+    ready-one : {a b : Start} → ◌≡◌ {A = Result Start Breach} (Ok a) (Ok b) → a ≡ b
     ready-one e = cc
 
 -- ---- the message that is named
 
-module _ (s m : List ℕ) {g : Begun} where
-  pub named-refused : {f : Breach} {r : Refusal} (t rows : List ℕ) → g ≡ begun_of s → g ≡ Refuses f → r ≡ refusal_at s f.number f.place
-      → NamedIs s m (NotHere r) t rows
-  named-refused t rows e d k = ap (verdict_by s) (sym e ∙ d) ∙ ap refused_with (sym k)
+module _ (s m : List ℕ) {g : Result Start Breach} where
+  pub named-refused : {f : Breach} {r : Refusal} → g ≡ begun_of s → g ≡ Err f → r ≡ refusal_at s f.number f.place
+      → NamedIs s m (Err r)
+  named-refused e d k = ap (verdict_by s) (sym e ∙ d) ∙ ap refused_with (sym k)
 
-  module _ {x : Start} (e : g ≡ begun_of s) (d : g ≡ Begins x) where
-    found_as : (rows : List ℕ) {r f : Found} → r ≡ f → FoundIs x.syntax s x.at (compared m) r rows → FoundIs x.syntax s x.at (compared m) f rows
-    found_as rows k q = subst (λ (f : Found). FoundIs x.syntax s x.at (compared m) f rows) k q
+  module _ {x : Start} (e : g ≡ begun_of s) (d : g ≡ Ok x) where
+    found_as : (rows : List ℕ) {r f : Result (Option Layout) Breach} → r ≡ f → FoundIs x.syntax s x.at (compared m) r rows → FoundIs x.syntax s x.at (compared m) f rows
+    found_as rows k q = subst (λ (f : Result (Option Layout) Breach). FoundIs x.syntax s x.at (compared m) f rows) k q
 
-    pub named-not-read : (t rows : List ℕ) {r : Found} {f : Breach} {g : Refusal} → r ≡ NotRead f → FoundIs x.syntax s x.at (compared m) r rows
-        → g ≡ refusal_at s f.number f.place → NamedIs s m (NotHere g) t rows
-    named-not-read t rows k q h = verdict-by s e d (found_as rows k q) ∙ ap refused_with (sym h)
+    pub named-not-read : (rows : List ℕ) {r : Result (Option Layout) Breach} {f : Breach} {g : Refusal} → r ≡ Err f → FoundIs x.syntax s x.at (compared m) r rows
+        → g ≡ refusal_at s f.number f.place → NamedIs s m (Err g)
+    named-not-read rows k q h = verdict-by s e d (found_as rows k q) ∙ ap refused_with (sym h)
 
-    pub named-missing : (t rows : List ℕ) {r : Found} → r ≡ Missing → FoundIs x.syntax s x.at (compared m) r rows → NamedIs s m NoneSuch t rows
-    named-missing t rows j w =
-        let q : WholeBy Missing x.syntax s x.at (compared m) rows = found_as rows j w in
+    pub named-missing : (rows : List ℕ) {r : Result (Option Layout) Breach} → r ≡ (Ok None) → FoundIs x.syntax s x.at (compared m) r rows → NamedIs s m (Ok None)
+    named-missing rows j w =
+        let q : WholeBy (Ok None) x.syntax s x.at (compared m) rows = found_as rows j w in
         let i : Interchange = interchange (una_at s) q.0 q.1 q.2 in
         let v : verdict_of s ≡ accepted i = verdict-by s e d q.3.0 in
         let b = begins s i x (sym e ∙ d) v in
         (i, (v, ap (λ (z : Service). placed_in z (opening_in (una_at s)).at q.0 q.1 (compared m)) b.service ∙ ap (λ (n : ℕ). placed_in x.syntax.service n q.0 q.1 (compared m)) b.at ∙ q.3.1))
 
-    pub named_here : (t rows : List ℕ) {c : Layout} {r : Found} → Table x.syntax t → r ≡ There c → FoundIs x.syntax s x.at (compared m) r rows
-        → NamedIs s m (Here (record { syntax = x.syntax; layout = c })) t rows
-    named_here t rows {c} w j v =
-        let q : WholeBy (There c) x.syntax s x.at (compared m) rows = found_as rows j v in
-        (w, by q.0 q.1 q.2 q.3.0 q.3.1)
+    pub named_here : (rows : List ℕ) {c : Layout} (k : Classes) {r : Result (Option Layout) Breach} → k.syntax ≡ x.syntax → r ≡ Ok (Some c) → FoundIs x.syntax s x.at (compared m) r rows
+        → NamedIs s m (Ok (Some (record { classes = k; layout = c; rows = rows })))
+    named_here rows {c} k w j v =
+        let q : WholeBy (Ok (Some c)) x.syntax s x.at (compared m) rows = found_as rows j v in
+        subst (λ (y : Syntax). Holds s m y c rows) (sym w) (by q.0 q.1 q.2 q.3.0 q.3.1)
       where
         by : (u : Leaf) (ms : Snoc Message) (z : Leaf) → answer_from x.syntax s x.at ≡ read (done u ms z)
-            → SeeksBy (There c) x.syntax.service s x.at (done u ms z) (compared m) rows → Holds s m x.syntax c rows
+            → SeeksBy (Ok (Some c)) x.syntax.service s x.at (done u ms z) (compared m) rows → Holds s m x.syntax c rows
         by u ms z a k =
             let i : Interchange = interchange (una_at s) u ms z in
             let v : verdict_of s ≡ accepted i = verdict-by s e d a in
@@ -175,19 +169,19 @@ module _ (s m : List ℕ) {g : Begun} where
             }
 
 -- a name that is content already
-pub named-plain : (s m t rows : List ℕ) (r : Named) → NamedIs s (content 32 m) r t rows → NamedIs s m r t rows
-named-plain s m t rows r q = subst (λ (k : List ℕ). NamedIs s k r t rows) (plain-content m) q
+pub named-plain : (s m : List ℕ) (r : Result (Option Opened) Refusal) → NamedIs s (content 32 m) r → NamedIs s m r
+named-plain s m r q = subst (λ (k : List ℕ). NamedIs s k r) (plain-content m) q
 
 -- what is told, by the case of the answer
-module _ (s m t rows : List ℕ) {r : Named} (n : NamedIs s m r t rows) where
-  pub as-here : {x : Opened} → r ≡ Here x → Table x.syntax t × Holds s m x.syntax x.layout rows
-  as-here e = subst (λ (v : Named). NamedIs s m v t rows) e n
+module _ (s m : List ℕ) {r : Result (Option Opened) Refusal} (n : NamedIs s m r) where
+  pub as-here : {x : Opened} → r ≡ Ok (Some x) → Holds s m x.classes.syntax x.layout x.rows
+  as-here e = subst (λ (v : Result (Option Opened) Refusal). NamedIs s m v) e n
 
-  pub as-missing : r ≡ NoneSuch → (i : Interchange) × ((verdict_of s ≡ accepted i) × (message_in i m ≡ none))
-  as-missing e = subst (λ (v : Named). NamedIs s m v t rows) e n
+  pub as-missing : r ≡ (Ok None) → (i : Interchange) × ((verdict_of s ≡ accepted i) × (message_in i m ≡ none))
+  as-missing e = subst (λ (v : Result (Option Opened) Refusal). NamedIs s m v) e n
 
-  pub as-refused : {f : Refusal} → r ≡ NotHere f → verdict_of s ≡ refused_with f
-  as-refused e = subst (λ (v : Named). NamedIs s m v t rows) e n
+  pub as-refused : {f : Refusal} → r ≡ Err f → verdict_of s ≡ refused_with f
+  as-refused e = subst (λ (v : Result (Option Opened) Refusal). NamedIs s m v) e n
 
 -- the version of the message that is named is that of its interchange
 pub version-so : {s m : List ℕ} {y : Syntax} {c : Layout} {rows : List ℕ} (h : Holds s m y c rows) → version_in h.i ≡ y.version

@@ -1,5 +1,6 @@
 -- What the code finds among the places of the groups is the chosen one of the tree.
-use Rattle.std.specs.Prelude.{ℕ, zero, suc, ◌+◌, ◌-◌, ◌≤◌, ◌<◌, ◌≡◌, refl, List, Bool, true, false, cond, T, get_or}
+use Rattle.groups.specs.declared.named.Range.{Range}
+use Rattle.std.specs.Prelude.{ℕ, zero, suc, ◌+◌, ◌-◌, ◌≤◌, ◌<◌, ◌≡◌, refl, List, Bool, true, false, cond, T, get_or, Option, Some, None}
 use Rattle.std.proofs.Common.{arith, ap, ◌∙◌, sym, subst}
 use Rattle.std.proofs.Math.Option.{some}
 use Rattle.syntax.proofs.ContentLaws.{plain-content}
@@ -23,8 +24,6 @@ use Rattle.groups.specs.StandLaws.{stand-front, stand-back, stand-asked}
 use Rattle.groups.specs.Groups.{chosen, chosen_by, name_at, ref_name_at, sought_in, range_of, headers_as, trailers_as}
 use Rattle.groups.specs.declared.named.Groups.{Groups}
 use Rattle.walk.specs.declared.sections.Layout.{Layout}
-use Rattle.groups.specs.declared.named.Sought.{Sought}
-use Rattle.groups.specs.declared.named.Sought.TheVariants.{At, Nowhere}
 
 -- ---- the search, a group further
 
@@ -44,22 +43,22 @@ module _ {σ : Service} {s rows : List ℕ} {f e : ℕ} {r : List ℕ} {n z i en
       by (suc i) l a d =
           let q : i ≡ k = omega (arith, a) in
           let g : get_or rows (f + i) 0 ≡ start = ap (λ (j : ℕ). get_or rows (f + j) 0) q ∙ sym b in
-          d ∙ ap (λ (j : ℕ). cond (same (ref_name_at σ s j e) r) (At (record { start = j; end = end })) (sought_in σ s rows f e r i j)) g
-          ∙ ap (λ (v : Bool). cond v (At (record { start = start; end = end })) (sought_in σ s rows f e r i start)) c ∙ ap (λ (j : ℕ). sought_in σ s rows f e r j start) q
+          d ∙ ap (λ (j : ℕ). cond (same (ref_name_at σ s j e) r) (Some (record { start = j; end = end })) (sought_in σ s rows f e r i j)) g
+          ∙ ap (λ (v : Bool). cond v (Some (record { start = start; end = end })) (sought_in σ s rows f e r i start)) c ∙ ap (λ (j : ℕ). sought_in σ s rows f e r j start) q
 
   pub seeking-hit : (k start : ℕ) → Seeking σ s rows f e r n z i end → 0 < i → k ≡ i - 1 → start ≡ get_or rows (f + k) 0 → same (ref_name_at σ s start e) r ≡ true
-      → At (record { start = start; end = end }) ≡ sought_in σ s rows f e r n z
+      → Some (record { start = start; end = end }) ≡ sought_in σ s rows f e r n z
   seeking-hit k start x l a b c = by i l a x.same
     where
-      by : (i : ℕ) → 0 < i → k ≡ i - 1 → sought_in σ s rows f e r n z ≡ sought_in σ s rows f e r i end → At (record { start = start; end = end }) ≡ sought_in σ s rows f e r n z
+      by : (i : ℕ) → 0 < i → k ≡ i - 1 → sought_in σ s rows f e r n z ≡ sought_in σ s rows f e r i end → Some (record { start = start; end = end }) ≡ sought_in σ s rows f e r n z
       by zero l a d = absurd (omega (arith, l))
       by (suc i) l a d =
           let q : i ≡ k = omega (arith, a) in
           let g : get_or rows (f + i) 0 ≡ start = ap (λ (j : ℕ). get_or rows (f + j) 0) q ∙ sym b in
-          sym (d ∙ ap (λ (j : ℕ). cond (same (ref_name_at σ s j e) r) (At (record { start = j; end = end })) (sought_in σ s rows f e r i j)) g
-          ∙ ap (λ (v : Bool). cond v (At (record { start = start; end = end })) (sought_in σ s rows f e r i start)) c)
+          sym (d ∙ ap (λ (j : ℕ). cond (same (ref_name_at σ s j e) r) (Some (record { start = j; end = end })) (sought_in σ s rows f e r i j)) g
+          ∙ ap (λ (v : Bool). cond v (Some (record { start = start; end = end })) (sought_in σ s rows f e r i start)) c)
 
-  pub seeking-end : Seeking σ s rows f e r n z i end → i ≤ 0 → Nowhere ≡ sought_in σ s rows f e r n z
+  pub seeking-end : Seeking σ s rows f e r n z i end → i ≤ 0 → None ≡ sought_in σ s rows f e r n z
   seeking-end x l = let q : i ≡ 0 = omega (arith, l) in sym (x.same ∙ ap (λ (j : ℕ). sought_in σ s rows f e r j end) q)
 
 -- ---- the chosen one, in its row
@@ -89,12 +88,12 @@ chosen-among {A} name r (xs ▷ x) {ys} {a} e = by (same (name x) r) refl (λ d.
 
 -- ---- the groups of a message, by its layout
 
-pub groups-sought : (σ : Service) (s rows r : List ℕ) {g k : Groups} {x : Sought} → x ≡ sought_in σ s rows g.first g.element (compared r) g.count g.end → g ≡ k
+pub groups-sought : (σ : Service) (s rows r : List ℕ) {g k : Groups} {x : Option Range} → x ≡ sought_in σ s rows g.first g.element (compared r) g.count g.end → g ≡ k
     → x ≡ sought_in σ s rows k.first k.element (compared r) k.count k.end
 groups-sought σ s rows r e d = e ∙ ap (λ (g : Groups). sought_in σ s rows g.first g.element (compared r) g.count g.end) d
 
 -- a reference that is content already
-pub sought-plain : (σ : Service) (s rows r : List ℕ) (g : Groups) {x : Sought} → x ≡ sought_in σ s rows g.first g.element (compared (content 32 r)) g.count g.end
+pub sought-plain : (σ : Service) (s rows r : List ℕ) (g : Groups) {x : Option Range} → x ≡ sought_in σ s rows g.first g.element (compared (content 32 r)) g.count g.end
     → x ≡ sought_in σ s rows g.first g.element (compared r) g.count g.end
 sought-plain σ s rows r g d = d ∙ ap (λ (t : List ℕ). sought_in σ s rows g.first g.element (compared t) g.count g.end) (plain-content r)
 
@@ -118,15 +117,15 @@ module _ {A : Type 0} (show : A → Snoc Segment) (name : A → List ℕ) (σ : 
   sought-chosen (xs ▷ x) end a b n =
       let g : get_or rows (f + size xs) 0 ≡ p + wide σ (joined show xs) = last_of a in
       let z : end ≡ p + wide σ (joined show xs) + wide σ (show x) = omega (arith, b, wide-join σ (joined show xs) (show x)) in
-      ap (λ (j : ℕ). cond (same (ref_name_at σ s j e) r) (At (record { start = j; end = end })) (sought_in σ s rows f e r (size xs) j)) g
-      ∙ ap (λ (t : List ℕ). cond (same t r) (At (record { start = p + wide σ (joined show xs); end = end })) (sought_in σ s rows f e r (size xs) (p + wide σ (joined show xs)))) n.1
+      ap (λ (j : ℕ). cond (same (ref_name_at σ s j e) r) (Some (record { start = j; end = end })) (sought_in σ s rows f e r (size xs) j)) g
+      ∙ ap (λ (t : List ℕ). cond (same t r) (Some (record { start = p + wide σ (joined show xs); end = end })) (sought_in σ s rows f e r (size xs) (p + wide σ (joined show xs)))) n.1
       ∙ by (same (name x) r) z (sought-chosen xs (p + wide σ (joined show xs)) (first-of a) refl n.0)
     where
       by : (b : Bool) → end ≡ p + wide σ (joined show xs) + wide σ (show x)
           → sought_in σ s rows f e r (size xs) (p + wide σ (joined show xs)) ≡ range_of show σ p (chosen_by name xs r)
-          → cond b (At (record { start = p + wide σ (joined show xs); end = end })) (sought_in σ s rows f e r (size xs) (p + wide σ (joined show xs)))
+          → cond b (Some (record { start = p + wide σ (joined show xs); end = end })) (sought_in σ s rows f e r (size xs) (p + wide σ (joined show xs)))
           ≡ range_of show σ p (cond b (some (chosen xs x)) (chosen_by name xs r))
-      by true z k = ap (λ (j : ℕ). At (record { start = p + wide σ (joined show xs); end = j })) z
+      by true z k = ap (λ (j : ℕ). Some (record { start = p + wide σ (joined show xs); end = j })) z
       by false z k = k
 
   -- where the groups stand, one behind the other, it is enough to know where a group's reference is in its own octets

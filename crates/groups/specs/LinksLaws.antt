@@ -1,11 +1,11 @@
 -- The first USY that names a header, found along the segments, is that of the tree.
 use Prim.Native.Nat.{ℕ, ◌+◌, ◌-◌, ◌≤◌, ◌<◌}
 use native.Mathlib.Omega.{arith}
-use Rattle.std.specs.Prelude.{◌≡◌, Bool, ◌&&◌, T}
+use Rattle.std.specs.Prelude.{◌≡◌, Bool, ◌&&◌, T, Option, Some, None}
 use Rattle.std.proofs.Math.Path.{refl, ap}
 use Rattle.std.proofs.Common.{◌∙◌, sym, subst, lit≤}
 use mathlib.Core.List.{List, [], ◌∷◌, ◌++◌}
-use Rattle.std.proofs.Math.Option.{Option, none, some}
+use Rattle.std.proofs.Math.Option.{Option as Maybe, none, some}
 use Rattle.std.proofs.Math.Bool.{true, false, cond}
 use Rattle.std.proofs.Math.ListN.{length, length-append}
 use Rattle.std.proofs.Math.Seq.{slice}
@@ -20,8 +20,6 @@ use Rattle.syntax.specs.Tree.{Segment, print_s, print}
 use Rattle.syntax.proofs.TreeLaws.{print-cons}
 use Rattle.syntax.proofs.CuttingLaws.{stop-in}
 use Rattle.syntax.specs.declared.Service.{Service}
-use Rattle.syntax.specs.declared.Found.{Found}
-use Rattle.syntax.specs.declared.Found.TheVariants.{At as EndsAt, Nothing}
 use Rattle.grammar.specs.Lists.{Snoc, nil, ◌▷◌, ◌+++◌, each, joined, list, holds, every}
 use Rattle.grammar.specs.Segments.{Usb, Usx, Usy, seg, tags, kind_in, segment_kind, tag_text, elements_of, asked, Asked, usy0534}
 use Rattle.grammar.specs.Rules.{is_free, ok_item, ok_body}
@@ -36,8 +34,6 @@ use Rattle.groups.specs.Groups.{name_at, ref_name_at}
 use Rattle.message.specs.Summary.{or_else}
 use Rattle.groups.specs.Links.{Tie, tie, first_usy, first_link, tie_in, tagged_at, is_tagged, is_usy_of, link_from}
 use Rattle.groups.specs.declared.links.Places.{Places}
-use Rattle.groups.specs.declared.links.Linked.{Linked}
-use Rattle.groups.specs.declared.links.Linked.TheVariants.{At, Nowhere}
 
 -- ---- the leaves
 
@@ -81,7 +77,7 @@ module _ {σ : Service} {s r : List ℕ} {body tail : ℕ} where
   pub linking-start : Linking σ s r body tail body body
   linking-start = record { on = λ gs w. (gs, (w, refl)) }
 
-  module _ (fits : T (fit σ)) {x at : ℕ} (k : Linking σ s r body tail x at) {z : ℕ} {b : Bool} {f : Found}
+  module _ (fits : T (fit σ)) {x at : ℕ} (k : Linking σ s r body tail x at) {z : ℕ} {b : Bool} {f : Option ℕ}
       (less : at < tail) (ends : f ≡ end_at σ s at) (usx : z ≡ cond (tagged_at s at (octets "USX")) at x)
       (usy : b ≡ (tagged_at s at (octets "USY") && same (ref_name_at σ s at 1) r)) where
     -- the segment at hand, and what is told of it
@@ -89,8 +85,8 @@ module _ {σ : Service} {s r : List ℕ} {body tail : ℕ} where
       g : Segment
       hs : List Segment
       rest : Row σ s (at + length (print_s σ g)) hs tail
-      end : end_at σ s at ≡ EndsAt (at + (length (print_s σ g) - 1))
-      links : link_from σ body body gs r ≡ cond b (At (record { usx = z; usy = at })) (link_from σ (at + length (print_s σ g)) z hs r)
+      end : end_at σ s at ≡ Some (at + (length (print_s σ g) - 1))
+      links : link_from σ body body gs r ≡ cond b (Some (record { usx = z; usy = at })) (link_from σ (at + length (print_s σ g)) z hs r)
 
     step : (gs : List Segment) → Row σ s body gs tail → Step gs
     step gs w = let q = k.on gs w in by q.0 q.1.0 q.1.1
@@ -109,43 +105,43 @@ module _ {σ : Service} {s r : List ℕ} {body tail : ℕ} where
               rest = row-rest σ s at g hs v;
               end = (row_first σ s at fits g hs v).end;
               links =
-                  e ∙ ap (λ (i : ℕ). cond (is_usy_of g r) (At (record { usx = i; usy = at })) (link_from σ (at + length (print_s σ g)) i hs r)) j
-                  ∙ ap (λ (c : Bool). cond c (At (record { usx = z; usy = at })) (link_from σ (at + length (print_s σ g)) z hs r)) u;
+                  e ∙ ap (λ (i : ℕ). cond (is_usy_of g r) (Some (record { usx = i; usy = at })) (link_from σ (at + length (print_s σ g)) i hs r)) j
+                  ∙ ap (λ (c : Bool). cond c (Some (record { usx = z; usy = at })) (link_from σ (at + length (print_s σ g)) z hs r)) u;
             }
 
-    pub linking-on : {e next : ℕ} → f ≡ EndsAt e → b ≡ false → next ≡ e + 1 → Linking σ s r body tail z next
+    pub linking-on : {e next : ℕ} → f ≡ Some e → b ≡ false → next ≡ e + 1 → Linking σ s r body tail z next
     linking-on {e} {next} q d n = record { on = λ gs w. by gs (step gs w) }
       where
         by : (gs : List Segment) → Step gs → (hs : List Segment) × (Row σ s next hs tail × (link_from σ body body gs r ≡ link_from σ next z hs r))
         by gs y =
-            let m : EndsAt e ≡ EndsAt (at + (length (print_s σ y.g) - 1)) = sym q ∙ ends ∙ y.end in
+            let m : Some e ≡ Some (at + (length (print_s σ y.g) - 1)) = sym q ∙ ends ∙ y.end in
             let o : e ≡ at + (length (print_s σ y.g) - 1) = cc in
             let p : at + length (print_s σ y.g) ≡ next = omega (arith, o, n, long-print σ y.g) in (
               y.hs,
               (
                 subst (λ (i : ℕ). Row σ s i y.hs tail) p y.rest,
-                y.links ∙ ap (λ (c : Bool). cond c (At (record { usx = z; usy = at })) (link_from σ (at + length (print_s σ y.g)) z y.hs r)) d
+                y.links ∙ ap (λ (c : Bool). cond c (Some (record { usx = z; usy = at })) (link_from σ (at + length (print_s σ y.g)) z y.hs r)) d
                     ∙ ap (λ (i : ℕ). link_from σ i z y.hs r) p,
               ),
             )
 
-    pub linking-hit : b ≡ true → (gs : List Segment) → Row σ s body gs tail → At (record { usx = z; usy = at }) ≡ link_from σ body body gs r
+    pub linking-hit : b ≡ true → (gs : List Segment) → Row σ s body gs tail → Some (record { usx = z; usy = at }) ≡ link_from σ body body gs r
     linking-hit d gs w =
         let y = step gs w in
-        sym (y.links ∙ ap (λ (c : Bool). cond c (At (record { usx = z; usy = at })) (link_from σ (at + length (print_s σ y.g)) z y.hs r)) d)
+        sym (y.links ∙ ap (λ (c : Bool). cond c (Some (record { usx = z; usy = at })) (link_from σ (at + length (print_s σ y.g)) z y.hs r)) d)
 
   -- every segment has an end
-  pub linking-none : {x at : ℕ} {f : Found} → T (fit σ) → Linking σ s r body tail x at → at < tail → f ≡ end_at σ s at → f ≡ Nothing
-      → (gs : List Segment) → Row σ s body gs tail → Nowhere ≡ link_from σ body body gs r
+  pub linking-none : {x at : ℕ} {f : Option ℕ} → T (fit σ) → Linking σ s r body tail x at → at < tail → f ≡ end_at σ s at → f ≡ None
+      → (gs : List Segment) → Row σ s body gs tail → None ≡ link_from σ body body gs r
   linking-none {x} {at} fits k less ends e gs w =
       let y = step fits k less ends refl refl gs w in
-      let m : Nothing ≡ EndsAt (at + (length (print_s σ y.g) - 1)) = sym e ∙ ends ∙ y.end in
+      let m : None ≡ Some (at + (length (print_s σ y.g) - 1)) = sym e ∙ ends ∙ y.end in
       cc
 
-  pub linking-end : {x at : ℕ} → Linking σ s r body tail x at → tail ≤ at → (gs : List Segment) → Row σ s body gs tail → Nowhere ≡ link_from σ body body gs r
+  pub linking-end : {x at : ℕ} → Linking σ s r body tail x at → tail ≤ at → (gs : List Segment) → Row σ s body gs tail → None ≡ link_from σ body body gs r
   linking-end {x} {at} k less gs w = let q = k.on gs w in by q.0 q.1.0 q.1.1
     where
-      by : (hs : List Segment) → Row σ s at hs tail → link_from σ body body gs r ≡ link_from σ at x hs r → Nowhere ≡ link_from σ body body gs r
+      by : (hs : List Segment) → Row σ s at hs tail → link_from σ body body gs r ≡ link_from σ at x hs r → None ≡ link_from σ body body gs r
       by [] v e = sym e
       by (g ∷ hs) v e =
           absurd (omega (arith, less, v.end, ap length (print-cons σ g hs) ∙ length-append (print_s σ g) (print σ hs), long-print σ g))
@@ -153,15 +149,15 @@ module _ {σ : Service} {s r : List ℕ} {body tail : ℕ} where
 -- ---- and on the tree
 
 -- the link, and where its USX and its USY stand
-pub data TieAt (σ : Service) (s : List ℕ) : Option Tie → Linked → Type 0 where
-  nowhere : TieAt σ s none Nowhere
-  there : (x y : Leaf) (a b : ℕ) → Stand σ s a (nil ▷ seg Usx x) → Stand σ s b (nil ▷ seg Usy y) → TieAt σ s (some (tie x y)) (At (record { usx = a; usy = b }))
+pub data TieAt (σ : Service) (s : List ℕ) : Maybe Tie → Option Places → Type 0 where
+  nowhere : TieAt σ s none None
+  there : (x y : Leaf) (a b : ℕ) → Stand σ s a (nil ▷ seg Usx x) → Stand σ s b (nil ▷ seg Usy y) → TieAt σ s (some (tie x y)) (Some (record { usx = a; usy = b }))
 
-or_link : Linked → Linked → Linked
-or_link (At q) k = At q
-or_link Nowhere k = k
+or_link : Option Places → Option Places → Option Places
+or_link (Some q) k = Some q
+or_link None k = k
 
-tie-or : {σ : Service} {s : List ℕ} {o u : Option Tie} {k l : Linked} → TieAt σ s o k → TieAt σ s u l → TieAt σ s (or_else o u) (or_link k l)
+tie-or : {σ : Service} {s : List ℕ} {o u : Maybe Tie} {k l : Option Places} → TieAt σ s o k → TieAt σ s u l → TieAt σ s (or_else o u) (or_link k l)
 unfolding or_link
 tie-or nowhere b = b
 tie-or (there x y i j m n) b = there x y i j m n
@@ -183,8 +179,8 @@ module _ (σ : Service) (r : List ℕ) where
     where
       by : (b : Bool) (z : ℕ) → link_from σ (p + length (print_s σ g)) z (gs ++ hs) r
           ≡ or_link (link_from σ (p + length (print_s σ g)) z gs r) (link_from σ (p + length (print σ (g ∷ gs))) (last_from (p + length (print_s σ g)) z gs) hs r)
-          → cond b (At (record { usx = z; usy = p })) (link_from σ (p + length (print_s σ g)) z (gs ++ hs) r)
-          ≡ or_link (cond b (At (record { usx = z; usy = p })) (link_from σ (p + length (print_s σ g)) z gs r))
+          → cond b (Some (record { usx = z; usy = p })) (link_from σ (p + length (print_s σ g)) z (gs ++ hs) r)
+          ≡ or_link (cond b (Some (record { usx = z; usy = p })) (link_from σ (p + length (print_s σ g)) z gs r))
           (link_from σ (p + length (print σ (g ∷ gs))) (last_from (p + length (print_s σ g)) z gs) hs r)
       by true z e = refl
       by false z e = e
@@ -223,7 +219,7 @@ module _ (σ : Service) (r : List ℕ) where
         (tie-or (usys-tied a x w p ys f) (by (same (usy0534 y) r) b))
       where
         by : (c : Bool) → Stand σ s (p + wide σ (each (seg Usy) ys)) (nil ▷ seg Usy y)
-            → TieAt σ s (cond c (some (tie x y)) none) (cond c (At (record { usx = a; usy = p + wide σ (each (seg Usy) ys) })) Nowhere)
+            → TieAt σ s (cond c (some (tie x y)) none) (cond c (Some (record { usx = a; usy = p + wide σ (each (seg Usy) ys) })) None)
         by true b = there x y a (p + wide σ (each (seg Usy) ys)) w b
         by false b = nowhere
 
@@ -251,7 +247,7 @@ module _ (σ : Service) (r : List ℕ) where
         (links-tied (p + length (print_s σ (seg Usb c))) p ls (behind-one p (seg Usb c) (joined show_link ls) v))
 
 -- a segment's end lies within the octets
-pub ends-in : (σ : Service) (s : List ℕ) (i : ℕ) {e : ℕ} {f : Found} → f ≡ end_at σ s i → f ≡ EndsAt e → (i ≤ e) × (e < length s)
+pub ends-in : (σ : Service) (s : List ℕ) (i : ℕ) {e : ℕ} {f : Option ℕ} → f ≡ end_at σ s i → f ≡ Some e → (i ≤ e) × (e < length s)
 ends-in σ s i {e} a b = let k = stop-in σ 5 s (lit≤ tt) i e (sym a ∙ b) in (k.0, k.1)
 
 -- ---- a body that is no AUTACK's has no link
@@ -263,14 +259,14 @@ free-untagged g f = by (is_tagged g (octets "USY")) (λ e. same-eq (tag_text g) 
     by false h = refl
     by true h = absurd (subst (λ (t : List ℕ). T (is_free (kind_in tags t))) (h refl) f)
 
-free-none : (σ : Service) (r : List ℕ) (p x : ℕ) (b : Snoc Segment) → holds (every ok_item b) → link_from σ p x (list b) r ≡ Nowhere
+free-none : (σ : Service) (r : List ℕ) (p x : ℕ) (b : Snoc Segment) → holds (every ok_item b) → link_from σ p x (list b) r ≡ None
 unfolding or_link
 free-none σ r p x nil w = refl
 free-none σ r p x (b ▷ g) w =
-    from-append σ r p x (list b) (g ∷ []) ∙ ap (λ (k : Linked). or_link k (link_from σ (p + length (print σ (list b))) (last_from σ r p x (list b)) (g ∷ []) r)) (free-none σ r p x b w.0)
+    from-append σ r p x (list b) (g ∷ []) ∙ ap (λ (k : Option Places). or_link k (link_from σ (p + length (print σ (list b))) (last_from σ r p x (list b)) (g ∷ []) r)) (free-none σ r p x b w.0)
     ∙ ap
     (λ (c : Bool). cond (c && same (usy0534 (elements_of g)) r)
-    (At (record { usx = cond (is_tagged g (octets "USX")) (p + length (print σ (list b))) (last_from σ r p x (list b)); usy = p + length (print σ (list b)) })) Nowhere) (free-untagged g w.1)
+    (Some (record { usx = cond (is_tagged g (octets "USX")) (p + length (print σ (list b))) (last_from σ r p x (list b)); usy = p + length (print σ (list b)) })) None) (free-untagged g w.1)
 
 -- the link of a body in order
 pub tied : (σ : Service) (r s : List ℕ) (p : ℕ) (a : Bool) (hs : Snoc Header) (b : Body) → holds (ok_body a hs b) → Stand σ s p (show_body b)
@@ -280,19 +276,19 @@ tied σ r s p a hs (plain (b ▷ g)) w v = subst (TieAt σ s none) (sym (free-no
 tied σ r s p a hs (ack c ls) w v = body-tied σ (compared r) s p c ls v
 
 -- what it is, by what the code finds
-pub record There (σ : Service) (s : List ℕ) (o : Option Tie) (q : Places) : Type 0 where
+pub record There (σ : Service) (s : List ℕ) (o : Maybe Tie) (q : Places) : Type 0 where
   pub x : Leaf
   pub y : Leaf
   pub tied : o ≡ some (tie x y)
   pub usx : Stand σ s q.usx (nil ▷ seg Usx x)
   pub usy : Stand σ s q.usy (nil ▷ seg Usy y)
 
-pub tie_there : {σ : Service} {s : List ℕ} {o : Option Tie} {k : Linked} (q : Places) → TieAt σ s o k → At q ≡ k → There σ s o q
+pub tie_there : {σ : Service} {s : List ℕ} {o : Maybe Tie} {k : Option Places} (q : Places) → TieAt σ s o k → Some q ≡ k → There σ s o q
 tie_there q nowhere e = let z : ◌≡◌ {A = ℕ} 0 1 = cc in absurd (omega arith)
 tie_there {σ} {s} q (there x y a b v w) e =
     let i : record { usx = a; usy = b } ≡ q = cc in
     subst (There σ s (some (tie x y))) i (record { x = x; y = y; tied = refl; usx = v; usy = w })
 
-pub tie_none : {σ : Service} {s : List ℕ} {o : Option Tie} {k : Linked} → TieAt σ s o k → Nowhere ≡ k → o ≡ none
+pub tie_none : {σ : Service} {s : List ℕ} {o : Maybe Tie} {k : Option Places} → TieAt σ s o k → None ≡ k → o ≡ none
 tie_none nowhere e = refl
 tie_none (there x y a b v w) e = let z : ◌≡◌ {A = ℕ} 0 1 = cc in absurd (omega arith)

@@ -1,30 +1,22 @@
 // The message that a call names: the interchange is begun, judged, and the message found.
-ghost use Rattle.std.specs.Prelude.{◌≡◌, length};
+ghost use Rattle.std.specs.Prelude.{◌≡◌};
 ghost use Rattle.syntax.specs.Content.{content};
 ghost use Rattle.syntax.specs.Refusals.{at_zero};
 ghost use Rattle.groups.specs.Calls.{NamedIs};
 
 use beginning::begin;
-use finding::{Found, find};
+use finding::find;
 use refusals::refusal;
-use syntax::opening::Begun;
-use syntax::repertoire::table;
-use syntax::{Refusal, Syntax};
+use syntax::Refusal;
+use syntax::classes::Classes;
 use walk::sections::Layout;
 
-// The interchange's syntax, and the layout of the message.
+// A message that was found: the classes of the octets of its interchange, where its parts stand, and where its groups start.
 #[derive(Clone, Copy)]
 pub struct Opened {
-    pub syntax: Syntax,
+    pub classes: Classes,
     pub layout: Layout,
-}
-
-// The message; or that the interchange has none of that 0062; or why the interchange is refused.
-#[derive(Clone, Copy)]
-pub enum Named {
-    Message(Opened),
-    Missing,
-    Refused(Refusal),
+    pub rows: [usize; 18],
 }
 
 // No such message, header or F01 run.
@@ -38,40 +30,31 @@ pub fn missing() -> Refusal
     }
 }
 
-// The message whose 0062 has the content of `message` under the release `other`, for any octets. The class table is put into `t`, and where the
-// message's groups start into `rows`.
-pub fn message_like(
-    s: &[u8],
-    message: &[u8],
-    other: u8,
-    t: &mut [u8; 256],
-    rows: &mut [usize; 18],
-) -> Named
-    requires { length rows.old ≡ 18 }
-    ensures { NamedIs s.now (content other message.now) result t.new rows.new }
+// The message whose 0062 has the content of `message` under the release `other`, for any octets; None: the interchange has none of that 0062.
+pub fn message_like(s: &[u8], message: &[u8], other: u8) -> Result<Option<Opened>, Refusal>
+    ensures { NamedIs s.now (content other message.now) result }
 {
     match begin(s) {
-        Begun::Refused(f) => Named::Refused(refusal(s, f)),
-        Begun::Ready(b) => {
-            let y = b.syntax;
-            let at = b.at;
-            *t = table(y);
-            match find(s, at, t, y, message, other, rows) {
-                Found::Message(c) => Named::Message(Opened {
-                    syntax: y,
-                    layout: c,
-                }),
-                Found::Missing => Named::Missing,
-                Found::Refused(f) => Named::Refused(refusal(s, f)),
+        Err(f) => Err(refusal(s, f)),
+        Ok(start) => {
+            let classes = Classes::of(start.syntax);
+            let mut rows = [0usize; 18];
+            match find(s, start.at, &classes, message, other, &mut rows) {
+                Err(f) => Err(refusal(s, f)),
+                Ok(None) => Ok(None),
+                Ok(Some(layout)) => Ok(Some(Opened {
+                    classes,
+                    layout,
+                    rows,
+                })),
             }
         }
     }
 }
 
 // The message with the 0062 `message`, which is content already: no octet of it is a release.
-pub fn message_named(s: &[u8], message: &[u8], t: &mut [u8; 256], rows: &mut [usize; 18]) -> Named
-    requires { length rows.old ≡ 18 }
-    ensures { NamedIs s.now message.now result t.new rows.new }
+pub fn message_named(s: &[u8], message: &[u8]) -> Result<Option<Opened>, Refusal>
+    ensures { NamedIs s.now message.now result }
 {
-    message_like(s, message, 32, t, rows)
+    message_like(s, message, 32)
 }

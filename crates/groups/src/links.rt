@@ -3,28 +3,21 @@ ghost use Rattle.std.specs.Prelude.{◌≡◌, List, cond, ◌&&◌, ◌<◌, T,
 ghost use Rattle.syntax.specs.Content.{compared};
 ghost use Rattle.syntax.specs.Octets.{octets, same};
 ghost use Rattle.syntax.specs.Service.{fit};
-ghost use Rattle.syntax.specs.Classes.{Table};
 ghost use Rattle.syntax.specs.Tree.{Segment};
 ghost use Rattle.groups.specs.Stand.{Row};
 ghost use Rattle.groups.specs.Groups.{ref_name_at};
 ghost use Rattle.groups.specs.Links.{tagged_at, link_from};
 
+use syntax::classes::Classes;
 use syntax::content::{bare, content_is, part, reference_is};
 use syntax::cutting::stop;
 use syntax::reading::component_part;
-use syntax::{Found, Syntax};
 
 // Where the USX and the USY of a link stand.
 #[derive(Clone, Copy)]
 pub struct Places {
     pub usx: usize,
     pub usy: usize,
-}
-
-#[derive(Clone, Copy)]
-pub enum Linked {
-    At(Places),
-    Nowhere,
 }
 
 // Whether the segment at `at` has this tag.
@@ -47,64 +40,53 @@ fn last_usx(s: &[u8], at: usize, usx: usize) -> usize
 }
 
 // Whether a USY stands at `at` and its 0534 is `reference`.
-fn names_header(s: &[u8], at: usize, t: &[u8; 256], y: Syntax, reference: &[u8]) -> bool
-    requires table { Table y t.now }
+fn names_header(s: &[u8], at: usize, t: &Classes, reference: &[u8]) -> bool
     requires at_in_bounds { at < length s.now }
-    ensures { result ≡ (tagged_at s.now at (octets "USY") && same (ref_name_at y.service s.now at 1) (compared reference.now)) }
+    ensures { result ≡ (tagged_at s.now at (octets "USY") && same (ref_name_at t.now.syntax.service s.now at 1) (compared reference.now)) }
 {
     if is_tagged(s, at, b"USY") {
-        let v = y.service;
-        return reference_is(component_part(s, at, t, y, 1, 0), v.release, reference);
+        let v = t.syntax.service;
+        return reference_is(component_part(s, at, t, 1, 0), v.release, reference);
     }
     false
 }
 
 // The first USY from `body` on, before `tail`, whose 0534 is `reference`, with its USX.
-fn link_from(
-    s: &[u8],
-    t: &[u8; 256],
-    y: Syntax,
-    body: usize,
-    tail: usize,
-    reference: &[u8],
-) -> Linked
-    requires table { Table y t.now }
-    requires t { T (fit y.service) }
-    ensures { (gs : List Segment) → Row y.service s.now body gs tail → result ≡ link_from y.service body body gs (compared reference.now) }
+fn link_from(s: &[u8], t: &Classes, body: usize, tail: usize, reference: &[u8]) -> Option<Places>
+    requires t { T (fit t.now.syntax.service) }
+    ensures { (gs : List Segment) → Row t.now.syntax.service s.now body gs tail → result ≡ link_from t.now.syntax.service body body gs (compared reference.now) }
 {
     let mut usx = body;
     let mut at = body;
     while at < tail {
-        match stop(s, at, t, y, 5) {
-            Found::At(e) => {
+        match stop(s, at, t, 5) {
+            Some(e) => {
                 let x = last_usx(s, at, usx);
-                if names_header(s, at, t, y, reference) {
-                    return Linked::At(Places { usx: x, usy: at });
+                if names_header(s, at, t, reference) {
+                    return Some(Places { usx: x, usy: at });
                 }
                 usx = x;
                 let next = e + 1;
                 at = next;
             }
-            Found::Nothing => {
-                return Linked::Nowhere;
+            None => {
+                return None;
             }
         }
     }
-    Linked::Nowhere
+    None
 }
 
 // The same: however many spaces stand at the reference's end, they are passed over once.
 pub fn link_named(
     s: &[u8],
-    t: &[u8; 256],
-    y: Syntax,
+    t: &Classes,
     body: usize,
     tail: usize,
     reference: &[u8],
-) -> Linked
-    requires table { Table y t.now }
-    requires t { T (fit y.service) }
-    ensures { (gs : List Segment) → Row y.service s.now body gs tail → result ≡ link_from y.service body body gs (compared reference.now) }
+) -> Option<Places>
+    requires t { T (fit t.now.syntax.service) }
+    ensures { (gs : List Segment) → Row t.now.syntax.service s.now body gs tail → result ≡ link_from t.now.syntax.service body body gs (compared reference.now) }
 {
-    link_from(s, t, y, body, tail, bare(reference, 32))
+    link_from(s, t, body, tail, bare(reference, 32))
 }

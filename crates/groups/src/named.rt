@@ -1,10 +1,9 @@
 // The header group or the trailer group with a given 0534.
 ghost use Rattle.std.specs.Prelude.{◌≡◌, ◌+◌, ◌≤◌, length};
 ghost use Rattle.syntax.specs.Content.{compared, content};
-ghost use Rattle.syntax.specs.Classes.{Table};
 ghost use Rattle.groups.specs.Groups.{headers_as, trailers_as, sought_in};
 
-use syntax::Syntax;
+use syntax::classes::Classes;
 use syntax::content::same_reference;
 use syntax::reading::component_part;
 use walk::sections::Layout;
@@ -23,12 +22,6 @@ pub struct Groups {
 pub struct Range {
     pub start: usize,
     pub end: usize,
-}
-
-#[derive(Clone, Copy)]
-pub enum Sought {
-    At(Range),
-    Nowhere,
 }
 
 // The header groups: 0534 is the second element of USH.
@@ -59,18 +52,16 @@ pub fn trailers_of(c: Layout) -> Groups
 // looked at first.
 pub fn group_like(
     s: &[u8],
-    t: &[u8; 256],
-    y: Syntax,
+    t: &Classes,
     rows: &[usize; 18],
     g: Groups,
     x: &[u8],
     release: u8,
-) -> Sought
-    requires table { Table y t.now }
+) -> Option<Range>
     requires count_bound { (g.first + g.count ≤ 18) × (length rows.now ≡ 18) }
-    ensures { result ≡ sought_in y.service s.now rows.now g.first g.element (compared (content release x.now)) g.count g.end }
+    ensures { result ≡ sought_in t.now.syntax.service s.now rows.now g.first g.element (compared (content release x.now)) g.count g.end }
 {
-    let v = y.service;
+    let v = t.syntax.service;
     let first = g.first;
     let element = g.element;
     let mut i = g.count;
@@ -79,12 +70,12 @@ pub fn group_like(
         let k = i - 1;
         let start = rows[first + k];
         if same_reference(
-            component_part(s, start, t, y, element, 0),
+            component_part(s, start, t, element, 0),
             v.release,
             x,
             release,
         ) {
-            return Sought::At(Range {
+            return Some(Range {
                 start: start,
                 end: end,
             });
@@ -92,21 +83,19 @@ pub fn group_like(
         end = start;
         i = k;
     }
-    Sought::Nowhere
+    None
 }
 
 // The group with the 0534 `reference`, which is content: a space frees nothing.
 pub fn group_named(
     s: &[u8],
-    t: &[u8; 256],
-    y: Syntax,
+    t: &Classes,
     rows: &[usize; 18],
     g: Groups,
     reference: &[u8],
-) -> Sought
-    requires table { Table y t.now }
+) -> Option<Range>
     requires count_bound { (g.first + g.count ≤ 18) × (length rows.now ≡ 18) }
-    ensures { result ≡ sought_in y.service s.now rows.now g.first g.element (compared reference.now) g.count g.end }
+    ensures { result ≡ sought_in t.now.syntax.service s.now rows.now g.first g.element (compared reference.now) g.count g.end }
 {
-    group_like(s, t, y, rows, g, reference, 32)
+    group_like(s, t, rows, g, reference, 32)
 }

@@ -1,6 +1,6 @@
 -- The exported answers: the fields of each struct, in their order. The paper's number and place and the ordinal of the segment come first, then the call's own numbers. The grams of
 -- `Loads`, which may be below zero, are told beside these.
-use Rattle.std.specs.Prelude.{ℕ, List, [], ◌∷◌, Bool, cond, ◌≡◌}
+use Rattle.std.specs.Prelude.{ℕ, List, [], ◌∷◌, Bool, cond, is_some, ◌≡◌}
 use Rattle.writing.specs.Written.{Text, left_in, written_numbers}
 use Rattle.gurandepi.specs.declared.Answer.{Answer}
 use Rattle.gurandepi.specs.declared.Loads.{Loads}
@@ -11,7 +11,7 @@ use Rattle.gurandepi.specs.declared.Written.{Written}
 use Rattle.gurandepi.specs.declared.Digest.{Digest}
 use Rattle.gurandepi.specs.declared.Sha1.{Sha1}
 use Rattle.gurandepi.specs.declared.Fed.{Fed}
-use Rattle.sha.specs.Feeding.{fed_of}
+use Rattle.sha.specs.Feeding.{fed_of, fed_from}
 use Rattle.sha.specs.declared.Sha.{Sha}
 
 abbrev pub answer_fields : Answer → List ℕ
@@ -49,5 +49,5 @@ state_in s = record { chain = record { a = s.a; b = s.b; c = s.c; d = s.d; e = s
 
 -- "15 where more than 2^32 - 1 octets are fed, which changes nothing": the answer, and the state that is handed back
 pub record Feeds (st : Sha1) (part : List ℕ) (r : Fed) : Type 0 where
-  pub answer : r.number ∷ r.place ∷ r.segment ∷ [] ≡ cond (fed_of (state_in st) part).taken 0 15 ∷ 0 ∷ 0 ∷ []
-  pub state : state_in r.state ≡ (fed_of (state_in st) part).state
+  pub answer : r.number ∷ r.place ∷ r.segment ∷ [] ≡ cond (is_some (fed_of (state_in st) part)) 0 15 ∷ 0 ∷ 0 ∷ []
+  pub state : state_in r.state ≡ fed_from (state_in st) part

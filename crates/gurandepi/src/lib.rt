@@ -27,14 +27,19 @@ ghost use Rattle.gurandepi.specs.Answers.{old_sum_fields, answer_fields, totals_
 use digest::{digest_f01, digest_scope1, digest_scope2, digest_scope3};
 use f01::f01_places;
 use forms::Form;
-use judge::run::{Verdict, judge};
+use groups::named;
+use judge::run::judge;
+use judge::totals;
 use judge::totals::message_totals;
 use moves::moving::register_move;
-use ranges::scopes::{Run, Scope1, scope1_places, scope2_places};
-use register::register::{Checked, register_check, register_write};
+use ranges::scopes;
+use ranges::scopes::{scope1_places, scope2_places};
+use register::register::{register_check, register_write};
+use returns::sums;
 use returns::sums::{message_old_sum, message_old_sum_bits, old_sum, old_sum_bits};
 use scope3::scope3_places;
 use sealing::seal::{seal, seal_octets};
+use syntax::Refusal;
 use values::value;
 
 #[repr(C)]
@@ -101,20 +106,23 @@ pub struct OldSum {
     pub kilograms: u64,
 }
 
-fn verdict_answer(v: Verdict) -> Answer
-    ensures { answer_fields result ≡ told_verdict v }
-{
-    match v {
-        Verdict::Accepted => Answer {
-            number: 0,
-            place: 0,
-            segment: 0,
-        },
-        Verdict::Refused(f) => Answer {
-            number: f.number as u64,
-            place: f.place as u64,
-            segment: f.segment as u64,
-        },
+// What the library's calls answer, as the numbers that C is given.
+impl From<Result<(), Refusal>> for Answer {
+    ghost from_gives = { λ r a. answer_fields a ≡ told_verdict r };
+
+    fn from(r: Result<(), Refusal>) -> Answer {
+        match r {
+            Ok(()) => Answer {
+                number: 0,
+                place: 0,
+                segment: 0,
+            },
+            Err(f) => Answer {
+                number: f.number as u64,
+                place: f.place as u64,
+                segment: f.segment as u64,
+            },
+        }
     }
 }
 
@@ -130,23 +138,24 @@ fn signed_grams(grams: u64, below: bool) -> i64
     z
 }
 
-fn totals_answer(t: judge::totals::Totals) -> Loads
+// Kept: no From, since a sum of grams fits in 63 bits only as `Light` says, and `From` asks for nothing.
+fn totals_answer(t: Result<totals::Loads, Refusal>) -> Loads
     requires { Light t }
     ensures result_value { totals_fields result ≡ told_totals t }
     ensures grams_value { result.grams ≡ told_grams t }
 {
     match t {
-        judge::totals::Totals::Of(x) => {
-            let z = signed_grams(x.grams, x.below);
+        Ok(x) => {
+            let grams = signed_grams(x.grams, x.below);
             Loads {
                 number: 0,
                 place: 0,
                 segment: 0,
                 loads: x.loads as u64,
-                grams: z,
+                grams,
             }
         }
-        judge::totals::Totals::Refused(f) => Loads {
+        Err(f) => Loads {
             number: f.number as u64,
             place: f.place as u64,
             segment: f.segment as u64,
@@ -156,85 +165,74 @@ fn totals_answer(t: judge::totals::Totals) -> Loads
     }
 }
 
-fn parts_answer(p: Scope1) -> Parts
-    ensures { parts_fields result ≡ told_parts p }
-{
-    match p {
-        Scope1::Of(x) => Parts {
-            number: 0,
-            place: 0,
-            segment: 0,
-            header_start: x.header.start as u64,
-            header_end: x.header.end as u64,
-            body_start: x.body.start as u64,
-            body_end: x.body.end as u64,
-        },
-        Scope1::Refused(f) => Parts {
-            number: f.number as u64,
-            place: f.place as u64,
-            segment: f.segment as u64,
-            header_start: 0,
-            header_end: 0,
-            body_start: 0,
-            body_end: 0,
-        },
+impl From<Result<scopes::Parts, Refusal>> for Parts {
+    ghost from_gives = { λ r a. parts_fields a ≡ told_parts r };
+
+    fn from(r: Result<scopes::Parts, Refusal>) -> Parts {
+        match r {
+            Ok(x) => Parts {
+                number: 0,
+                place: 0,
+                segment: 0,
+                header_start: x.header.start as u64,
+                header_end: x.header.end as u64,
+                body_start: x.body.start as u64,
+                body_end: x.body.end as u64,
+            },
+            Err(f) => Parts {
+                number: f.number as u64,
+                place: f.place as u64,
+                segment: f.segment as u64,
+                header_start: 0,
+                header_end: 0,
+                body_start: 0,
+                body_end: 0,
+            },
+        }
     }
 }
 
-fn run_answer(p: Run) -> Range
-    ensures { range_fields result ≡ told_run p }
-{
-    match p {
-        Run::Of(x) => Range {
-            number: 0,
-            place: 0,
-            segment: 0,
-            start: x.start as u64,
-            end: x.end as u64,
-        },
-        Run::Refused(f) => Range {
-            number: f.number as u64,
-            place: f.place as u64,
-            segment: f.segment as u64,
-            start: 0,
-            end: 0,
-        },
+impl From<Result<named::Range, Refusal>> for Range {
+    ghost from_gives = { λ r a. range_fields a ≡ told_run r };
+
+    fn from(r: Result<named::Range, Refusal>) -> Range {
+        match r {
+            Ok(x) => Range {
+                number: 0,
+                place: 0,
+                segment: 0,
+                start: x.start as u64,
+                end: x.end as u64,
+            },
+            Err(f) => Range {
+                number: f.number as u64,
+                place: f.place as u64,
+                segment: f.segment as u64,
+                start: 0,
+                end: 0,
+            },
+        }
     }
 }
 
-fn written_answer(w: writing::Written) -> Written
-    ensures { written_fields result ≡ told_written w }
-{
-    match w {
-        writing::Written::Length(n) => Written {
-            number: 0,
-            place: 0,
-            segment: 0,
-            length: n as u64,
-        },
-        writing::Written::Refused(f) => Written {
-            number: f.number as u64,
-            place: f.place as u64,
-            segment: f.segment as u64,
-            length: 0,
-        },
-    }
-}
+impl From<Result<usize, Refusal>> for Written {
+    ghost from_gives = { λ r a. written_fields a ≡ told_written r };
 
-fn checked_answer(c: Checked) -> Answer
-    ensures { answer_fields result ≡ told_check c }
-{
-    match c {
-        Checked::Same => Answer {
-            number: 0,
-            place: 0,
-            segment: 0,
-        },
-        Checked::Refused(f) => Answer {
-            number: f.number as u64,
-            place: f.place as u64,
-            segment: f.segment as u64,
-        },
+    fn from(r: Result<usize, Refusal>) -> Written {
+        match r {
+            Ok(n) => Written {
+                number: 0,
+                place: 0,
+                segment: 0,
+                length: n as u64,
+            },
+            Err(f) => Written {
+                number: f.number as u64,
+                place: f.place as u64,
+                segment: f.segment as u64,
+                length: 0,
+            },
+        }
     }
 }
 
@@ -243,7 +241,7 @@ fn checked_answer(c: Checked) -> Answer
 pub extern "C" fn gurandepi_judge(interchange: &[u8]) -> Answer
     ensures { answer_fields result ≡ numbers (verdict_of interchange.now) }
 {
-    verdict_answer(judge(interchange))
+    judge(interchange).into()
 }
 
 // The loads of a message, named by its 0062, and their grams.
@@ -260,7 +258,7 @@ pub extern "C" fn gurandepi_totals(interchange: &[u8], message: &[u8]) -> Loads
 pub extern "C" fn gurandepi_scope1(interchange: &[u8], message: &[u8], header: &[u8]) -> Parts
     ensures { parts_fields result ≡ part_numbers (scope1_of interchange.now message.now header.now) }
 {
-    parts_answer(scope1_places(interchange, message, header))
+    scope1_places(interchange, message, header).into()
 }
 
 // Scope 2: where its run starts and ends.
@@ -268,7 +266,7 @@ pub extern "C" fn gurandepi_scope1(interchange: &[u8], message: &[u8], header: &
 pub extern "C" fn gurandepi_scope2(interchange: &[u8], message: &[u8], header: &[u8]) -> Range
     ensures { range_fields result ≡ run_numbers (scope2_of interchange.now message.now header.now) }
 {
-    run_answer(scope2_places(interchange, message, header))
+    scope2_places(interchange, message, header).into()
 }
 
 // F01: where its run starts and ends in the referenced interchange. `message` is the AUTACK's 0062.
@@ -281,7 +279,7 @@ pub extern "C" fn gurandepi_f01(
 ) -> Range
     ensures { range_fields result ≡ run_numbers (f01_of autack.now referenced.now message.now header.now) }
 {
-    run_answer(f01_places(autack, referenced, message, header))
+    f01_places(autack, referenced, message, header).into()
 }
 
 // Scope 3, of the GS1 subset: where the message starts and ends, in the referenced interchange, that the AUTACK names. `message` is the AUTACK's 0062.
@@ -294,7 +292,7 @@ pub extern "C" fn gurandepi_scope3(
 ) -> Range
     ensures { range_fields result ≡ run_numbers (scope3_of autack.now referenced.now message.now header.now) }
 {
-    run_answer(scope3_places(autack, referenced, message, header))
+    scope3_places(autack, referenced, message, header).into()
 }
 
 // The value that a header's seal carries, into `out`.
@@ -307,7 +305,7 @@ pub extern "C" fn gurandepi_value(
 ) -> Written
     ensures { Gives (value_of interchange.now message.now header.now) out.old result out.new }
 {
-    written_answer(value(interchange, message, header, out))
+    value(interchange, message, header, out).into()
 }
 
 // The octets to be signed when the message is sealed under `reference`, with the filter 2 or 7, into `out`.
@@ -321,7 +319,7 @@ pub extern "C" fn gurandepi_seal_octets(
 ) -> Written
     ensures { Gives (seal_octets_of interchange.now message.now reference.now filter) out.old result out.new }
 {
-    written_answer(seal_octets(interchange, message, reference, filter, out))
+    seal_octets(interchange, message, reference, filter, out).into()
 }
 
 // The sealed interchange, into `out`. `value` is the signature, as octets.
@@ -336,7 +334,7 @@ pub extern "C" fn gurandepi_seal(
 ) -> Written
     ensures { Gives (seal_of interchange.now message.now reference.now filter value.now) out.old result out.new }
 {
-    written_answer(seal(interchange, message, reference, filter, value, out))
+    seal(interchange, message, reference, filter, value, out).into()
 }
 
 // The register of an interchange in the old form, into `out`. Each form has calls of its own: a form by a number could be none.
@@ -344,7 +342,7 @@ pub extern "C" fn gurandepi_seal(
 pub extern "C" fn gurandepi_register_write(interchange: &[u8], out: &mut [u8]) -> Written
     ensures { Gives (register_of Old interchange.now) out.old result out.new }
 {
-    written_answer(register_write(interchange, Form::Old, out))
+    register_write(interchange, Form::Old, out).into()
 }
 
 // The same in the form with signed grams.
@@ -352,7 +350,7 @@ pub extern "C" fn gurandepi_register_write(interchange: &[u8], out: &mut [u8]) -
 pub extern "C" fn gurandepi_register_write_signed(interchange: &[u8], out: &mut [u8]) -> Written
     ensures { Gives (register_of Signed interchange.now) out.old result out.new }
 {
-    written_answer(register_write(interchange, Form::Signed, out))
+    register_write(interchange, Form::Signed, out).into()
 }
 
 // Whether `kept` is the register of the interchange in the old form.
@@ -360,7 +358,7 @@ pub extern "C" fn gurandepi_register_write_signed(interchange: &[u8], out: &mut 
 pub extern "C" fn gurandepi_register_check(interchange: &[u8], kept: &[u8]) -> Answer
     ensures { answer_fields result ≡ check_numbers Old interchange.now kept.now }
 {
-    checked_answer(register_check(interchange, Form::Old, kept))
+    register_check(interchange, Form::Old, kept).into()
 }
 
 // The same in the smaller form, which is only read.
@@ -368,7 +366,7 @@ pub extern "C" fn gurandepi_register_check(interchange: &[u8], kept: &[u8]) -> A
 pub extern "C" fn gurandepi_register_check_small(interchange: &[u8], kept: &[u8]) -> Answer
     ensures { answer_fields result ≡ check_numbers Small interchange.now kept.now }
 {
-    checked_answer(register_check(interchange, Form::Small, kept))
+    register_check(interchange, Form::Small, kept).into()
 }
 
 // The same in the form with signed grams.
@@ -376,7 +374,7 @@ pub extern "C" fn gurandepi_register_check_small(interchange: &[u8], kept: &[u8]
 pub extern "C" fn gurandepi_register_check_signed(interchange: &[u8], kept: &[u8]) -> Answer
     ensures { answer_fields result ≡ check_numbers Signed interchange.now kept.now }
 {
-    checked_answer(register_check(interchange, Form::Signed, kept))
+    register_check(interchange, Form::Signed, kept).into()
 }
 
 // A stored register of the old form in that with signed grams, into `out`.
@@ -384,7 +382,7 @@ pub extern "C" fn gurandepi_register_check_signed(interchange: &[u8], kept: &[u8
 pub extern "C" fn gurandepi_register_old_to_signed(stored: &[u8], out: &mut [u8]) -> Written
     ensures { Gives (move_of Old Signed stored.now) out.old result out.new }
 {
-    written_answer(register_move(stored, Form::Old, Form::Signed, out))
+    register_move(stored, Form::Old, Form::Signed, out).into()
 }
 
 // And back.
@@ -392,7 +390,7 @@ pub extern "C" fn gurandepi_register_old_to_signed(stored: &[u8], out: &mut [u8]
 pub extern "C" fn gurandepi_register_signed_to_old(stored: &[u8], out: &mut [u8]) -> Written
     ensures { Gives (move_of Signed Old stored.now) out.old result out.new }
 {
-    written_answer(register_move(stored, Form::Signed, Form::Old, out))
+    register_move(stored, Form::Signed, Form::Old, out).into()
 }
 
 // One of the smaller form in either.
@@ -400,14 +398,14 @@ pub extern "C" fn gurandepi_register_signed_to_old(stored: &[u8], out: &mut [u8]
 pub extern "C" fn gurandepi_register_small_to_signed(stored: &[u8], out: &mut [u8]) -> Written
     ensures { Gives (move_of Small Signed stored.now) out.old result out.new }
 {
-    written_answer(register_move(stored, Form::Small, Form::Signed, out))
+    register_move(stored, Form::Small, Form::Signed, out).into()
 }
 
 #[unsafe(no_mangle)]
 pub extern "C" fn gurandepi_register_small_to_old(stored: &[u8], out: &mut [u8]) -> Written
     ensures { Gives (move_of Small Old stored.now) out.old result out.new }
 {
-    written_answer(register_move(stored, Form::Small, Form::Old, out))
+    register_move(stored, Form::Small, Form::Old, out).into()
 }
 
 // A message under way, for its digest.
@@ -443,49 +441,60 @@ pub struct Digest {
     pub octets: [u8; 20],
 }
 
-fn inner_state(s: Sha1) -> sha::Sha
-    ensures { result ≡ state_in s }
-{
-    let b = s.buffer;
-    sha::Sha {
-        chain: sha::Chain {
-            a: s.a,
-            b: s.b,
-            c: s.c,
-            d: s.d,
-            e: s.e,
-        },
-        buffer: b,
-        count: s.count,
+impl From<Sha1> for sha::Sha {
+    ghost from_gives = { λ s r. r ≡ state_in s };
+
+    fn from(s: Sha1) -> sha::Sha {
+        let buffer = s.buffer;
+        sha::Sha {
+            chain: sha::Chain {
+                a: s.a,
+                b: s.b,
+                c: s.c,
+                d: s.d,
+                e: s.e,
+            },
+            buffer,
+            count: s.count,
+        }
     }
 }
 
-fn outer_state(s: sha::Sha) -> Sha1
-    ensures { state_in result ≡ s }
-{
-    let h = s.chain;
-    let b = s.buffer;
-    Sha1 {
-        a: h.a,
-        b: h.b,
-        c: h.c,
-        d: h.d,
-        e: h.e,
-        buffer: b,
-        count: s.count,
+impl From<sha::Sha> for Sha1 {
+    ghost from_gives = { λ s r. state_in r ≡ s };
+
+    fn from(s: sha::Sha) -> Sha1 {
+        let buffer = s.buffer;
+        Sha1 {
+            a: s.chain.a,
+            b: s.chain.b,
+            c: s.chain.c,
+            d: s.chain.d,
+            e: s.chain.e,
+            buffer,
+            count: s.count,
+        }
     }
 }
 
-fn digest_answer(d: digest::Digest) -> Digest
-    ensures { digest_fields result ≡ told_digest d }
-{
-    let f = d.refusal;
-    let o = d.octets;
-    Digest {
-        number: f.number as u64,
-        place: f.place as u64,
-        segment: f.segment as u64,
-        octets: o,
+impl From<Result<[u8; 20], Refusal>> for Digest {
+    ghost from_gives = { λ r a. digest_fields a ≡ told_digest r };
+
+    fn from(r: Result<[u8; 20], Refusal>) -> Digest {
+        match r {
+            Ok(octets) => Digest {
+                number: 0,
+                place: 0,
+                segment: 0,
+                octets,
+            },
+            Err(f) => Digest {
+                number: f.number as u64,
+                place: f.place as u64,
+                segment: f.segment as u64,
+                octets: [0u8; 20],
+            },
+        }
     }
 }
 
@@ -494,7 +503,7 @@ fn digest_answer(d: digest::Digest) -> Digest
 pub extern "C" fn gurandepi_sha1_start() -> Sha1
     ensures { state_in result ≡ started }
 {
-    outer_state(sha::start())
+    sha::start().into()
 }
 
 // The state with the octets of `part` behind those that were there.
@@ -502,22 +511,19 @@ pub extern "C" fn gurandepi_sha1_start() -> Sha1
 pub extern "C" fn gurandepi_sha1_feed(state: Sha1, part: &[u8]) -> Fed
     ensures { Feeds state part.now result }
 {
-    let f = sha::feed(inner_state(state), part);
-    let t = f.state;
-    let s = outer_state(t);
-    if f.taken {
-        return Fed {
+    match sha::feed(state.into(), part) {
+        Some(s) => Fed {
             number: 0,
             place: 0,
             segment: 0,
-            state: s,
-        };
-    }
-    Fed {
-        number: 15,
-        place: 0,
-        segment: 0,
-        state: s,
+            state: s.into(),
+        },
+        None => Fed {
+            number: 15,
+            place: 0,
+            segment: 0,
+            state,
+        },
     }
 }
 
@@ -526,7 +532,7 @@ pub extern "C" fn gurandepi_sha1_feed(state: Sha1, part: &[u8]) -> Fed
 pub extern "C" fn gurandepi_sha1_finish(state: Sha1) -> Digest
     ensures { digest_fields result ≡ 0 ∷ 0 ∷ 0 ∷ finished_of (state_in state) }
 {
-    let d = sha::finish(inner_state(state));
+    let d = sha::finish(state.into());
     Digest {
         number: 0,
         place: 0,
@@ -544,7 +550,7 @@ pub extern "C" fn gurandepi_digest_scope1(
 ) -> Digest
     ensures { digest_fields result ≡ digest_numbers (digest1_of interchange.now message.now header.now) }
 {
-    digest_answer(digest_scope1(interchange, message, header))
+    digest_scope1(interchange, message, header).into()
 }
 
 // The digest of what a header of scope 2 seals.
@@ -556,7 +562,7 @@ pub extern "C" fn gurandepi_digest_scope2(
 ) -> Digest
     ensures { digest_fields result ≡ digest_numbers (digest2_of interchange.now message.now header.now) }
 {
-    digest_answer(digest_scope2(interchange, message, header))
+    digest_scope2(interchange, message, header).into()
 }
 
 // The digest of what a header of scope F01 seals, in the referenced interchange. `message` is the AUTACK's 0062.
@@ -569,7 +575,7 @@ pub extern "C" fn gurandepi_digest_f01(
 ) -> Digest
     ensures { digest_fields result ≡ digest_numbers (digest_f01_of autack.now referenced.now message.now header.now) }
 {
-    digest_answer(digest_f01(autack, referenced, message, header))
+    digest_f01(autack, referenced, message, header).into()
 }
 
 // The digest of what a header of scope 3 seals, in the referenced interchange. `message` is the AUTACK's 0062.
@@ -582,34 +588,35 @@ pub extern "C" fn gurandepi_digest_scope3(
 ) -> Digest
     ensures { digest_fields result ≡ digest_numbers (digest3_of autack.now referenced.now message.now header.now) }
 {
-    digest_answer(digest_scope3(autack, referenced, message, header))
+    digest_scope3(autack, referenced, message, header).into()
 }
 
-fn old_sum_answer(x: returns::sums::OldSum) -> OldSum
-    ensures result_value { old_sum_fields result ≡ told_sum x }
-    ensures single_value { result.single ≡ single_in x }
-{
-    match x {
-        returns::sums::OldSum::Of(l) => OldSum {
-            number: 0,
-            place: 0,
-            segment: 0,
-            sum: l.sum,
-            bits: l.bits,
-            single: l.single,
-            loads: l.loads,
-            kilograms: l.kilograms,
-        },
-        returns::sums::OldSum::Refused(f) => OldSum {
-            number: f.number as u64,
-            place: f.place as u64,
-            segment: f.segment as u64,
-            sum: 0,
-            bits: 0,
-            single: 0.0,
-            loads: 0,
-            kilograms: 0,
-        },
+impl From<Result<sums::Left, Refusal>> for OldSum {
+    ghost from_gives = { λ r a. (old_sum_fields a ≡ told_sum r) × (a.single ≡ single_in r) };
+
+    fn from(r: Result<sums::Left, Refusal>) -> OldSum {
+        match r {
+            Ok(x) => OldSum {
+                number: 0,
+                place: 0,
+                segment: 0,
+                sum: x.sum,
+                bits: x.bits,
+                single: x.single,
+                loads: x.loads,
+                kilograms: x.kilograms,
+            },
+            Err(f) => OldSum {
+                number: f.number as u64,
+                place: f.place as u64,
+                segment: f.segment as u64,
+                sum: 0,
+                bits: 0,
+                single: 0.0,
+                loads: 0,
+                kilograms: 0,
+            },
+        }
     }
 }
 
@@ -619,7 +626,7 @@ pub extern "C" fn gurandepi_old_sum(interchange: &[u8], before: f32) -> OldSum
     ensures result_value { old_sum_fields result ≡ sum_numbers (old_sum_of interchange.now before) }
     ensures single_value { result.single ≡ single_of (old_sum_of interchange.now before) }
 {
-    old_sum_answer(old_sum(interchange, before))
+    old_sum(interchange, before).into()
 }
 
 // The same, with the sum that the last file left as its 32 bits.
@@ -628,7 +635,7 @@ pub extern "C" fn gurandepi_old_sum_bits(interchange: &[u8], before: u32) -> Old
     ensures result_value { old_sum_fields result ≡ sum_numbers (old_sum_bits_of interchange.now before) }
     ensures single_value { result.single ≡ single_of (old_sum_bits_of interchange.now before) }
 {
-    old_sum_answer(old_sum_bits(interchange, before))
+    old_sum_bits(interchange, before).into()
 }
 
 // The old sum with the loads of one message.
@@ -641,7 +648,7 @@ pub extern "C" fn gurandepi_message_old_sum(
     ensures result_value { old_sum_fields result ≡ sum_numbers (message_old_sum_of interchange.now message.now before) }
     ensures single_value { result.single ≡ single_of (message_old_sum_of interchange.now message.now before) }
 {
-    old_sum_answer(message_old_sum(interchange, message, before))
+    message_old_sum(interchange, message, before).into()
 }
 
 #[unsafe(no_mangle)]
@@ -653,5 +660,5 @@ pub extern "C" fn gurandepi_message_old_sum_bits(
     ensures result_value { old_sum_fields result ≡ sum_numbers (message_old_sum_bits_of interchange.now message.now before) }
     ensures single_value { result.single ≡ single_of (message_old_sum_bits_of interchange.now message.now before) }
 {
-    old_sum_answer(message_old_sum_bits(interchange, message, before))
+    message_old_sum_bits(interchange, message, before).into()
 }

@@ -9,10 +9,7 @@ use std::io::Read;
 pub fn read_once(from: &mut impl Read, buf: &mut [u8]) -> usize
     ensures { result ≤ length buf.new }
 {
-    match from.read(buf) {
-        Ok(n) => n,
-        Err(_) => 0,
-    }
+    from.read(buf).unwrap_or(0)
 }
 
 // Reads until `buf` is full, the input ends or a read fails: how many octets now stand at the start of `buf`.
@@ -37,13 +34,11 @@ fn read_away(rt: &impl Input) -> usize {
 }
 
 // Reads to the end of the input, so that whoever sends more than a program keeps can send it all. A proved loop has to end, and
-// nothing says that the input does: so the loop counts its turns down, from a number that no run uses up.
+// nothing says that the input does: so the loop has more turns than any run uses up.
 pub fn drain(rt: &impl Input) {
-    let mut turns = u64::MAX;
-    while turns > 0 {
+    for _ in 0..u64::MAX {
         if read_away(rt) == 0 {
             return;
         }
-        turns -= 1;
     }
 }

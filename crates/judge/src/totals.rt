@@ -4,11 +4,11 @@ ghost use Rattle.grammar.specs.Verdict.{totals_of, total_numbers, total_grams};
 ghost use Rattle.judge.specs.Totals.{totals_as, told_totals, told_grams, totalled_by, Light};
 
 use beginning::begin;
-use finding::{Found, find};
+use finding::find;
 use refusals::refusal;
-use syntax::Refusal;
-use syntax::opening::Begun;
-use syntax::repertoire::table;
+use syntax::classes::Classes;
+use syntax::{Breach, Refusal};
+use walk::sections::Layout;
 
 #[derive(Clone, Copy)]
 pub struct Loads {
@@ -17,45 +17,41 @@ pub struct Loads {
     pub below: bool,
 }
 
-#[derive(Clone, Copy)]
-pub enum Totals {
-    Of(Loads),
-    Refused(Refusal),
-}
-
-fn totalled(s: &[u8], f: Found) -> Totals
+fn totalled(s: &[u8], f: Result<Option<Layout>, Breach>) -> Result<Loads, Refusal>
     ensures { result ≡ totalled_by s.now f }
 {
     match f {
-        Found::Message(c) => Totals::Of(Loads {
+        Ok(Some(c)) => Ok(Loads {
             loads: c.loads,
             grams: c.grams,
             below: c.below,
         }),
-        Found::Missing => Totals::Refused(Refusal {
+        Ok(None) => Err(Refusal {
             number: 13,
             place: 0,
             segment: 0,
         }),
-        Found::Refused(g) => Totals::Refused(refusal(s, g)),
+        Err(g) => Err(refusal(s, g)),
     }
 }
 
+// None: the interchange has no message of that 0062.
+fn sought(s: &[u8], reference: &[u8]) -> Result<Option<Layout>, Breach>
+    ensures value { totalled_by s.now result ≡ totals_as (totals_of s.now reference.now) }
+    ensures light { Light (totalled_by s.now result) }
+{
+    let start = begin(s)?;
+    let t = Classes::of(start.syntax);
+    let mut rows = [0usize; 18];
+    find(s, start.at, &t, reference, 32, &mut rows)
+}
+
 // How many loads the message with the 0062 `reference` has, and their grams: for any octets, and any reference.
-pub fn message_totals(s: &[u8], reference: &[u8]) -> Totals
+pub fn message_totals(s: &[u8], reference: &[u8]) -> Result<Loads, Refusal>
     ensures value { result ≡ totals_as (totals_of s.now reference.now) }
     ensures result_value { told_totals result ≡ total_numbers (totals_of s.now reference.now) }
     ensures result_value_2 { told_grams result ≡ total_grams (totals_of s.now reference.now) }
     ensures light { Light result }
 {
-    match begin(s) {
-        Begun::Refused(f) => Totals::Refused(refusal(s, f)),
-        Begun::Ready(b) => {
-            let y = b.syntax;
-            let at = b.at;
-            let t = table(y);
-            let mut rows = [0usize; 18];
-            totalled(s, find(s, at, &t, y, reference, 32, &mut rows))
-        }
-    }
+    totalled(s, sought(s, reference))
 }

@@ -1,10 +1,10 @@
 -- Why the year was 390 tonnes off: from 268,435,456 kg on a load of 30,000 kg is booked 16 kg heavy.
-use Rattle.std.specs.Prelude.{◌≡◌, ℕ, zero, suc, ◌+◌, ◌*◌, ◌/◌, ◌%◌, ◌<◌, ◌≤◌, Bool, true, false, cond, List, [], ◌∷◌, ◌++◌, nat_lt, refl}
+use Rattle.std.specs.Prelude.{◌≡◌, ℕ, zero, suc, ◌+◌, ◌*◌, ◌/◌, ◌%◌, ◌<◌, ◌≤◌, Bool, true, false, cond, List, ◌∷◌, ◌++◌, nat_lt, refl}
 use native.Mathlib.Omega.{arith}
 use Rattle.std.proofs.Common.{mul-div_cancel, sym, ◌∙◌, subst, lt-ltb, le-ltb, ltb-true, ltb-false}
 use Rattle.std.proofs.Math.Nat.{mul-mod_left}
 use Rattle.std.proofs.Math.Path.{ap}
-use Rattle.std.proofs.Math.Option.{Option, none, some}
+use Rattle.std.proofs.Math.Option.{Option, some}
 use Rattle.kilograms.specs.OldSum.{Old, tally, refused, limit, step_at, times_nearest, rounded, added, added_all}
 use Rattle.kilograms.specs.BoundLaws.{added-parts}
 use Rattle.kilograms.specs.Bounds.{batch_of}

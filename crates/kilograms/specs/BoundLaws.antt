@@ -1,10 +1,10 @@
 -- The old sum is at most 32 kg off for each load, and over a chain of files the bounds add up.
-use Rattle.std.specs.Prelude.{◌≡◌, ℕ, zero, suc, ◌+◌, ◌*◌, ◌<◌, ◌≤◌, Bool, true, false, cond, List, [], ◌∷◌, ◌++◌, length, nat_lt, refl}
-use Rattle.std.proofs.Common.{arith, sym, ap, ◌∙◌, subst, ltb-false}
+use Rattle.std.specs.Prelude.{◌≡◌, ℕ, suc, ◌+◌, ◌*◌, ◌≤◌, Bool, true, false, cond, List, [], ◌∷◌, ◌++◌, length, nat_lt, refl}
+use Rattle.std.proofs.Common.{arith, sym, subst, ltb-false}
 use Rattle.std.proofs.Math.Option.{Option, none, some}
 use Rattle.kilograms.specs.OldSum.{Old, tally, refused, limit, rounded, added, added_all}
 use Rattle.kilograms.specs.RoundingLaws.{rounded-near, rounded-within}
-use Rattle.kilograms.specs.Bounds.{weight, exactly, Bounded}
+use Rattle.kilograms.specs.Bounds.{exactly, Bounded}
 
 -- what was refused stays refused
 pub stays : (n : ℕ) (l : List (Option ℕ)) → added_all (refused n) l ≡ refused n

@@ -2,7 +2,7 @@
 use Rattle.std.specs.Prelude.{◌≡◌, refl}
 use Rattle.std.proofs.Math.Option.{some}
 use Rattle.std.specs.Float.Ieee.{of_int, to_bits}
-use Rattle.kilograms.specs.OldSum.{tally, added, handed_bits, bits_of}
+use Rattle.kilograms.specs.OldSum.{tally, added, bits_of}
 
 pub booked : added (tally 300000000 0 0) (some 30000) ≡ tally 300030016 1 30000
 booked = refl

@@ -1,5 +1,5 @@
 -- The old sum, "just as it ran: kilograms in single precision, in file order, one rounding for each addition". All of it over whole numbers.
-use Rattle.std.specs.Prelude.{ℕ, suc, ◌+◌, ◌*◌, ◌/◌, ◌%◌, ◌≤◌, Bool, true, false, cond, ◌&&◌, List, [], ◌∷◌, pos, ◌==◌, from_bits, nat_le, nat_lt, to_bits, Float}
+use Rattle.std.specs.Prelude.{ℕ, suc, ◌+◌, ◌*◌, ◌/◌, ◌%◌, true, false, cond, ◌&&◌, List, [], ◌∷◌, pos, ◌==◌, from_bits, nat_le, nat_lt, to_bits, Float}
 use Rattle.std.proofs.Math.Option.{Option, none, some}
 use Rattle.std.specs.Float.{nan, inf, fin, binary32}
 use Rattle.std.specs.Float.Ieee.{up, down, of_int}

@@ -1,5 +1,5 @@
 -- One rounding, over whole numbers: at most 32 away, and within the limit again.
-use Rattle.std.specs.Prelude.{◌≡◌, ℕ, zero, suc, ◌+◌, ◌-◌, ◌*◌, ◌/◌, ◌%◌, ◌<◌, ◌≤◌, Bool, true, false, cond, not, T, ◌==◌, nat_lt, refl}
+use Rattle.std.specs.Prelude.{◌≡◌, ℕ, zero, suc, ◌+◌, ◌*◌, ◌/◌, ◌%◌, ◌<◌, ◌≤◌, Bool, true, false, cond, not, T, ◌==◌, nat_lt, refl}
 use Rattle.std.proofs.Common.{sym, ap, ◌∙◌, subst, one-mul, mul-le-mul_right, add-mul, div-add-mod', mod-lt, zero-lt-suc, arith, leb→le, eqb→eq, lt-ltb, le-ltb, ltb-true, ltb-false}
 use Prim.Native.Nat.{compare, Ordering}
 use Rattle.std.proofs.Math.Dec.{is_le, compare_is_eq, nleb→lt, eqb_refl}

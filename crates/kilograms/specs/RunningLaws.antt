@@ -1,36 +1,32 @@
 -- Laws of the old sum as the code keeps it: a sum handed in, a load more.
-use Rattle.std.specs.Prelude.{◌≡◌, ℕ, zero, suc, ◌+◌, ◌-◌, ◌*◌, ◌/◌, ◌%◌, ◌<◌, ◌≤◌, Bool, true, false, cond, not, ◌&&◌, T, pos, ◌==◌, ◌≢◌, nat_le, nat_lt, to_bits, refl, Float}
-use Rattle.std.proofs.Common.{mul-one, mul-div_cancel, mul-lt-mul_of_pos_right, div-add-mod', arith, sym, ap, ◌∙◌, subst, lt→ltb, lt-ltb, le-ltb, ltb-true, ltb-false, eqb-true, leb-true, leb-false, le-leb, eq-eqb, ne_eqb}
+use Rattle.std.specs.Prelude.{◌≡◌, ℕ, zero, suc, ◌+◌, ◌*◌, ◌/◌, ◌%◌, ◌<◌, ◌≤◌, Bool, true, false, cond, not, ◌&&◌, T, pos, ◌==◌, ◌≢◌, nat_le, nat_lt, to_bits, refl, Float, Result, Option, Ok, Err, Some, None}
+use Rattle.std.proofs.Common.{mul-one, mul-div_cancel, mul-lt-mul_of_pos_right, div-add-mod', arith, sym, ap, ◌∙◌, subst, lt→ltb, lt-ltb, le-ltb, ltb-false, eqb-true, leb-true, leb-false, le-leb, eq-eqb, ne_eqb}
 use Rattle.std.proofs.Math.Nat.{mul-mod_left}
-use Rattle.std.proofs.Math.Option.{Option, none, some}
+use Rattle.std.proofs.Math.Option.{Option as Maybe, none, some}
 use Rattle.std.specs.Float.{nan, inf, fin, binary32}
-use Rattle.std.specs.Float.Ieee.{up, down, lt, to_unsigned, of_int, fits, is_nan, of_bits, of_fields, odd, nan_bits, hid, ones, top}
-use Rattle.std.specs.Float.Ieee.Bits.{of_bits-to_bits, of_bits-fits, nan_bits_is, nan_bits_above}
+use Rattle.std.specs.Float.Ieee.{up, down, lt, to_unsigned, fits, is_nan, of_bits, of_fields, odd, nan_bits}
+use Rattle.std.specs.Float.Ieee.Bits.{of_bits-to_bits, nan_bits_is, nan_bits_above}
 use Rattle.std.specs.Float.Ieee.Fits.{down_pos, of_int-fits}
 use Rattle.std.proofs.lemmas.Bool.{lt-leb}
 use Rattle.kilograms.specs.OldSum.{Old, tally, refused, limit, rounded, kilograms_in, added, single, handed_in, handed_bits}
-use Rattle.kilograms.specs.RoundingLaws.{rounded-near, rounded-within}
+use Rattle.kilograms.specs.RoundingLaws.{rounded-within}
 use Rattle.kilograms.specs.SingleLaws.{Whole, single-rounds, single-same, cut, whole-one, whole_back}
 use Rattle.kilograms.specs.Running.{running_as, load_as, Held, loads_of, Runs, Weighs, Kilos}
 use Rattle.kilograms.specs.declared.Tally.{Tally}
-use Rattle.kilograms.specs.declared.Running.{Running}
-use Rattle.kilograms.specs.declared.Running.TheVariants.{Of, Refused}
-use Rattle.kilograms.specs.declared.Load.{Load}
-use Rattle.kilograms.specs.declared.Load.TheVariants.{Kilograms, Other}
 
 -- ---- a load of so many grams
 
-pub load-heavy : (g : ℕ) → 100000000 < g → Other ≡ load_as (kilograms_in g)
+pub load-heavy : (g : ℕ) → 100000000 < g → None ≡ load_as (kilograms_in g)
 load-heavy g h = by (g % 1000 == 0) (nat_le g 100000000) (lt-leb g 100000000 h)
   where
-    by : (a b : Bool) → b ≡ false → Other ≡ load_as (cond (a && b) (some (g / 1000)) none)
+    by : (a b : Bool) → b ≡ false → None ≡ load_as (cond (a && b) (some (g / 1000)) none)
     by true b e = ap (λ (c : Bool). load_as (cond c (some (g / 1000)) none)) (sym e)
     by false b e = refl
 
-pub load-broken : (g : ℕ) → (g % 1000 ≢ 0) → Other ≡ load_as (kilograms_in g)
+pub load-broken : (g : ℕ) → (g % 1000 ≢ 0) → None ≡ load_as (kilograms_in g)
 load-broken g h = rw (ne_eqb (g % 1000) 0 h)
 
-pub load-whole : (g : ℕ) → g % 1000 ≡ 0 → g ≤ 100000000 → Kilograms (g / 1000) ≡ load_as (kilograms_in g)
+pub load-whole : (g : ℕ) → g % 1000 ≡ 0 → g ≤ 100000000 → Some (g / 1000) ≡ load_as (kilograms_in g)
 load-whole g h l = rw (eq-eqb (g % 1000) 0 h, le-leb g 100000000 l)
 
 -- ---- a sum handed in
@@ -146,25 +142,25 @@ held-handed (fin false m e) f = by (m * up e % down e == 0) refl (nat_le (m * up
 
 -- and so the code answers
 pub handed-so : (s x : Float) (w : ℕ) → T (fits binary32 s) → x ≡ single w → w ≡ to_unsigned 64 s → w ≤ limit → to_bits binary32 x ≡ to_bits binary32 s
-    → Of (record { sum = s; loads = 0; kilograms = 0 }) ≡ running_as (handed_in s)
+    → Ok (record { sum = s; loads = 0; kilograms = 0 }) ≡ running_as (handed_in s)
 handed-so s x w f e t h b =
     let v = same_bits s x w f e t h b in
-    ap (λ (y : Float). Of (record { sum = y; loads = 0; kilograms = 0 })) (sym (whole_back s w f v h)) ∙ ap running_as (sym (handed-whole s w v h))
+    ap (λ (y : Float). Ok (record { sum = y; loads = 0; kilograms = 0 })) (sym (whole_back s w f v h)) ∙ ap running_as (sym (handed-whole s w v h))
 
 module _ (s : Float) where
-  none-handed : NoSum s → Refused 24 ≡ running_as (handed_in s)
+  none-handed : NoSum s → Err 24 ≡ running_as (handed_in s)
   none-handed k = ap running_as (sym (handed-not s k))
 
-  pub low-handed : lt (fin true 1 (pos 0)) s ≡ false → Refused 24 ≡ running_as (handed_in s)
+  pub low-handed : lt (fin true 1 (pos 0)) s ≡ false → Err 24 ≡ running_as (handed_in s)
   low-handed e = none-handed (not_low s e)
 
-  pub high-handed : lt s (fin false 1 (pos 64)) ≡ false → Refused 24 ≡ running_as (handed_in s)
+  pub high-handed : lt s (fin false 1 (pos 64)) ≡ false → Err 24 ≡ running_as (handed_in s)
   high-handed e = none-handed (not-high s e)
 
-  pub large-handed : (w : ℕ) → w ≡ to_unsigned 64 s → limit < w → Refused 24 ≡ running_as (handed_in s)
+  pub large-handed : (w : ℕ) → w ≡ to_unsigned 64 s → limit < w → Err 24 ≡ running_as (handed_in s)
   large-handed w e g = none-handed (not-large s w e g)
 
-  pub broken-handed : (x : Float) (w : ℕ) → T (fits binary32 s) → x ≡ single w → w ≡ to_unsigned 64 s → (to_bits binary32 x ≢ to_bits binary32 s) → Refused 24 ≡ running_as (handed_in s)
+  pub broken-handed : (x : Float) (w : ℕ) → T (fits binary32 s) → x ≡ single w → w ≡ to_unsigned 64 s → (to_bits binary32 x ≢ to_bits binary32 s) → Err 24 ≡ running_as (handed_in s)
   broken-handed x w f ex e d = none-handed (not_same s x w f ex e d)
 
 -- ---- by bits: up to those of infinity they are a number's without a sign
@@ -201,7 +197,7 @@ nan-refused nan e = refl
 nan-refused (inf s) e = refl
 nan-refused (fin s m d) e = let z : ◌≡◌ {A = Bool} false true = e in cc
 
-pub bits-refused : (b : ℕ) → 2139095040 < b → Refused 24 ≡ running_as (handed_bits b)
+pub bits-refused : (b : ℕ) → 2139095040 < b → Err 24 ≡ running_as (handed_bits b)
 bits-refused b h = ap running_as (sym (by (nat_le 2147483648 b) refl))
   where
     by : (c : Bool) → nat_le 2147483648 b ≡ c → handed_in (of_bits binary32 b) ≡ refused 24
@@ -213,7 +209,7 @@ bits-refused b h = ap running_as (sym (by (nat_le 2147483648 b) refl))
 
 -- ---- a load more
 
-pub held-added : (o : Old) (x : Option ℕ) → Weighs (load_as x) → Held o → Held (added o x)
+pub held-added : (o : Old) (x : Maybe ℕ) → Weighs (load_as x) → Held o → Held (added o x)
 held-added (refused n) x w h = tt
 held-added (tally v n e) none w h = tt
 held-added (tally v n e) (some x) w h = by (nat_lt limit (v + x)) refl
@@ -226,10 +222,10 @@ held-added (tally v n e) (some x) w h = by (nat_lt limit (v + x)) refl
         (rounded-within (v + x) l, (subst (λ (y : Float). Whole y (rounded (v + x))) (sym (single-same (v + x) l)) (single-rounds (v + x) l), omega (arith, a, w)))
 
 -- the whole number that the code keeps
-pub runs-whole : (t : Tally) → Runs (Of t) → Kilos t.sum
+pub runs-whole : (t : Tally) → Runs (Ok t) → Kilos t.sum
 runs-whole t r = by r.old r.held r.is
   where
-    by : (o : Old) → Held o → Of t ≡ running_as o → Kilos t.sum
+    by : (o : Old) → Held o → Ok t ≡ running_as o → Kilos t.sum
     by (tally v n e) h q =
         let z : t.sum ≡ single v = cc in
         record { value = v; whole = subst (λ (x : Float). Whole x v) (sym z) h.1.0; within = h.0 }
@@ -238,10 +234,10 @@ runs-whole t r = by r.old r.held r.is
 pub whole-small : {x : Float} {r : ℕ} → Kilos x → ((v : ℕ) → Whole x v → v ≤ limit → r ≡ v) → r ≤ limit
 whole-small k f = let e = f k.value k.whole k.within in let h = k.within in omega (arith, e, h)
 
-pub runs-room : (t : Tally) → Runs (Of t) → (t.loads ≤ 65535) × (t.kilograms ≤ 6553500000)
+pub runs-room : (t : Tally) → Runs (Ok t) → (t.loads ≤ 65535) × (t.kilograms ≤ 6553500000)
 runs-room t r = by r.old r.held r.is r.few
   where
-    by : (o : Old) → Held o → Of t ≡ running_as o → loads_of o ≤ 65535 → (t.loads ≤ 65535) × (t.kilograms ≤ 6553500000)
+    by : (o : Old) → Held o → Ok t ≡ running_as o → loads_of o ≤ 65535 → (t.loads ≤ 65535) × (t.kilograms ≤ 6553500000)
     by (tally v n e) h q f =
         let a : t.loads ≡ n = cc in
         let b : t.kilograms ≡ e = cc in
@@ -253,37 +249,37 @@ module _ (t : Tally) (x : ℕ) {w : ℕ} (k : (v : ℕ) → Whole t.sum v → v 
   whole_here : Whole t.sum v
   whole_here = subst (λ (y : Float). Whole y v) (sym q) h.1.0
 
-  pub add-passed : limit < w + x → Refused 24 ≡ running_as (added (tally v t.loads t.kilograms) (some x))
+  pub add-passed : limit < w + x → Err 24 ≡ running_as (added (tally v t.loads t.kilograms) (some x))
   add-passed p =
       let a : w ≡ v = k v whole_here h.0 in
       sym (ap (λ (b : Bool). running_as (cond b (refused 24) (tally (rounded (v + x)) (suc t.loads) (t.kilograms + x)))) (lt-ltb limit (v + x) (subst (λ (y : ℕ). limit < y + x) a p)))
 
   pub add-on : {s : Float} {n e : ℕ} → w + x ≤ limit → ((u : ℕ) → Whole t.sum u → u + x ≤ limit → s ≡ single (rounded (u + x))) → n ≡ t.loads + 1 → e ≡ t.kilograms + x
-      → Of (record { sum = s; loads = n; kilograms = e }) ≡ running_as (added (tally v t.loads t.kilograms) (some x))
+      → Ok (record { sum = s; loads = n; kilograms = e }) ≡ running_as (added (tally v t.loads t.kilograms) (some x))
   add-on {s} {n} {e} p f c d =
       let a : w ≡ v = k v whole_here h.0 in
       let l : v + x ≤ limit = subst (λ (y : ℕ). y + x ≤ limit) a p in
       let g : s ≡ single (rounded (v + x)) = f v whole_here l in
       let m : n ≡ suc t.loads = omega (arith, c) in
-      ap (λ (y : Float). Of (record { sum = y; loads = n; kilograms = e })) g
-      ∙ ap (λ (y : ℕ). Of (record { sum = single (rounded (v + x)); loads = y; kilograms = e })) m
-      ∙ ap (λ (y : ℕ). Of (record { sum = single (rounded (v + x)); loads = suc t.loads; kilograms = y })) d
+      ap (λ (y : Float). Ok (record { sum = y; loads = n; kilograms = e })) g
+      ∙ ap (λ (y : ℕ). Ok (record { sum = single (rounded (v + x)); loads = y; kilograms = e })) m
+      ∙ ap (λ (y : ℕ). Ok (record { sum = single (rounded (v + x)); loads = suc t.loads; kilograms = y })) d
       ∙ sym (ap (λ (b : Bool). running_as (cond b (refused 24) (tally (rounded (v + x)) (suc t.loads) (t.kilograms + x)))) (le-ltb limit (v + x) l))
 
 -- by the cases of what it is added to, and of the load
-module _ {k r : Running} {x : Load} where
-  pub add-refused : {n : ℕ} → k ≡ Refused n → r ≡ Refused n → (o : Old) (l : Option ℕ) → Held o → k ≡ running_as o → x ≡ load_as l → r ≡ running_as (added o l)
-  add-refused e d (refused m) l h q z = let a : Refused m ≡ r = cc in sym a
+module _ {k r : Result Tally ℕ} {x : Option ℕ} where
+  pub add-refused : {n : ℕ} → k ≡ Err n → r ≡ Err n → (o : Old) (l : Maybe ℕ) → Held o → k ≡ running_as o → x ≡ load_as l → r ≡ running_as (added o l)
+  add-refused e d (refused m) l h q z = let a : Err m ≡ r = cc in sym a
   add-refused e d (tally v m f) l h q z = let y : ◌≡◌ {A = ℕ} 0 1 = cc in absurd (omega arith)
 
-  pub add-other : {t : Tally} → k ≡ Of t → x ≡ Other → r ≡ Refused 23 → (o : Old) (l : Option ℕ) → Held o → k ≡ running_as o → x ≡ load_as l → r ≡ running_as (added o l)
+  pub add-other : {t : Tally} → k ≡ Ok t → x ≡ None → r ≡ Err 23 → (o : Old) (l : Maybe ℕ) → Held o → k ≡ running_as o → x ≡ load_as l → r ≡ running_as (added o l)
   add-other e d g (refused m) l h q z = let y : ◌≡◌ {A = ℕ} 0 1 = cc in absurd (omega arith)
   add-other e d g (tally v m f) none h q z = g
   add-other e d g (tally v m f) (some w) h q z = let y : ◌≡◌ {A = ℕ} 0 1 = cc in absurd (omega arith)
 
-  pub add-load : {t : Tally} {w : ℕ} → k ≡ Of t → x ≡ Kilograms w
+  pub add-load : {t : Tally} {w : ℕ} → k ≡ Ok t → x ≡ Some w
       → ((v : ℕ) → Held (tally v t.loads t.kilograms) → t.sum ≡ single v → r ≡ running_as (added (tally v t.loads t.kilograms) (some w)))
-      → (o : Old) (l : Option ℕ) → Held o → k ≡ running_as o → x ≡ load_as l → r ≡ running_as (added o l)
+      → (o : Old) (l : Maybe ℕ) → Held o → k ≡ running_as o → x ≡ load_as l → r ≡ running_as (added o l)
   add-load e d g (refused m) l h q z = let y : ◌≡◌ {A = ℕ} 0 1 = cc in absurd (omega arith)
   add-load e d g (tally v m f) none h q z = let y : ◌≡◌ {A = ℕ} 0 1 = cc in absurd (omega arith)
   add-load {t} {w} e d g (tally v m f) (some u) h q z =
@@ -295,21 +291,21 @@ module _ {k r : Running} {x : Load} where
 
 -- ---- what the code keeps is one old sum only
 
-sum_in : Running → Float
-sum_in (Of t) = t.sum
-sum_in (Refused n) = nan
+sum_in : Result Tally ℕ → Float
+sum_in (Ok t) = t.sum
+sum_in (Err n) = nan
 
-loads_in : Running → ℕ
-loads_in (Of t) = t.loads
-loads_in (Refused n) = n
+loads_in : Result Tally ℕ → ℕ
+loads_in (Ok t) = t.loads
+loads_in (Err n) = n
 
-kilograms_at : Running → ℕ
-kilograms_at (Of t) = t.kilograms
-kilograms_at (Refused n) = 0
+kilograms_at : Result Tally ℕ → ℕ
+kilograms_at (Ok t) = t.kilograms
+kilograms_at (Err n) = 0
 
-is_refused : Running → ℕ
-is_refused (Of t) = 0
-is_refused (Refused n) = 1
+is_refused : Result Tally ℕ → ℕ
+is_refused (Ok t) = 0
+is_refused (Err n) = 1
 
 pub running-one : (o p : Old) → Held o → Held p → running_as o ≡ running_as p → o ≡ p
 unfolding sum_in loads_in kilograms_at is_refused

@@ -1,11 +1,10 @@
 -- Single precision on whole numbers up to the limit: a float is such a number or not, and an addition rounds the exact sum once.
-use Rattle.std.specs.Prelude.{◌≡◌, ℕ, zero, suc, ◌+◌, ◌-◌, ◌*◌, ◌/◌, ◌%◌, ◌^◌, ◌<◌, ◌≤◌, min, Bool, true, false, cond, not, ◌&&◌, T, ltb, ℤ, pos, negsuc, nat_eq, nat_le, nat_lt, refl, Float}
-use Rattle.std.proofs.Common.{sym, ap, ◌∙◌, subst, le_trans, le_of_eq, lt_of_lt_of_le, lt_of_not-le, not-le_of_lt, mul-one, one-mul, mul_comm, mul_assoc, mul_left_comm, mul_right_comm, mul-le-mul_right, mul-le-mul_left, mul-lt-mul_of_pos_right, mul-pos, le-div_iff_mul-le, div-lt_iff_lt-mul, add-mul, mul-div_cancel, arith, lt→ltb, ltb→lt, pow-add, pow_pos, pow_mono, shl_lt, lt-ltb, le-ltb, ltb-true, ltb-false}
+use Rattle.std.specs.Prelude.{◌≡◌, ℕ, zero, suc, ◌+◌, ◌-◌, ◌*◌, ◌/◌, ◌%◌, ◌^◌, ◌<◌, ◌≤◌, min, Bool, true, false, cond, ◌&&◌, T, ltb, ℤ, pos, negsuc, nat_eq, nat_le, nat_lt, refl, Float}
+use Rattle.std.proofs.Common.{sym, ap, ◌∙◌, subst, le_trans, le_of_eq, lt_of_lt_of_le, lt_of_not-le, not-le_of_lt, mul-one, one-mul, mul_comm, mul_assoc, mul_left_comm, mul_right_comm, mul-le-mul_right, mul-le-mul_left, mul-lt-mul_of_pos_right, mul-pos, le-div_iff_mul-le, div-lt_iff_lt-mul, add-mul, mul-div_cancel, arith, ltb→lt, pow-add, pow_pos, pow_mono, shl_lt, lt-ltb, le-ltb, ltb-true, ltb-false}
 use Rattle.std.proofs.Math.Nat.{eq_of_mul-eq-mul_right, min-eq_left}
 use Rattle.std.specs.Float.{nan, inf, fin, Format, binary32}
-use Rattle.std.specs.Float.Ieee.{emax, low, up, down, size, round, sum, add, lt, to_unsigned, of_int, fits, is_nan, of_bits, to_bits}
+use Rattle.std.specs.Float.Ieee.{emax, low, up, down, size, round, sum, add, to_unsigned, of_int, fits}
 use Rattle.std.specs.Float.Ieee.Back.{round_whole, whole_unique}
-use Rattle.std.specs.Float.Ieee.Bits.{of_bits-to_bits}
 use Rattle.std.specs.Float.Ieee.Digits.{size-lt, size-le, size_reaches}
 use Rattle.std.specs.Float.Ieee.Exact.{HasValue, round_exact}
 use Rattle.std.specs.Float.Ieee.Fits.{down_pos, of_int-fits, round-fits, and_l, and_r}
@@ -13,7 +12,7 @@ use Rattle.std.specs.Float.Ieee.Nearest.{closest, closest_same}
 use Rattle.std.specs.Float.Ieee.Order.{drop, kept}
 use Rattle.std.specs.Float.Ieee.Scale.{grid, overflow, round_val, round_same}
 use Rattle.kilograms.specs.OldSum.{limit, step_at, times_nearest, rounded, single}
-use Rattle.kilograms.specs.RoundingLaws.{times-closest, times-near, rounded-near, rounded-within}
+use Rattle.kilograms.specs.RoundingLaws.{times-closest, times-near, rounded-within}
 
 -- the float x is the whole number n, and not minus zero
 abbrev pub Whole : Float → ℕ → Type 0

@@ -1,7 +1,7 @@
 // The old sum, just as it ran: kilograms in single precision, one rounding for each addition.
 #![tactic(auto)]
 
-ghost use Rattle.std.specs.Prelude.{◌≡◌, ℕ, ◌+◌, ◌≤◌, true, false, not, T, pos, is_nan, to_bits};
+ghost use Rattle.std.specs.Prelude.{◌≡◌, ℕ, ◌+◌, ◌≤◌, true, false, not, T, pos, is_nan, to_bits, Ok};
 ghost use Rattle.std.proofs.Math.Option.{Option, some};
 ghost use Rattle.std.specs.Float.{binary32, fin};
 ghost use Rattle.std.specs.Float.Ieee.{lt};
@@ -17,38 +17,24 @@ pub struct Tally {
     pub kilograms: u64,
 }
 
-// The same, or the number of a refusal.
-#[derive(Clone, Copy)]
-pub enum Running {
-    Of(Tally),
-    Refused(u8),
-}
+// "a whole number from 0 to 1,073,741,824"
+const LIMIT: u64 = 1073741824;
 
-// A load: whole kilograms from 0 to 100,000; or any other.
-#[derive(Clone, Copy)]
-pub enum Load {
-    Kilograms(u32),
-    Other,
-}
+// Kept: a refusal stays a number, since the theorems and the C interface speak of its number: 23 "for any other load", 24 for a sum beyond the limit or
+// "any other sum handed in".
+const OTHER_LOAD: u8 = 23;
 
-fn wide(x: u32) -> u64
-    ensures { result ≡ x }
-{
-    x as u64
-}
+const OTHER_SUM: u8 = 24;
 
-// The load of so many grams.
-pub fn load_of(grams: u64) -> Load
+// The load of so many grams: whole kilograms from 0 to 100,000. None for any other.
+pub fn load_of(grams: u64) -> Option<u32>
     ensures value { result ≡ load_as (kilograms_in grams) }
     ensures weighs { Weighs result }
 {
-    if 100000000 < grams {
-        return Load::Other;
+    if 100000000 < grams || grams % 1000 != 0 {
+        return None;
     }
-    if grams % 1000 != 0 {
-        return Load::Other;
-    }
-    Load::Kilograms((grams / 1000) as u32)
+    Some((grams / 1000) as u32)
 }
 
 // The whole number that a sum is.
@@ -67,74 +53,72 @@ fn plus(sum: f32, load: u32) -> f32
     sum + load as f32
 }
 
-// One load more of so many kilograms.
-fn add_kilograms(t: Tally, load: u32) -> Running
-    requires { (load ≤ 100000) × Runs (Running.Of t) }
+// One load more of so many kilograms, or the number of a refusal.
+fn add_kilograms(t: Tally, load: u32) -> Result<Tally, u8>
+    requires { (load ≤ 100000) × Runs (Ok t) }
     ensures { (v : ℕ) → Held (tally v t.loads t.kilograms) → t.sum ≡ single v → result ≡ running_as (added (tally v t.loads t.kilograms) (some load)) }
 {
-    if 1073741824 < whole(t.sum) + wide(load) {
-        return Running::Refused(24);
+    let load_kilograms = u64::from(load);
+    if LIMIT < whole(t.sum) + load_kilograms {
+        return Err(OTHER_SUM);
     }
-    Running::Of(Tally {
+    Ok(Tally {
         sum: plus(t.sum, load),
         loads: t.loads + 1,
-        kilograms: t.kilograms + wide(load),
+        kilograms: t.kilograms + load_kilograms,
     })
 }
 
-// One load more.
-pub fn add(k: Running, x: Load) -> Running
+// One load more; or the number of a refusal, which what was refused before keeps.
+pub fn add(k: Result<Tally, u8>, x: Option<u32>) -> Result<Tally, u8>
     requires { Runs k × Weighs x }
     ensures { (o : Old) (l : Option ℕ) → Held o → k ≡ running_as o → x ≡ load_as l → result ≡ running_as (added o l) }
 {
-    match k {
-        Running::Refused(n) => Running::Refused(n),
-        Running::Of(t) => match x {
-            Load::Kilograms(load) => add_kilograms(t, load),
-            Load::Other => Running::Refused(23),
-        },
-    }
+    let t = k?;
+    let Some(load) = x else {
+        return Err(OTHER_LOAD);
+    };
+    add_kilograms(t, load)
 }
 
 // A sum that is handed in and lies above -1 and below 2^64. The whole number that it is cut to has its very bits, unless it is a fraction or minus zero.
-fn handed_whole(sum: f32) -> Running
+fn handed_whole(sum: f32) -> Result<Tally, u8>
     requires { T (lt (fin true 1 (pos 0)) sum) × T (lt sum (fin false 1 (pos 64))) }
     ensures { result ≡ running_as (handed_in sum) }
 {
     let v = std::num::truncating_f32_to_u64(sum);
-    if v <= 1073741824 {
-        let x = std::num::nearest_u32_to_f32(v as u32);
-        if f32::to_bits(x) == f32::to_bits(sum) {
-            return Running::Of(Tally {
-                sum: sum,
-                loads: 0,
-                kilograms: 0,
-            });
-        }
+    if LIMIT < v {
+        return Err(OTHER_SUM);
     }
-    Running::Refused(24)
+    let x = std::num::nearest_u32_to_f32(v as u32);
+    if x.to_bits() != sum.to_bits() {
+        return Err(OTHER_SUM);
+    }
+    Ok(Tally {
+        sum,
+        loads: 0,
+        kilograms: 0,
+    })
 }
 
 // A sum that is handed in, and no load yet: a whole number from 0 to 1,073,741,824; any other is refused, minus zero too.
-pub fn handed_in(sum: f32) -> Running
+pub fn handed_in(sum: f32) -> Result<Tally, u8>
     ensures { result ≡ running_as (handed_in sum) }
 {
-    if sum > -1.0 {
-        if sum < 18446744073709551616.0 {
-            return handed_whole(sum);
-        }
+    if -1.0 < sum && sum < 18446744073709551616.0 {
+        return handed_whole(sum);
     }
-    Running::Refused(24)
+    Err(OTHER_SUM)
 }
 
 // The same by its 32 bits. From 0x7F800001 on they are those of no number, or of one with a sign.
-pub fn handed_bits(bits: u32) -> Running
+pub fn handed_bits(bits: u32) -> Result<Tally, u8>
     ensures { result ≡ running_as (handed_bits bits) }
 {
     if bits <= 2139095040 {
         return handed_in(f32::from_bits(bits));
     }
-    Running::Refused(24)
+    Err(OTHER_SUM)
 }
 
 // The 32 bits of a sum.
@@ -142,5 +126,5 @@ pub fn bits_of(sum: f32) -> u32
     requires { T (not (is_nan sum)) }
     ensures { result ≡ to_bits binary32 sum }
 {
-    f32::to_bits(sum)
+    sum.to_bits()
 }

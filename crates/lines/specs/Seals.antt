@@ -1,10 +1,9 @@
 -- The seal lines of a message as the code makes them: from the octets of the interchange, the layout c of the message, and the rows at which its groups start.
-use Rattle.std.specs.Prelude.{ℕ, zero, suc, ◌+◌, ◌-◌, ◌≤◌, cond, List, [], ◌++◌, ◌≡◌, ltb, length, get_or}
+use Rattle.groups.specs.declared.named.Range.{Range}
+use Rattle.std.specs.Prelude.{ℕ, zero, suc, ◌+◌, ◌-◌, ◌≤◌, cond, List, [], ◌++◌, ◌≡◌, ltb, length, get_or, Option, Some, None}
 use Rattle.syntax.specs.declared.Service.{Service}
 use Rattle.walk.specs.declared.sections.Layout.{Layout}
 use Rattle.groups.specs.Groups.{name_at, ref_name_at, sought_in}
-use Rattle.groups.specs.declared.named.Sought.{Sought}
-use Rattle.groups.specs.declared.named.Sought.TheVariants.{At, Nowhere}
 use Rattle.lines.specs.Words.{seal_line}
 
 -- where header group i starts; behind the last one the body starts
@@ -19,9 +18,9 @@ pub record Near (c : Layout) (rows : List ℕ) : Type 0 where
   pub tail : c.tail ≤ 65535
   pub starts : (i : ℕ) → next_at c rows i ≤ 65535
 
-abbrev pub up_to : ℕ → Sought → ℕ
-up_to ush (At x) = x.start - ush
-up_to ush Nowhere = 0
+abbrev pub up_to : ℕ → Option Range → ℕ
+up_to ush (Some x) = x.start - ush
+up_to ush None = 0
 
 -- the octets of scope 1, and those of scope 2, of the header group from `ush` to `end`
 abbrev pub one_at : Layout → ℕ → ℕ → ℕ

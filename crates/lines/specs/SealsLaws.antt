@@ -1,5 +1,5 @@
 -- Laws of the seal lines as the code lays them.
-use Rattle.std.specs.Prelude.{ℕ, ◌+◌, ◌-◌, ◌*◌, ◌≤◌, ◌<◌, Bool, true, false, List, ◌≡◌, get_or}
+use Rattle.std.specs.Prelude.{ℕ, ◌+◌, ◌-◌, ◌*◌, ◌≤◌, ◌<◌, Bool, true, false, List, ◌≡◌, get_or, Option, Some, None}
 use Rattle.std.proofs.Common.{add-one, arith, ap, sym, ◌∙◌, lt-ltb, le-ltb}
 use Rattle.syntax.specs.Octets.{octets, same}
 use Rattle.syntax.specs.declared.Service.{Service}
@@ -7,8 +7,6 @@ use Rattle.syntax.specs.Content.{content, compared}
 use Rattle.syntax.specs.Segment.{component_at, part_of}
 use Rattle.groups.specs.Groups.{sought_in}
 use Rattle.groups.specs.declared.named.Range.{Range}
-use Rattle.groups.specs.declared.named.Sought.{Sought}
-use Rattle.groups.specs.declared.named.Sought.TheVariants.{At, Nowhere}
 use Rattle.walk.specs.declared.sections.Layout.{Layout}
 use Rattle.writing.specs.Laid.{Laid}
 use Rattle.writing.specs.LaidLaws.{laid_same, laid_more, laid_none}
@@ -26,15 +24,15 @@ module _ (c : Layout) (rows : List ℕ) {i : ℕ} where
 
 -- ---- to the trailer
 
-module _ (σ : Service) (s rows : List ℕ) (c : Layout) (start : ℕ) {p : List ℕ} {k : Sought} (n : p ≡ part_of s (component_at σ s start 2 0))
+module _ (σ : Service) (s rows : List ℕ) (c : Layout) (start : ℕ) {p : List ℕ} {k : Option Range} (n : p ≡ part_of s (component_at σ s start 2 0))
     (e : k ≡ sought_in σ s rows 9 1 (compared (content σ.release p)) c.trailers c.unt) where
   up-to-found : up_to start k ≡ two_at σ s rows c start
   up-to-found = ap (up_to start) (e ∙ ap (λ (x : List ℕ). sought_in σ s rows 9 1 (compared (content σ.release x)) c.trailers c.unt) n)
 
-  pub up-to-start : {g : Range} {r : ℕ} → k ≡ At g → r ≡ g.start - start → r ≡ two_at σ s rows c start
+  pub up-to-start : {g : Range} {r : ℕ} → k ≡ Some g → r ≡ g.start - start → r ≡ two_at σ s rows c start
   up-to-start d q = q ∙ ap (up_to start) (sym d) ∙ up-to-found
 
-  pub up-to-none : k ≡ Nowhere → 0 ≡ two_at σ s rows c start
+  pub up-to-none : k ≡ None → 0 ≡ two_at σ s rows c start
   up-to-none d = ap (up_to start) (sym d) ∙ up-to-found
 
 -- ---- what is covered, by the scope code

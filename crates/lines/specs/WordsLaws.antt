@@ -1,17 +1,13 @@
 -- Laws of content laid octet by octet, and of texts one behind the other.
-use Rattle.std.specs.Prelude.{ℕ, ◌+◌, ◌-◌, ◌≤◌, ◌<◌, List, [], ◌++◌, ◌≡◌, refl, length, set, take, drop}
-use Rattle.std.proofs.Common.{arith, ap, sym, ◌∙◌, length-append, length-take, length-drop}
+use Rattle.std.specs.Prelude.{ℕ, ◌+◌, ◌≤◌, ◌<◌, List, ◌≡◌, refl, length, set, take, drop, Option, Some, None}
+use Rattle.std.proofs.Common.{arith, ap, length-take, length-drop}
 use Rattle.syntax.specs.Content.{content}
 use Rattle.syntax.specs.Scanning.{next_of}
 use Rattle.syntax.proofs.ContentLaws.{next-steps, next-over}
 use Rattle.syntax.specs.Segment.{component_at, part_of}
 use Rattle.syntax.specs.declared.Service.{Service}
-use Rattle.syntax.specs.declared.reading.Span.{Span}
-use Rattle.syntax.specs.declared.reading.Span.TheVariants.{Part, Absent}
-use Rattle.syntax.specs.declared.content.Next.{Next}
-use Rattle.syntax.specs.declared.content.Next.TheVariants.{Octet, Over}
 use Rattle.writing.specs.Laid.{Laid}
-use Rattle.writing.specs.LaidLaws.{Rest, rest-start, rest-same, rest_put, rest_end, sets-joined}
+use Rattle.writing.specs.LaidLaws.{Rest, rest-start, rest-same, rest_put, rest_end}
 
 -- ---- content under way: what is left of it is that of x from i on
 
@@ -23,8 +19,8 @@ pub record Contenting (ρ : ℕ) (out₀ : List ℕ) (at : ℕ) (x : List ℕ) (
 pub contenting-start : {ρ : ℕ} {out : List ℕ} {at : ℕ} {x : List ℕ} → Contenting ρ out at x 0 out at
 contenting-start = record { inside = omega arith; near = omega arith; going = rest-start }
 
-module _ {ρ : ℕ} {out₀ : List ℕ} {at : ℕ} {x : List ℕ} {i : ℕ} {out : List ℕ} {p : ℕ} (g : Contenting ρ out₀ at x i out p) {n : Next} (e : n ≡ next_of ρ (drop i x) i) where
-  module _ {b j : ℕ} (q : n ≡ Octet b j) where
+module _ {ρ : ℕ} {out₀ : List ℕ} {at : ℕ} {x : List ℕ} {i : ℕ} {out : List ℕ} {p : ℕ} (g : Contenting ρ out₀ at x i out p) {n : Option (ℕ × ℕ)} (e : n ≡ next_of ρ (drop i x) i) where
+  module _ {b j : ℕ} (q : n ≡ Some (b, j)) where
     pub contenting-inside : (i < j) × (j ≤ length x)
     contenting-inside = let k = next-steps ρ x i e q in (k.forward, k.inside)
 
@@ -33,13 +29,13 @@ module _ {ρ : ℕ} {out₀ : List ℕ} {at : ℕ} {x : List ℕ} {i : ℕ} {out
         let k = next-steps ρ x i e q in
         record { inside = k.inside; near = omega (arith, g.near, k.forward); going = rest_put (rest-same g.going k.gives) refl d }
 
-  pub contenting-end : n ≡ Over → Laid out₀ at (content ρ x) p out × (p ≤ at + length x)
+  pub contenting-end : n ≡ None → Laid out₀ at (content ρ x) p out × (p ≤ at + length x)
   contenting-end q = (rest_end (rest-same g.going (next-over ρ x i e q)), omega (arith, g.near, g.inside))
 
 -- a part of the interchange is no longer than that
-part-short : (s : List ℕ) (x : Span) → length (part_of s x) ≤ length s
-part-short s (Part a e) = omega (arith, length-drop a (take e s), length-take e s)
-part-short s Absent = omega (arith, length-drop 0 (take 0 s), length-take 0 s)
+part-short : (s : List ℕ) (x : Option (ℕ × ℕ)) → length (part_of s x) ≤ length s
+part-short s (Some (a, e)) = omega (arith, length-drop a (take e s), length-take e s)
+part-short s None = omega (arith, length-drop 0 (take 0 s), length-take 0 s)
 
 pub name-few : (σ : Service) (s : List ℕ) (a e : ℕ) {p : List ℕ} → p ≡ part_of s (component_at σ s a e 0) → length s ≤ 65535 → length p ≤ 65535
 name-few σ s a e {p} q h =

@@ -1,12 +1,11 @@
 // Parts of the interchange as content, laid into a lent buffer.
 ghost use Rattle.std.specs.Prelude.{◌+◌, ◌≤◌, ◌<◌, length};
 ghost use Rattle.syntax.specs.Content.{content};
-ghost use Rattle.syntax.specs.Classes.{Table};
 ghost use Rattle.groups.specs.Groups.{name_at};
 ghost use Rattle.writing.specs.Laid.{Laid};
 
-use syntax::Syntax;
-use syntax::content::{Next, next_octet};
+use syntax::classes::Classes;
+use syntax::content::next_octet;
 use syntax::reading::component_part;
 use writing::store;
 
@@ -18,35 +17,24 @@ fn put_content(out: &mut [u8], at: usize, x: &[u8], release: u8) -> usize
 {
     let mut i: usize = 0;
     let mut p = at;
-    loop {
-        match next_octet(x, i, release) {
-            Next::Octet(b, j) => {
-                store(&mut *out, p, b);
-                p += 1;
-                i = j;
-            }
-            Next::Over => {
-                return p;
-            }
-        }
+    while let Some((b, next)) = next_octet(x, i, release) {
+        store(&mut *out, p, b);
+        p += 1;
+        i = next;
     }
+    p
 }
 
 // The first component of element `e` of the segment at `a`.
-pub fn put_name(
-    out: &mut [u8],
-    at: usize,
-    s: &[u8],
-    a: usize,
-    t: &[u8; 256],
-    y: Syntax,
-    e: usize,
-) -> usize
-    requires table { Table y t.now }
+pub fn put_name(out: &mut [u8], at: usize, s: &[u8], a: usize, t: &Classes, e: usize) -> usize
     requires s_len_bound { (length s.now ≤ 65535) × (at + 65535 < 18446744073709551616) }
-    ensures laid { Laid out.old at (name_at y.service s.now a e) result out.new }
+    ensures laid { Laid out.old at (name_at t.now.syntax.service s.now a e) result out.new }
     ensures upper_bound { result ≤ at + 65535 }
 {
-    let v = y.service;
-    put_content(out, at, component_part(s, a, t, y, e, 0), v.release)
+    put_content(
+        out,
+        at,
+        component_part(s, a, t, e, 0),
+        t.syntax.service.release,
+    )
 }

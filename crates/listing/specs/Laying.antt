@@ -1,5 +1,6 @@
 -- The same lines as the code makes them: from the octets of the interchange and the layouts of its messages.
-use Rattle.std.specs.Prelude.{ℕ, Bool, true, false, List, [], ◌++◌, ◌≡◌}
+use Rattle.syntax.specs.declared.Refusal.{Refusal}
+use Rattle.std.specs.Prelude.{ℕ, Bool, true, false, List, [], ◌++◌, ◌≡◌, Result, Ok, Err}
 use Rattle.syntax.specs.declared.Service.{Service}
 use Rattle.syntax.specs.declared.Syntax.{Syntax}
 use Rattle.grammar.specs.Lists.{Snoc}
@@ -11,8 +12,6 @@ use Rattle.walk.specs.declared.sections.Layout.{Layout}
 use Rattle.groups.specs.Stand.{Stand}
 use Rattle.groups.specs.Groups.{name_at}
 use Rattle.writing.specs.Laid.{Laid}
-use Rattle.writing.specs.declared.Written.{Written}
-use Rattle.writing.specs.declared.Written.TheVariants.{Length, Refused}
 use Rattle.lines.specs.Words.{line_words}
 use Rattle.lines.specs.Seals.{seals_at}
 use Rattle.listing.specs.Listing.{messages_of, accepted_of}
@@ -32,8 +31,8 @@ messages_read σ p (busy u ms o) = messages_of σ p u ms
 messages_read σ p (done u ms z) = messages_of σ p u ms
 
 -- the whole interchange was read from p on, and its text is laid; or it is refused
-abbrev pub LaysAll : Syntax → List ℕ → ℕ → List ℕ → Written → List ℕ → Type 0
-LaysAll y s p out (Length n) out' =
+abbrev pub LaysAll : Syntax → List ℕ → ℕ → List ℕ → Result ℕ Refusal → List ℕ → Type 0
+LaysAll y s p out (Ok n) out' =
     (u : Leaf) × (ms : Snoc Message) × (z : Leaf) × ((answer_from y s p ≡ read (done u ms z))
     × (Stand y.service s p (shown (done u ms z)) → Laid out 0 (accepted_of y.service p u ms) n out'))
-LaysAll y s p out (Refused f) out' = RefusedBy s (answer_from y s p) f
+LaysAll y s p out (Err f) out' = RefusedBy s (answer_from y s p) f

@@ -1,14 +1,14 @@
 -- The report on an interchange: its text, line by line, as "The report program reads standard input" shows it; and what the call answers.
-use Rattle.std.specs.Prelude.{ℕ, ◌+◌, ◌-◌, cond, List, [], ◌++◌, ◌≡◌, ltb, length, drop}
+use Rattle.syntax.specs.declared.Refusal.{Refusal}
+use Rattle.std.specs.Prelude.{ℕ, ◌+◌, ◌-◌, cond, List, [], ◌++◌, ◌≡◌, ltb, length, drop, Result, Ok}
 use Rattle.std.proofs.Math.Option.{Option, none, some}
-use Rattle.syntax.specs.Octets.{octets}
 use Rattle.syntax.specs.Refusals.{at_zero}
 use Rattle.syntax.specs.declared.Service.{Service}
 use Rattle.grammar.specs.Lists.{Snoc, nil, ◌▷◌, size}
 use Rattle.grammar.specs.Grams.{sum}
-use Rattle.grammar.specs.Segments.{unb0020_text, unh0062_text, unh0065, ush0534_text, ush0541}
+use Rattle.grammar.specs.Segments.{unb0020_text, unh0062_text, unh0065, ush0534_text}
 use Rattle.grammar.specs.Interchange.{header, Leaf, Header, Trailer, Open, msg, Message, message, idle, shown, show_header, show_body}
-use Rattle.grammar.specs.Rules.{ref_h, ref_o}
+use Rattle.grammar.specs.Rules.{ref_h}
 use Rattle.grammar.specs.Valid.{interchange, opening_in}
 use Rattle.grammar.specs.Verdict.{Verdict, accepted, refused_with, verdict_of, loads_m}
 use Rattle.grammar.specs.Places.{wide, headers_in}
@@ -16,8 +16,6 @@ use Rattle.groups.specs.Groups.{Chosen, chosen}
 use Rattle.groups.specs.Parts.{trailer_named, scope_h, header_at, trailer_at, body_in}
 use Rattle.groups.specs.Calls.{service_in}
 use Rattle.writing.specs.Written.{refused_as, length_numbers, refusal_numbers, told_written}
-use Rattle.writing.specs.declared.Written.{Written}
-use Rattle.writing.specs.declared.Written.TheVariants.{Length}
 use Rattle.lines.specs.Words.{refusal_line, accepted_line, message_line, seal_line}
 
 -- ---- the lines of a message whose UNH stands at q
@@ -70,8 +68,8 @@ listing_of s = listing_by (verdict_of s)
 
 -- ---- the call: the text first in the lent buffer and the rest as it was; 15 where the text is longer than the buffer, and all as it was
 
-abbrev pub listed_as : List ℕ → List ℕ → Written
-listed_as t out = cond (ltb (length out) (length t)) (refused_as 15) (Length (length t))
+abbrev pub listed_as : List ℕ → List ℕ → Result ℕ Refusal
+listed_as t out = cond (ltb (length out) (length t)) (refused_as 15) (Ok (length t))
 
 -- "Lent octets beyond a written result stay."
 abbrev pub left_in : List ℕ → List ℕ → List ℕ
@@ -81,7 +79,7 @@ left_in t out = cond (ltb (length out) (length t)) out (t ++ drop (length t) out
 abbrev pub listed_numbers : List ℕ → List ℕ → List ℕ
 listed_numbers t out = cond (ltb (length out) (length t)) (refusal_numbers (at_zero 15)) (length_numbers (length t))
 
-pub record Lists (t out : List ℕ) (r : Written) (out' : List ℕ) : Type 0 where
+pub record Lists (t out : List ℕ) (r : Result ℕ Refusal) (out' : List ℕ) : Type 0 where
   pub answer : r ≡ listed_as t out
   pub numbers : told_written r ≡ listed_numbers t out
   pub octets : out' ≡ left_in t out

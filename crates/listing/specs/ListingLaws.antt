@@ -1,5 +1,5 @@
 -- Laws of the walk that lays the report: a section more, the end; and of the call.
-use Rattle.std.specs.Prelude.{ℕ, ◌+◌, ◌*◌, ◌≤◌, ◌<◌, Bool, true, false, List, ◌++◌, ◌≡◌, refl, T, ltb, length}
+use Rattle.std.specs.Prelude.{ℕ, ◌+◌, ◌*◌, ◌≤◌, ◌<◌, Bool, true, false, List, ◌++◌, ◌≡◌, refl, T, ltb, length, Result, Ok, Err}
 use Rattle.std.proofs.Common.{arith, append-nil, ap, sym, ◌∙◌, subst, lt-ltb, le-ltb}
 use Rattle.syntax.specs.Service.{fit}
 use Rattle.syntax.specs.Opening.{begun_of}
@@ -10,8 +10,6 @@ use Rattle.refusals.specs.Refused.{refused-so}
 use Rattle.syntax.specs.declared.Service.{Service}
 use Rattle.syntax.specs.declared.Syntax.{Syntax}
 use Rattle.syntax.specs.declared.opening.Start.{Start}
-use Rattle.syntax.specs.declared.opening.Begun.{Begun}
-use Rattle.syntax.specs.declared.opening.Begun.TheVariants.{Ready as Begins, Refused as Refuses}
 use Rattle.grammar.specs.Lists.{Snoc, nil, ◌▷◌, ◌+++◌, joined}
 use Rattle.grammar.specs.Segments.{Unb, Unz, seg, element_content, Asked}
 use Rattle.grammar.specs.Interchange.{Leaf, Message, message, Reading, idle, done, shown, show_open, show_message}
@@ -35,8 +33,6 @@ use Rattle.writing.specs.Laid.{Laid}
 use Rattle.writing.specs.LaidLaws.{laid_same, laid-length, laid-all, laid-front, laid_more, laid_none}
 use Rattle.writing.specs.Written.{refused_as, told_written}
 use Rattle.writing.specs.WrittenLaws.{told-by}
-use Rattle.writing.specs.declared.Written.{Written}
-use Rattle.writing.specs.declared.Written.TheVariants.{Length, Refused}
 use Rattle.lines.specs.Words.{accepted_line, refusal_line, line_words}
 use Rattle.listing.specs.Listing.{message_of, accepted_of, listing_by, listing_of, listed_as, left_in, Lists}
 use Rattle.lines.specs.Seals.{Near, seals_at}
@@ -148,7 +144,7 @@ unb-named σ f s p u ms z w =
 -- all was read
 pub lays-told : {y : Syntax} {s : List ℕ} {from : ℕ} {x : State} {h l b : List ℕ} {i : ℕ} {m rows l₀ b₀ out out₀ : List ℕ} {p₀ : ℕ} {out' : List ℕ} {p : ℕ}
     (g : Reporting y s from x h l b i m rows l₀ b₀ out₀ p₀ out' p) → Laid out 0 (accepted_line (name_at y.service s from 5)) p₀ out₀ → T (fit y.service)
-    → ReadAll g.looping.walks → LaysAll y s from out (Length p) out'
+    → ReadAll g.looping.walks → LaysAll y s from out (Ok p) out'
 lays-told {y} {s} {from} g k f a =
     let t = a.1 in
     let e = t.3 in (
@@ -168,33 +164,33 @@ lays-told {y} {s} {from} g k f a =
 -- ---- the call: a text is measured, refused where it is too long, and then laid
 
 -- the answer and the octets settle the numbers
-lists : {t out left : List ℕ} {r : Written} → r ≡ listed_as t out → left ≡ left_in t out → Lists t out r left
+lists : {t out left : List ℕ} {r : Result ℕ Refusal} → r ≡ listed_as t out → left ≡ left_in t out → Lists t out r left
 lists {t} {out} e d = record { answer = e; numbers = ap told_written e ∙ told-by (ltb (length out) (length t)) (length t); octets = d }
 
 module _ {t : List ℕ} {m : ℕ} (e : m ≡ length t) where
-  pub lists-full : {out : List ℕ} {r : Written} → length out < m → r ≡ refused_as 15 → Lists t out r out
+  pub lists-full : {out : List ℕ} {r : Result ℕ Refusal} → length out < m → r ≡ refused_as 15 → Lists t out r out
   lists-full h q = lists (q ∙ rw (← e, lt-ltb _ _ h)) (rw (← e, lt-ltb _ _ h))
 
-  pub lists-done : {out out' : List ℕ} {k : ℕ} → m ≤ length out → Laid out 0 t k out' → Lists t out (Length m) out'
+  pub lists-done : {out out' : List ℕ} {k : ℕ} → m ≤ length out → Laid out 0 t k out' → Lists t out (Ok m) out'
   lists-done {out} h g =
       let f : length t ≤ length out = omega arith in
       lists (rw (← e, le-ltb _ _ h)) (laid-front g f ∙ rw (← e, le-ltb _ _ h))
 
-pub lists-same : {t u out : List ℕ} {r : Written} {out' : List ℕ} → t ≡ u → Lists t out r out' → Lists u out r out'
+pub lists-same : {t u out : List ℕ} {r : Result ℕ Refusal} {out' : List ℕ} → t ≡ u → Lists t out r out' → Lists u out r out'
 lists-same e g = rw e at g
 
 -- the text that was laid is the report's
-abbrev Tells : List ℕ → List ℕ → Written → List ℕ → Type 0
-Tells s out (Length n) out' = (i : Interchange) × ((verdict_of s ≡ accepted i) × Laid out 0 (listing_of s) n out')
-Tells s out (Refused f) out' = verdict_of s ≡ refused_with f
+abbrev Tells : List ℕ → List ℕ → Result ℕ Refusal → List ℕ → Type 0
+Tells s out (Ok n) out' = (i : Interchange) × ((verdict_of s ≡ accepted i) × Laid out 0 (listing_of s) n out')
+Tells s out (Err f) out' = verdict_of s ≡ refused_with f
 
-module _ (s : List ℕ) (x : Start) (e : begun_of s ≡ Begins x) where
-  tells : (out : List ℕ) (r : Written) (out' : List ℕ) → LaysAll x.syntax s x.at out r out' → Tells s out r out'
-  tells out (Refused f) out' q = refused-so s (una_at s) (answer_from x.syntax s x.at) (verdict-by s refl e refl) q
-  tells out (Length n) out' q = by q.0 q.1 q.2 q.3.0 q.3.1
+module _ (s : List ℕ) (x : Start) (e : begun_of s ≡ Ok x) where
+  tells : (out : List ℕ) (r : Result ℕ Refusal) (out' : List ℕ) → LaysAll x.syntax s x.at out r out' → Tells s out r out'
+  tells out (Err f) out' q = refused-so s (una_at s) (answer_from x.syntax s x.at) (verdict-by s refl e refl) q
+  tells out (Ok n) out' q = by q.0 q.1 q.2 q.3.0 q.3.1
     where
       by : (u : Leaf) (ms : Snoc Message) (z : Leaf) → answer_from x.syntax s x.at ≡ read (done u ms z)
-          → (Stand x.syntax.service s x.at (shown (done u ms z)) → Laid out 0 (accepted_of x.syntax.service x.at u ms) n out') → Tells s out (Length n) out'
+          → (Stand x.syntax.service s x.at (shown (done u ms z)) → Laid out 0 (accepted_of x.syntax.service x.at u ms) n out') → Tells s out (Ok n) out'
       by u ms z a k =
           let i : Interchange = interchange (una_at s) u ms z in
           let v : verdict_of s ≡ accepted i = verdict-by s refl e a in
@@ -209,31 +205,31 @@ module _ (s : List ℕ) (x : Start) (e : begun_of s ≡ Begins x) where
             ),
           )
 
-  module _ (none : List ℕ) (r : Written) (none' : List ℕ) (g : LaysAll x.syntax s x.at none r none') where
-    pub told-refused : {f : Refusal} → r ≡ Refused f → refusal_line f ≡ listing_of s
-    told-refused {f} d = sym (ap listing_by (subst (λ (r : Written). Tells s none r none') d (tells none r none' g)))
+  module _ (none : List ℕ) (r : Result ℕ Refusal) (none' : List ℕ) (g : LaysAll x.syntax s x.at none r none') where
+    pub told-refused : {f : Refusal} → r ≡ Err f → refusal_line f ≡ listing_of s
+    told-refused {f} d = sym (ap listing_by (subst (λ (r : Result ℕ Refusal). Tells s none r none') d (tells none r none' g)))
 
-    module _ {m : ℕ} (d : r ≡ Length m) where
-      measured : Tells s none (Length m) none'
-      measured = subst (λ (r : Written). Tells s none r none') d (tells none r none' g)
+    module _ {m : ℕ} (d : r ≡ Ok m) where
+      measured : Tells s none (Ok m) none'
+      measured = subst (λ (r : Result ℕ Refusal). Tells s none r none') d (tells none r none' g)
 
       pub told-length : m ≡ length (listing_of s)
       told-length = laid-all measured.1.1
 
-      pub told-laid : {out out' : List ℕ} (k : Written) → m ≤ length out → LaysAll x.syntax s x.at out k out' → Lists (listing_of s) out k out'
+      pub told-laid : {out out' : List ℕ} (k : Result ℕ Refusal) → m ≤ length out → LaysAll x.syntax s x.at out k out' → Lists (listing_of s) out k out'
       told-laid {out} {out'} k h q = by k (tells out k out' q)
         where
-          by : (k : Written) → Tells s out k out' → Lists (listing_of s) out k out'
-          by (Length n) a =
+          by : (k : Result ℕ Refusal) → Tells s out k out' → Lists (listing_of s) out k out'
+          by (Ok n) a =
               let j : n ≡ length (listing_of s) = laid-all a.1.1 in
               let l = told-length in
               lists-done j (omega (arith, j, l, h)) a.1.1
-          by (Refused f) a =
+          by (Err f) a =
               let b : accepted measured.0 ≡ refused_with f = sym measured.1.0 ∙ a in
               let z : ◌≡◌ {A = ℕ} 0 1 = cc in
               absurd (omega arith)
 
 -- where the interchange does not begin
-pub begun-not : (s : List ℕ) {f : Breach} {g : Refusal} {r : Begun} → r ≡ begun_of s → r ≡ Refuses f → g ≡ refusal_at s f.number f.place
+pub begun-not : (s : List ℕ) {f : Breach} {g : Refusal} {r : Result Start Breach} → r ≡ begun_of s → r ≡ Err f → g ≡ refusal_at s f.number f.place
     → refusal_line g ≡ listing_of s
-begun-not s e d k = ap refusal_line k ∙ sym (ap (λ (b : Begun). listing_by (verdict_by s b)) (sym e ∙ d))
+begun-not s e d k = ap refusal_line k ∙ sym (ap (λ (b : Result Start Breach). listing_by (verdict_by s b)) (sym e ∙ d))

@@ -1,5 +1,5 @@
 -- What a segment does in an open message, once it may come (7) and is well formed (8): the summary after it, or the number that tells its breach.
-use Rattle.std.specs.Prelude.{ℕ, suc, ◌+◌, ◌*◌, ◌≤◌, ◌<◌, ◌≡◌, Bool, true, false, cond, not, List, [], get_or}
+use Rattle.std.specs.Prelude.{ℕ, suc, ◌+◌, ◌*◌, ◌≤◌, ◌<◌, ◌≡◌, Bool, true, false, cond, not, List, [], get_or, Result, Ok, Err}
 use Rattle.std.proofs.Math.Option.{Option, none, some}
 use Rattle.std.proofs.Math.Seq.{slice}
 use Rattle.syntax.specs.Content.{content, compared}
@@ -15,8 +15,6 @@ use Rattle.elements.specs.declared.Kind.{Kind}
 use Rattle.elements.specs.declared.Kind.TheVariants.{Unb, Unh, Unt, Unz, Ush, Usa, Usc, Usr, Ust, Usb, Usx, Usy, Reserved, Qty, Cnt, Other}
 use Rattle.message.specs.declared.Group.TheVariants.{Header, Ack, Trailer}
 use Rattle.message.specs.declared.Message.{Message}
-use Rattle.message.specs.declared.steps.Moved.{Moved}
-use Rattle.message.specs.declared.steps.Moved.TheVariants.{To, Bad}
 
 -- names end in `M` where they say what a segment does in a message: the summary after it, or a number
 pub data AnswerM : Type 0 where
@@ -94,8 +92,8 @@ pub record Sought (σ : Service) (s : List ℕ) (a : ℕ) (m : Message) (h : Lis
   pub most : i ≤ m.headers
 
 -- the answer of the code, with the headers' array as it is left
-abbrev pub MovedIs : AnswerM → Moved → ℕ → List ℕ → ℕ → ℕ → List ℕ → Type 0
-MovedIs (to_m S) (To m) ρ s a e h = (summary_in ρ s m a e h ≡ S) × Roomy m h
-MovedIs (to_m S) (Bad k) ρ s a e h = ⊥
-MovedIs (bad_m n) (To m) ρ s a e h = ⊥
-MovedIs (bad_m n) (Bad k) ρ s a e h = k ≡ n
+abbrev pub MovedIs : AnswerM → Result Message ℕ → ℕ → List ℕ → ℕ → ℕ → List ℕ → Type 0
+MovedIs (to_m S) (Ok m) ρ s a e h = (summary_in ρ s m a e h ≡ S) × Roomy m h
+MovedIs (to_m S) (Err k) ρ s a e h = ⊥
+MovedIs (bad_m n) (Ok m) ρ s a e h = ⊥
+MovedIs (bad_m n) (Err k) ρ s a e h = k ≡ n

@@ -1,7 +1,8 @@
 -- Each step of an open message, a path at a time: it leaves what the rules ask, and every sum stays within its type.
-use Rattle.std.specs.Prelude.{ℕ, zero, suc, ◌+◌, ◌*◌, ◌-◌, ◌^◌, ◌≤◌, ◌<◌, ◌≡◌, refl, Bool, true, false, cond, not, ◌&&◌, ◌||◌, List, [], ◌∷◌, leb, ltb, length, get_or}
+use Rattle.grammar.specs.declared.Subset.{Subset}
+use Rattle.std.specs.Prelude.{ℕ, zero, suc, ◌+◌, ◌*◌, ◌-◌, ◌^◌, ◌≤◌, ◌<◌, ◌≡◌, refl, Bool, true, false, cond, not, ◌&&◌, ◌||◌, List, [], ◌∷◌, leb, ltb, length, get_or, Option, Result, Some, None, Ok, Err}
 use Rattle.std.proofs.Common.{arith, add-one, ap, sym, ◌∙◌, subst, ltb-true, le-ltb, leb-true, leb-false, le-leb}
-use Rattle.std.proofs.Math.Option.{Option, none, some}
+use Rattle.std.proofs.Math.Option.{Option as Maybe, none, some}
 use Rattle.std.proofs.Math.Seq.{slice}
 use Rattle.syntax.specs.Octets.{octets, same, within}
 use Rattle.syntax.specs.Content.{content, all_digits, value_from, compared}
@@ -10,12 +11,9 @@ use Rattle.syntax.specs.RepertoireLaws.{and_l, and_r}
 use Rattle.syntax.specs.Segment.{component_at, part_of}
 use Rattle.syntax.specs.declared.Service.{Service}
 use Rattle.syntax.specs.declared.Version.{Version}
-use Rattle.syntax.specs.declared.content.Number.{Number}
-use Rattle.syntax.specs.declared.content.Number.TheVariants.{Is, Not}
 use Rattle.grammar.specs.Lists.{Snoc, ◌▷◌, among}
 use Rattle.grammar.specs.TestLaws.{passes}
-use Rattle.grammar.specs.declared.Subset.{Subset}
-use Rattle.grammar.specs.declared.Subset.TheVariants.{None, F01, Gs1}
+use Rattle.grammar.specs.declared.Subset.TheVariants.{F01, Gs1}
 use Rattle.grammar.specs.Rules.{claimed, scope_code}
 use Rattle.grammar.specs.Segments.{Unt, Unz, Ust, Asked}
 use Rattle.grammar.specs.Elements.{Range, not_empty_reference, digits, simple, row, in_range, formed_as, formed_row}
@@ -31,8 +29,6 @@ use Rattle.message.specs.declared.Group.{Group}
 use Rattle.message.specs.declared.Group.TheVariants.{Certificate, Ack, Trailer}
 use Rattle.elements.specs.declared.Kind.TheVariants.{Ush}
 use Rattle.message.specs.declared.Message.{Message}
-use Rattle.message.specs.declared.steps.Moved.{Moved}
-use Rattle.message.specs.declared.steps.Moved.TheVariants.{To, Bad}
 
 -- ---- what the marks give
 
@@ -64,16 +60,16 @@ module _ (σ : Service) (s : List ℕ) (a : ℕ) {x : List ℕ} (e : x ≡ part_
   scope-text : (t : List ℕ) → same (content σ.release x) t ≡ same (text_at σ s a 3 0) t
   scope-text t = ap (λ (z : List ℕ). same (content σ.release z) t) e
 
-  module _ {autack : Subset} where
-    pub scope-autack : {r : Bool} → autack ≡ F01 → r ≡ same (content σ.release x) (octets "F01") → r ≡ scope_code autack (text_at σ s a 3 0)
-    scope-autack t q = q ∙ scope-text (octets "F01") ∙ ap (λ (b : Subset). scope_code b (text_at σ s a 3 0)) (sym t)
+  module _ {autack : Option Subset} where
+    pub scope-autack : {r : Bool} → autack ≡ (Some F01) → r ≡ same (content σ.release x) (octets "F01") → r ≡ scope_code autack (text_at σ s a 3 0)
+    scope-autack t q = q ∙ scope-text (octets "F01") ∙ ap (λ (b : Option Subset). scope_code b (text_at σ s a 3 0)) (sym t)
 
-    pub scope-gs1 : {r : Bool} → autack ≡ Gs1 → r ≡ same (content σ.release x) (octets "3") → r ≡ scope_code autack (text_at σ s a 3 0)
-    scope-gs1 t q = q ∙ scope-text (octets "3") ∙ ap (λ (b : Subset). scope_code b (text_at σ s a 3 0)) (sym t)
+    pub scope-gs1 : {r : Bool} → autack ≡ (Some Gs1) → r ≡ same (content σ.release x) (octets "3") → r ≡ scope_code autack (text_at σ s a 3 0)
+    scope-gs1 t q = q ∙ scope-text (octets "3") ∙ ap (λ (b : Option Subset). scope_code b (text_at σ s a 3 0)) (sym t)
 
     module _ (t : autack ≡ None) {p : Bool} (q : p ≡ same (content σ.release x) (octets "1")) where
       scope-is : (b : Bool) → p ≡ b → scope_code autack (text_at σ s a 3 0) ≡ (b || same (text_at σ s a 3 0) (octets "2"))
-      scope-is b h = ap (λ (z : Subset). scope_code z (text_at σ s a 3 0)) t ∙ ap (λ (z : Bool). z || same (text_at σ s a 3 0) (octets "2")) (sym (scope-text (octets "1")) ∙ sym q ∙ h)
+      scope-is b h = ap (λ (z : Option Subset). scope_code z (text_at σ s a 3 0)) t ∙ ap (λ (z : Bool). z || same (text_at σ s a 3 0) (octets "2")) (sym (scope-text (octets "1")) ∙ sym q ∙ h)
 
       pub scope-one : p ≡ true → true ≡ scope_code autack (text_at σ s a 3 0)
       scope-one h = sym (scope-is true h)
@@ -91,7 +87,7 @@ six-fits s h =
     let k = leb-true (length s) 6 (and_r (leb 1 (length s)) (leb (length s) 6) w) in
     rw (d, le-leb 1 (length s) l, le-leb (length s) 15 (omega (arith, k)))
 
-pub six-is : (s : List ℕ) → in_range (digits 1 6) s ≡ true → number_in s ≡ Is (value_from 0 s)
+pub six-is : (s : List ℕ) → in_range (digits 1 6) s ≡ true → number_in s ≡ Some (value_from 0 s)
 six-is s h = rw (six-fits s h)
 
 pub six-below : (s : List ℕ) → in_range (digits 1 6) s ≡ true → value_from 0 s < 1000000
@@ -100,24 +96,24 @@ six-below s h =
     let m = tens-below (length s) 6 k.1 in
     omega (arith, k.0, m)
 
-is_same : {n k : ℕ} → Is n ≡ Is k → n ≡ k
+is_same : {n k : ℕ} → Some n ≡ Some k → n ≡ k
 is_same e = cc
 
-not_is : {k : ℕ} → Not ≡ Is k → ⊥
+not_is : {k : ℕ} → None ≡ Some k → ⊥
 not_is e = let z : ◌≡◌ {A = ℕ} 0 1 = cc in absurd (omega (arith, z))
 
-module _ (σ : Service) (s : List ℕ) (a p : ℕ) {x : List ℕ} {r : Number} (l : 1 ≤ p) (h : in_range (digits 1 6) (text_at σ s a p 0) ≡ true)
+module _ (σ : Service) (s : List ℕ) (a p : ℕ) {x : List ℕ} {r : Option ℕ} (l : 1 ≤ p) (h : in_range (digits 1 6) (text_at σ s a p 0) ≡ true)
     (e : x ≡ part_of s (component_at σ s a p 0)) (d : r ≡ number_in (content σ.release x)) where
-  number_is : r ≡ Is (value_from 0 (text_at σ s a p 0))
+  number_is : r ≡ Some (value_from 0 (text_at σ s a p 0))
   number_is = d ∙ ap (λ (z : List ℕ). number_in (content σ.release z)) e ∙ ap number_in (sym (text_at_lem σ s a p 0 l)) ∙ six-is (text_at σ s a p 0) h
 
-  pub number-told : {n : ℕ} → r ≡ Is n → (n ≡ value_from 0 (text_at σ s a p 0)) × (n < 1000000)
+  pub number-told : {n : ℕ} → r ≡ Some n → (n ≡ value_from 0 (text_at σ s a p 0)) × (n < 1000000)
   number-told {n} q =
       let k : n ≡ value_from 0 (text_at σ s a p 0) = is_same (sym q ∙ number_is) in
       let b = six-below (text_at σ s a p 0) h in
       (k, omega (arith, k, b))
 
-  pub number-never : r ≡ Not → ⊥
+  pub number-never : r ≡ None → ⊥
   number-never q = not_is (sym q ∙ number_is)
 
 -- 0588, by whether it has 1 to 6 digits
@@ -155,8 +151,8 @@ same-summary : {m m' : Message} {ref : List ℕ} {refs refs' : Snoc (List ℕ)} 
 same-summary p q r t = rw (p, q, r, t)
 
 -- the code's message is the one asked for
-pub moved_to : {n n' : Message} (ρ : ℕ) (s : List ℕ) (u w : ℕ) (h : List ℕ) (S : Summary) → n ≡ n' → summary_in ρ s n' u w h ≡ S → Roomy n' h → MovedIs (to_m S) (To n) ρ s u w h
-moved_to {n} {n'} ρ s u w h S e p g = subst (λ (z : Message). MovedIs (to_m S) (To z) ρ s u w h) (sym e) (p, g)
+pub moved_to : {n n' : Message} (ρ : ℕ) (s : List ℕ) (u w : ℕ) (h : List ℕ) (S : Summary) → n ≡ n' → summary_in ρ s n' u w h ≡ S → Roomy n' h → MovedIs (to_m S) (Ok n) ρ s u w h
+moved_to {n} {n'} ρ s u w h S e p g = subst (λ (z : Message). MovedIs (to_m S) (Ok z) ρ s u w h) (sym e) (p, g)
 
 pub roomy-small : {m : Message} {h : List ℕ} → Roomy m h → Small h m.headers m.segments
 roomy-small g = record { each = g.sizes }
@@ -180,22 +176,22 @@ module _ {m : Message} {h : List ℕ} (g : Roomy m h) (f : m.segments < 65535) w
   grow-last-room l = small-last (roomy-small g) (omega (arith, f)) l
 
   pub header-moved : {h' : List ℕ} {n : Message} (q : Group) → GrownLast h h' m.headers → n ≡ grown m q → (ρ : ℕ) (s : List ℕ) (u w : ℕ)
-      → MovedIs (to_m (grown_by (summary_in ρ s m u w h) q (more_in_last (head_sizes h m.headers)))) (To n) ρ s u w h'
+      → MovedIs (to_m (grown_by (summary_in ρ s m u w h) q (more_in_last (head_sizes h m.headers)))) (Ok n) ρ s u w h'
   header-moved q b e ρ s u w = moved_to ρ s u w _ _ e (same-summary refl (b.refs ρ s) b.sizes b.flags) (roomy-grown q g (small-grown (roomy-small g) b))
 
 -- ---- USR
 
 -- in a certificate it is as `header-moved` says
-pub usr-certificate : (m : Message) (h : List ℕ) {n k : ℕ} {b : Bool} (r : Moved) (h' : List ℕ) → m.group ≡ Certificate n k b
+pub usr-certificate : (m : Message) (h : List ℕ) {n k : ℕ} {b : Bool} (r : Result Message ℕ) (h' : List ℕ) → m.group ≡ Certificate n k b
     → ((ρ : ℕ) (s : List ℕ) (u w : ℕ) → MovedIs (to_m (grown_by (summary_in ρ s m u w h) (Certificate n k true) (more_in_last (head_sizes h m.headers)))) r ρ s u w h')
     → (ρ : ℕ) (s : List ℕ) (u w : ℕ) → MovedIs (to_m (usr_next (summary_in ρ s m u w h) m.group)) r ρ s u w h'
 usr-certificate m h r h' e p ρ s u w = subst (λ (z : Group). MovedIs (to_m (usr_next (summary_in ρ s m u w h) z)) r ρ s u w h') (sym e) (p ρ s u w)
 
 module _ {m : Message} {h : List ℕ} (g : Roomy m h) where
   pub usr-trailer : {b : Bool} {n : Message} → m.group ≡ Trailer b → n ≡ own_grown m → (ρ : ℕ) (s : List ℕ) (u w : ℕ)
-      → MovedIs (to_m (usr_next (summary_in ρ s m u w h) m.group)) (To n) ρ s u w h
+      → MovedIs (to_m (usr_next (summary_in ρ s m u w h) m.group)) (Ok n) ρ s u w h
   usr-trailer {b} {n} e d ρ s u w =
-      subst (λ (z : Group). MovedIs (to_m (usr_next (summary_in ρ s m u w h) z)) (To n) ρ s u w h) (sym e)
+      subst (λ (z : Group). MovedIs (to_m (usr_next (summary_in ρ s m u w h) z)) (Ok n) ρ s u w h) (sym e)
       (moved_to ρ s u w h _ d refl
       (record {
         headers = g.headers;
@@ -209,9 +205,9 @@ module _ {m : Message} {h : List ℕ} (g : Roomy m h) where
 
   -- elsewhere it does nothing
   pub usr-idle : (z : Group) → m.group ≡ z → ((S : Summary) → usr_next S z ≡ S) → (ρ : ℕ) (s : List ℕ) (u w : ℕ)
-      → MovedIs (to_m (usr_next (summary_in ρ s m u w h) m.group)) (To m) ρ s u w h
+      → MovedIs (to_m (usr_next (summary_in ρ s m u w h) m.group)) (Ok m) ρ s u w h
   usr-idle z e i ρ s u w =
-      subst (λ (q : Summary). MovedIs (to_m q) (To m) ρ s u w h) (sym (ap (usr_next (summary_in ρ s m u w h)) e ∙ i (summary_in ρ s m u w h))) (refl, g)
+      subst (λ (q : Summary). MovedIs (to_m q) (Ok m) ρ s u w h) (sym (ap (usr_next (summary_in ρ s m u w h)) e ∙ i (summary_in ρ s m u w h))) (refl, g)
 
 -- ---- USH
 
@@ -224,13 +220,13 @@ module _ (σ : Service) (s : List ℕ) (a : ℕ) (m : Message) (h : List ℕ) wh
     ush-among : (v : Bool) → b ≡ v → among (head_refs σ.release s h m.headers) (compared (text_at σ s a 2 0)) ≡ v
     ush-among v t = sym (d ∙ ap (λ (z : List ℕ). among (head_refs σ.release s h m.headers) (compared (content σ.release z))) e) ∙ t
 
-    pub ush-named : (h' : List ℕ) → b ≡ true → (u w : ℕ) → MovedIs (ush_m (summary_in σ.release s m u w h) (asked_at σ s a)) (Bad 9) σ.release s u w h'
+    pub ush-named : (h' : List ℕ) → b ≡ true → (u w : ℕ) → MovedIs (ush_m (summary_in σ.release s m u w h) (asked_at σ s a)) (Err 9) σ.release s u w h'
     ush-named h' t u w =
-        subst (λ (A : AnswerM). MovedIs A (Bad 9) σ.release s u w h') (sym (ush-is u w true (scope_code m.autack (text_at σ s a 3 0)) (ush-among true t) refl)) refl
+        subst (λ (A : AnswerM). MovedIs A (Err 9) σ.release s u w h') (sym (ush-is u w true (scope_code m.autack (text_at σ s a 3 0)) (ush-among true t) refl)) refl
 
     module _ (t : b ≡ false) {c : Bool} (f : c ≡ scope_code m.autack (text_at σ s a 3 0)) where
-      pub ush-scope : (h' : List ℕ) → c ≡ false → (u w : ℕ) → MovedIs (ush_m (summary_in σ.release s m u w h) (asked_at σ s a)) (Bad 11) σ.release s u w h'
-      ush-scope h' k u w = subst (λ (A : AnswerM). MovedIs A (Bad 11) σ.release s u w h') (sym (ush-is u w false false (ush-among false t) (sym f ∙ k))) refl
+      pub ush-scope : (h' : List ℕ) → c ≡ false → (u w : ℕ) → MovedIs (ush_m (summary_in σ.release s m u w h) (asked_at σ s a)) (Err 11) σ.release s u w h'
+      ush-scope h' k u w = subst (λ (A : AnswerM). MovedIs A (Err 11) σ.release s u w h') (sym (ush-is u w false false (ush-among false t) (sym f ∙ k))) refl
 
       module _ (k : c ≡ true) (g : Roomy m h) (l : m.headers < 9) {h' : List ℕ} {i j : ℕ} (p : Pushed h h' m.headers i j)
           (q : slice i j s ≡ part_of s (component_at σ s a 2 0)) where
@@ -252,37 +248,37 @@ module _ (σ : Service) (s : List ℕ) (a : ℕ) (m : Message) (h : List ℕ) wh
           sizes = λ n o. (small-push (roomy-small g) p).each n (omega (arith, o));
         }
 
-        pub ush-moved : {n : Message} → n ≡ headed m → (u w : ℕ) → MovedIs (ush_m (summary_in σ.release s m u w h) (asked_at σ s a)) (To n) σ.release s u w h'
+        pub ush-moved : {n : Message} → n ≡ headed m → (u w : ℕ) → MovedIs (ush_m (summary_in σ.release s m u w h) (asked_at σ s a)) (Ok n) σ.release s u w h'
         ush-moved {n} o u w =
-            subst (λ (A : AnswerM). MovedIs A (To n) σ.release s u w h') (sym (ush-is u w false true (ush-among false t) (sym f ∙ k)))
+            subst (λ (A : AnswerM). MovedIs A (Ok n) σ.release s u w h') (sym (ush-is u w false true (ush-among false t) (sym f ∙ k)))
             (moved_to σ.release s u w h' _ o (ush-summary u w) ush-roomy)
 
 -- ---- UST
 
-not_found : (o : Option ℕ) → is_found o ≡ false → o ≡ none
+not_found : (o : Maybe ℕ) → is_found o ≡ false → o ≡ none
 not_found none e = refl
 not_found (some i) e = cc
 
 module _ (σ : Service) (s : List ℕ) (a : ℕ) (m : Message) (h : List ℕ) where
-  abbrev free : List ℕ → Option ℕ
+  abbrev free : List ℕ → Maybe ℕ
   free x = free_at x (head_refs σ.release s h m.headers) (head_flags h m.headers)
 
   module _ {i : ℕ} (ust-place : i ≡ pos_or m.headers (free_at (compared (text_at σ s a 1 0)) (head_refs σ.release s h m.headers) (head_flags h m.headers))) where
     pub ust-bad : (h' : List ℕ) → m.headers ≤ i → (u w : ℕ)
-        → MovedIs (ust_m (summary_in σ.release s m u w h) (asked_at σ s a) (free_at (compared (text_at σ s a 1 0)) (head_refs σ.release s h m.headers) (head_flags h m.headers))) (Bad 9) σ.release s u w h'
+        → MovedIs (ust_m (summary_in σ.release s m u w h) (asked_at σ s a) (free_at (compared (text_at σ s a 1 0)) (head_refs σ.release s h m.headers) (head_flags h m.headers))) (Err 9) σ.release s u w h'
     ust-bad h' l u w =
         let k : free (compared (text_at σ s a 1 0)) ≡ none =
         not_found (free (compared (text_at σ s a 1 0))) (found_at σ.release s h (compared (text_at σ s a 1 0)) m.headers ∙ le-ltb _ _ (subst (λ (z : ℕ). m.headers ≤ z) ust-place l)) in
-        subst (λ (o : Option ℕ). MovedIs (ust_m (summary_in σ.release s m u w h) (asked_at σ s a) o) (Bad 9) σ.release s u w h') (sym k) refl
+        subst (λ (o : Maybe ℕ). MovedIs (ust_m (summary_in σ.release s m u w h) (asked_at σ s a) o) (Err 9) σ.release s u w h') (sym k) refl
 
     module _ (l : i < m.headers) (g : Roomy m h) {h' : List ℕ} (p : Named h h' m.headers i) where
       ust-found : free (compared (text_at σ s a 1 0)) ≡ some i
       ust-found = found_some m.headers (free (compared (text_at σ s a 1 0))) (subst (λ (z : ℕ). z < m.headers) ust-place l) ∙ ap some (sym ust-place)
 
       pub ust-moved : {n : Message} {k : ℕ} → k ≡ claimed (text_at σ s a 2 0) → n ≡ trailed m k (get_or h (4 * i + 2) 0) → (u w : ℕ)
-          → MovedIs (ust_m (summary_in σ.release s m u w h) (asked_at σ s a) (free_at (compared (text_at σ s a 1 0)) (head_refs σ.release s h m.headers) (head_flags h m.headers))) (To n) σ.release s u w h'
+          → MovedIs (ust_m (summary_in σ.release s m u w h) (asked_at σ s a) (free_at (compared (text_at σ s a 1 0)) (head_refs σ.release s h m.headers) (head_flags h m.headers))) (Ok n) σ.release s u w h'
       ust-moved {n} {k} c o u w =
-          subst (λ (z : Option ℕ). MovedIs (ust_m (summary_in σ.release s m u w h) (asked_at σ s a) z) (To n) σ.release s u w h') (sym ust-found)
+          subst (λ (z : Maybe ℕ). MovedIs (ust_m (summary_in σ.release s m u w h) (asked_at σ s a) z) (Ok n) σ.release s u w h') (sym ust-found)
           (moved_to σ.release s u w h' _ (o ∙ same) (same-summary refl (p.refs σ.release s) p.sizes p.flags) roomy)
         where
           same : trailed m k (get_or h (4 * i + 2) 0) ≡ trailed m (claimed (text_at σ s a 2 0)) (size_in (head_sizes h m.headers) i)
@@ -308,11 +304,11 @@ module _ (σ : Service) (s : List ℕ) (a : ℕ) (m : Message) (h : List ℕ) {x
       ap (λ (z : Bool). cond z (to_m (grown_by (summary_in σ.release s m u w h) (Ack true true) (head_sizes h m.headers))) (bad_m 9))
       (sym (d ∙ ap (λ (z : List ℕ). among (head_refs σ.release s h m.headers) (compared (content σ.release z))) e) ∙ t)
 
-  pub usy-bad : b ≡ false → (u w : ℕ) → MovedIs (usy_m (summary_in σ.release s m u w h) (asked_at σ s a)) (Bad 9) σ.release s u w h
-  usy-bad t u w = subst (λ (A : AnswerM). MovedIs A (Bad 9) σ.release s u w h) (sym (usy-is false t u w)) refl
+  pub usy-bad : b ≡ false → (u w : ℕ) → MovedIs (usy_m (summary_in σ.release s m u w h) (asked_at σ s a)) (Err 9) σ.release s u w h
+  usy-bad t u w = subst (λ (A : AnswerM). MovedIs A (Err 9) σ.release s u w h) (sym (usy-is false t u w)) refl
 
   pub usy-moved : b ≡ true → Roomy m h → {n : Message} → n ≡ grown m (Ack true true) → (u w : ℕ)
-      → MovedIs (usy_m (summary_in σ.release s m u w h) (asked_at σ s a)) (To n) σ.release s u w h
+      → MovedIs (usy_m (summary_in σ.release s m u w h) (asked_at σ s a)) (Ok n) σ.release s u w h
   usy-moved t g {n} o u w =
-      subst (λ (A : AnswerM). MovedIs A (To n) σ.release s u w h) (sym (usy-is true t u w))
+      subst (λ (A : AnswerM). MovedIs A (Ok n) σ.release s u w h) (sym (usy-is true t u w))
       (moved_to σ.release s u w h _ o refl (roomy-grown (Ack true true) g (small-more (roomy-small g) (suc m.segments) (omega arith))))

@@ -1,12 +1,12 @@
 -- What the code keeps of a tree, as a function of the tree; and the tests and the step, which need no more than that and the segment's view.
-use Rattle.std.specs.Prelude.{ℕ, suc, ◌+◌, Bool, true, false, cond, not, ◌&&◌, ◌||◌, List, [], ◌∷◌, eqb, ltb}
-use Rattle.std.proofs.Math.Option.{Option, none, some}
+use Rattle.grammar.specs.declared.Subset.{Subset}
+use Rattle.std.specs.Prelude.{ℕ, suc, ◌+◌, Bool, true, false, cond, not, ◌&&◌, ◌||◌, List, [], ◌∷◌, eqb, ltb, Option}
+use Rattle.std.proofs.Math.Option.{Option as Maybe, none, some}
 use Rattle.syntax.specs.Octets.{octets, same}
 use Rattle.syntax.specs.Content.{value_from, compared}
 use Rattle.syntax.specs.declared.Syntax.{Syntax}
 use Rattle.syntax.specs.Opening.{earlier}
 use Rattle.syntax.specs.declared.Version.{Version}
-use Rattle.grammar.specs.declared.Subset.{Subset}
 use Rattle.grammar.specs.Lists.{Snoc, nil, ◌▷◌, each, size, any, among, test, check, every}
 use Rattle.grammar.specs.Grams.{Grams, no_grams, same_grams, below, magnitude}
 use Rattle.grammar.specs.Weighed.{loaded_by, tipped_by, forward, back}
@@ -28,7 +28,7 @@ use Rattle.message.specs.declared.Message.{Message as Kept}
 
 -- ---- of a message that is open: the group that is open in it
 
-abbrev pub given : Option Leaf → Bool
+abbrev pub given : Maybe Leaf → Bool
 given none = false
 given (some c) = true
 
@@ -121,7 +121,7 @@ state_of (done u ms z) = done_s
 
 -- "UNH, 0 to 9 header groups": nothing but these has come, so that a further header, or the USB of a body, may come; but not, in the subset of GS1, "after a
 -- header without USC"
-abbrev pub at_heads : Subset → Group → Bool
+abbrev pub at_heads : Option Subset → Group → Bool
 at_heads a Opened = true
 at_heads a (InHeader n) = not (is_gs1 a)
 at_heads a (InCertificate n m r) = true
@@ -284,16 +284,16 @@ subset_k done_s k a = true
 
 -- ---- 9
 
-abbrev pub is_found : Option ℕ → Bool
+abbrev pub is_found : Maybe ℕ → Bool
 is_found none = false
 is_found (some i) = true
 
-abbrev pub or_else : {A : Type 0} → Option A → Option A → Option A
+abbrev pub or_else : {A : Type 0} → Maybe A → Maybe A → Maybe A
 or_else none o = o
 or_else (some a) o = some a
 
 -- the first header of the reference r that no trailer has named: its place, from 0
-abbrev pub free_at : List ℕ → Snoc (List ℕ) → Snoc Bool → Option ℕ
+abbrev pub free_at : List ℕ → Snoc (List ℕ) → Snoc Bool → Maybe ℕ
 free_at r nil fs = none
 free_at r (rs ▷ s) nil = none
 free_at r (rs ▷ s) (fs ▷ f) = or_else (free_at r rs fs) (cond (same s r && not f) (some (size rs)) none)
@@ -418,7 +418,7 @@ usr_next S (InTrailer r) = record {
 }
 
 -- the trailer of the header at this place
-abbrev pub ust_next : Summary → Asked → Option ℕ → Summary
+abbrev pub ust_next : Summary → Asked → Maybe ℕ → Summary
 ust_next S a none = S
 ust_next S a (some i) = record {
   m = record {
@@ -454,7 +454,7 @@ usb_next S = record {
 }
 
 -- a load more
-abbrev pub loaded : Sums → Option Grams → Sums
+abbrev pub loaded : Sums → Maybe Grams → Sums
 loaded s none = s
 loaded s (some z) = record {
   loads = suc s.loads;
@@ -477,7 +477,7 @@ controlled_by false s z =
 controlled_by true s z =
     record { loads = s.loads; grams = s.grams; back = s.back; controlled = true; control = s.control; below = s.below; agree = s.agree && same_control s (magnitude z) (below z) }
 
-abbrev pub controlled : Sums → Option Grams → Sums
+abbrev pub controlled : Sums → Maybe Grams → Sums
 controlled s none = s
 controlled s (some z) = controlled_by s.controlled s z
 
@@ -563,5 +563,5 @@ answer_of (read x) = read_s (state_of x)
 answer_of (refused n p) = refused_s n p
 
 -- the state of a message just begun
-abbrev pub fresh : Subset → Kept
+abbrev pub fresh : Option Subset → Kept
 fresh a = record { group = Opened; autack = a; segments = 1; headers = 0; sums = no_sums; pair = no_pair }

@@ -14,14 +14,12 @@ pub fn header_named(s: &[u8], release: u8, heads: &[usize; 36], n: usize, x: &[u
     requires { n ≤ 9 }
     ensures { result ≡ among (head_refs release s.now heads.now n) (compared (content release x.now)) }
 {
-    let mut i: usize = 0;
-    while i < n {
+    for i in 0..n {
         let a = heads[4 * i];
         let e = heads[4 * i + 1];
         if same_reference(part(s, a, e), release, x, release) {
             return true;
         }
-        i += 1;
     }
     false
 }
@@ -44,12 +42,10 @@ pub fn all_named(heads: &[usize; 36], n: usize) -> bool
     requires { n ≤ 9 }
     ensures { result ≡ all_named (head_flags heads.now n) }
 {
-    let mut i: usize = 0;
-    while i < n {
+    for i in 0..n {
         if heads[4 * i + 3] == 0 {
             return false;
         }
-        i += 1;
     }
     true
 }

@@ -1,9 +1,8 @@
 // The segments of a body: loads, control totals, and the others; and USB.
-ghost use Rattle.std.specs.Prelude.{◌≡◌, true, List, ℕ, ◌*◌, ◌≤◌, ◌<◌};
+ghost use Rattle.std.specs.Prelude.{◌≡◌, true, List, ℕ, ◌*◌, ◌≤◌, ◌<◌, Ok};
 ghost use Rattle.grammar.specs.Loads.{control_in, control_right};
 ghost use Rattle.elements.specs.Kinds.{tag_kind};
 ghost use Rattle.elements.specs.declared.Kind.TheVariants.{Qty, Cnt};
-ghost use Rattle.message.specs.declared.steps.Moved.TheVariants.{To};
 ghost use Rattle.elements.specs.Octets.{asked_at};
 ghost use Rattle.elements.specs.Fields.{Marked, Fields};
 ghost use Rattle.message.specs.Summary.{item_next, usb_next, controlled};
@@ -11,32 +10,35 @@ ghost use Rattle.message.specs.Steps.{to_m, qty_m, summary_in, Roomy, MovedIs};
 ghost use Rattle.message.specs.Items.{grown_with};
 
 use crate::kept::{no_sums, with_control, with_load};
-use crate::steps::Moved;
 use crate::{Group, Message, Sums};
-use elements::amounts::{Amount, Unit, amount_in, unit_in};
+use elements::amounts::{amount_in, unit_in};
 use elements::fields::{Shape, field, parts};
 use syntax::Syntax;
 use syntax::content::content_is;
 
 // One segment more in the group `g`, with these sums.
-fn with_sums(m: Message, g: Group, u: Sums) -> Moved
+fn with_sums(m: Message, g: Group, u: Sums) -> Result<Message, u8>
     requires { m.segments < 65535 }
-    ensures { result ≡ To (grown_with m g u) }
+    ensures { result ≡ Ok (grown_with m g u) }
 {
     let autack = m.autack;
-    let p = m.pair;
-    Moved::To(Message {
+    Ok(Message {
         group: g,
-        autack: autack,
         segments: m.segments + 1,
-        headers: m.headers,
         sums: u,
-        pair: p,
+        ..m
     })
 }
 
 // QTY: a load, if its one element has three components and the third is a unit; its amount (12).
-pub fn on_qty(s: &[u8], at: usize, y: Syntax, m: Message, f: Shape, marks: &[usize]) -> Moved
+pub fn on_qty(
+    s: &[u8],
+    at: usize,
+    y: Syntax,
+    m: Message,
+    f: Shape,
+    marks: &[usize],
+) -> Result<Message, u8>
     requires fields { Fields y.service s.now at f.size f.repeats marks.now }
     requires at_value { tag_kind (asked_at y.service s.now at).tag ≡ Qty }
     requires segments_bound { (m.segments < 65535) × (m.sums.loads ≤ m.segments) × (m.sums.grams ≤ m.segments * 1000000000000) × (m.sums.back ≤ m.segments * 1000000000000) }
@@ -52,16 +54,16 @@ pub fn on_qty(s: &[u8], at: usize, y: Syntax, m: Message, f: Shape, marks: &[usi
         return with_sums(m, Group::Body, k);
     }
     match unit_in(field(s, at, y, marks, 1, 2), v.release, 9, 6) {
-        Unit::Of(u) => match amount_in(field(s, at, y, marks, 1, 1), v.release, u) {
-            Amount::Grams(w, below) => with_sums(m, Group::Body, with_load(k, w, below)),
-            Amount::Bad => Moved::Bad(12),
+        Some(u) => match amount_in(field(s, at, y, marks, 1, 1), v.release, u) {
+            Some((w, below)) => with_sums(m, Group::Body, with_load(k, w, below)),
+            None => Err(12),
         },
-        Unit::Unknown => with_sums(m, Group::Body, k),
+        None => with_sums(m, Group::Body, k),
     }
 }
 
 // CNT: with qualifier 1 a control total, which is well formed (8).
-pub fn on_cnt(s: &[u8], at: usize, y: Syntax, m: Message, marks: &[usize]) -> Moved
+pub fn on_cnt(s: &[u8], at: usize, y: Syntax, m: Message, marks: &[usize]) -> Result<Message, u8>
     requires marked { Marked y.service s.now at marks.now }
     requires at_value { (tag_kind (asked_at y.service s.now at).tag ≡ Cnt) × (control_right (asked_at y.service s.now at) ≡ true) }
     requires segments_bound { m.segments < 65535 }
@@ -74,16 +76,16 @@ pub fn on_cnt(s: &[u8], at: usize, y: Syntax, m: Message, marks: &[usize]) -> Mo
         return with_sums(m, Group::Body, k);
     }
     match unit_in(field(s, at, y, marks, 1, 2), v.release, 12, 9) {
-        Unit::Of(u) => match amount_in(field(s, at, y, marks, 1, 1), v.release, u) {
-            Amount::Grams(w, below) => with_sums(m, Group::Body, with_control(k, w, below)),
-            Amount::Bad => with_sums(m, Group::Body, k),
+        Some(u) => match amount_in(field(s, at, y, marks, 1, 1), v.release, u) {
+            Some((w, below)) => with_sums(m, Group::Body, with_control(k, w, below)),
+            None => with_sums(m, Group::Body, k),
         },
-        Unit::Unknown => with_sums(m, Group::Body, k),
+        None => with_sums(m, Group::Body, k),
     }
 }
 
 // Any other segment of a body.
-pub fn on_other(m: Message) -> Moved
+pub fn on_other(m: Message) -> Result<Message, u8>
     requires { m.segments < 65535 }
     ensures { (ρ : ℕ) (s : List ℕ) (u w : ℕ) (h : List ℕ) → Roomy m h → MovedIs (to_m (item_next (summary_in ρ s m u w h) m.sums)) result ρ s u w h }
 {
@@ -92,7 +94,7 @@ pub fn on_other(m: Message) -> Moved
 }
 
 // USB begins the body of AUTACK.
-pub fn on_usb(m: Message) -> Moved
+pub fn on_usb(m: Message) -> Result<Message, u8>
     requires { m.segments < 65535 }
     ensures { (ρ : ℕ) (s : List ℕ) (u w : ℕ) (h : List ℕ) → Roomy m h → MovedIs (to_m (usb_next (summary_in ρ s m u w h))) result ρ s u w h }
 {

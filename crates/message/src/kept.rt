@@ -34,7 +34,7 @@ pub fn no_pair() -> Pair
 }
 
 // A message begun by its UNH.
-pub fn fresh_message(autack: Subset) -> Message
+pub fn fresh_message(autack: Option<Subset>) -> Message
     ensures { result ≡ fresh autack }
 {
     let u = no_sums();
@@ -85,15 +85,10 @@ pub fn grown_to(m: Message, g: Group) -> Message
     ensures { result ≡ grown m g }
 {
     let autack = m.autack;
-    let u = m.sums;
-    let p = m.pair;
     Message {
         group: g,
-        autack: autack,
         segments: m.segments + 1,
-        headers: m.headers,
-        sums: u,
-        pair: p,
+        ..m
     }
 }
 
@@ -142,22 +137,14 @@ pub fn with_load(u: Sums, grams: u64, below: bool) -> Sums
     if below {
         return Sums {
             loads: u.loads + 1,
-            grams: u.grams,
             back: u.back + grams,
-            controlled: u.controlled,
-            control: u.control,
-            below: u.below,
-            agree: u.agree,
+            ..u
         };
     }
     Sums {
         loads: u.loads + 1,
         grams: u.grams + grams,
-        back: u.back,
-        controlled: u.controlled,
-        control: u.control,
-        below: u.below,
-        agree: u.agree,
+        ..u
     }
 }
 
@@ -182,22 +169,16 @@ pub fn with_control(u: Sums, grams: u64, below: bool) -> Sums
     if u.controlled {
         let same = same_control(u, grams, below);
         return Sums {
-            loads: u.loads,
-            grams: u.grams,
-            back: u.back,
             controlled: true,
-            control: u.control,
-            below: u.below,
             agree: u.agree && same,
+            ..u
         };
     }
     Sums {
-        loads: u.loads,
-        grams: u.grams,
-        back: u.back,
         controlled: true,
         control: grams,
-        below: below,
+        below,
         agree: true,
+        ..u
     }
 }

@@ -55,5 +55,5 @@ pub struct Message {
     pub segments: u32,
     pub group: Group,
     pub headers: u16,
-    pub autack: Subset,
+    pub autack: Option<Subset>,
 }

@@ -7,33 +7,20 @@ use elements::Kind;
 use grammar::{Subset, is_autack, is_gs1};
 
 // Whether a further header, or the USB of a body, may come: in the subset of GS1 each header has a USC.
-fn at_heads(a: Subset, g: Group) -> bool
+fn at_heads(a: Option<Subset>, g: Group) -> bool
     ensures { result ≡ at_heads a g }
 {
     match g {
-        Group::Opened => true,
-        Group::Header(_) => {
-            let b = is_gs1(a);
-            !b
-        }
-        Group::Certificate(_, _, _) => true,
-        Group::Body => false,
-        Group::Ack(_, _) => false,
-        Group::Trailer(_) => false,
+        Group::Opened | Group::Certificate(_, _, _) => true,
+        Group::Header(_) => !is_gs1(a),
+        Group::Body | Group::Ack(_, _) | Group::Trailer(_) => false,
     }
 }
 
 fn at_items(g: Group) -> bool
     ensures { result ≡ at_items g }
 {
-    match g {
-        Group::Opened => true,
-        Group::Header(_) => true,
-        Group::Certificate(_, _, _) => true,
-        Group::Body => true,
-        Group::Ack(_, _) => false,
-        Group::Trailer(_) => false,
-    }
+    !matches!(g, Group::Ack(_, _) | Group::Trailer(_))
 }
 
 // Whether a trailer or UNT may come.
@@ -41,12 +28,9 @@ fn may_close(autack: bool, g: Group) -> bool
     ensures { result ≡ closes autack g }
 {
     match g {
-        Group::Opened => !autack,
-        Group::Header(_) => !autack,
-        Group::Certificate(_, _, _) => !autack,
-        Group::Body => true,
+        Group::Opened | Group::Header(_) | Group::Certificate(_, _, _) => !autack,
         Group::Ack(_, filled) => filled,
-        Group::Trailer(_) => true,
+        Group::Body | Group::Trailer(_) => true,
     }
 }
 
@@ -54,17 +38,9 @@ fn usa_may(g: Group) -> bool
     ensures { result ≡ usa_may g }
 {
     match g {
-        Group::Opened => false,
         Group::Header(n) => n < 3,
-        Group::Certificate(_, m, usr) => {
-            if usr {
-                return false;
-            }
-            m < 3
-        }
-        Group::Body => false,
-        Group::Ack(_, _) => false,
-        Group::Trailer(_) => false,
+        Group::Certificate(_, n, usr) => !usr && n < 3,
+        _ => false,
     }
 }
 
@@ -72,12 +48,9 @@ fn usc_may(g: Group) -> bool
     ensures { result ≡ usc_may g }
 {
     match g {
-        Group::Opened => false,
         Group::Header(_) => true,
         Group::Certificate(n, _, _) => n < 1,
-        Group::Body => false,
-        Group::Ack(_, _) => false,
-        Group::Trailer(_) => false,
+        _ => false,
     }
 }
 
@@ -85,12 +58,8 @@ fn usr_may(g: Group) -> bool
     ensures { result ≡ usr_may g }
 {
     match g {
-        Group::Opened => false,
-        Group::Header(_) => false,
-        Group::Certificate(_, _, usr) => !usr,
-        Group::Body => false,
-        Group::Ack(_, _) => false,
-        Group::Trailer(usr) => !usr,
+        Group::Certificate(_, _, usr) | Group::Trailer(usr) => !usr,
+        _ => false,
     }
 }
 
@@ -98,60 +67,33 @@ fn usx_may(g: Group) -> bool
     ensures { result ≡ usx_may g }
 {
     match g {
-        Group::Opened => false,
-        Group::Header(_) => false,
-        Group::Certificate(_, _, _) => false,
-        Group::Body => false,
-        Group::Ack(any, filled) => {
-            if any {
-                return filled;
-            }
-            true
-        }
-        Group::Trailer(_) => false,
+        Group::Ack(any, filled) => !any || filled,
+        _ => false,
     }
 }
 
 fn usy_may(g: Group) -> bool
     ensures { result ≡ usy_may g }
 {
-    match g {
-        Group::Opened => false,
-        Group::Header(_) => false,
-        Group::Certificate(_, _, _) => false,
-        Group::Body => false,
-        Group::Ack(any, _) => any,
-        Group::Trailer(_) => false,
-    }
+    matches!(g, Group::Ack(true, _))
 }
 
-fn ush_may(a: Subset, g: Group, headers: u16) -> bool
+fn ush_may(a: Option<Subset>, g: Group, headers: u16) -> bool
     ensures { result ≡ (at_heads a g && ltb headers 9) }
 {
-    if at_heads(a, g) {
-        return headers < 9;
-    }
-    false
+    at_heads(a, g) && headers < 9
 }
 
-fn usb_may(a: Subset, g: Group, autack: bool, headers: u16) -> bool
+fn usb_may(a: Option<Subset>, g: Group, autack: bool, headers: u16) -> bool
     ensures { result ≡ (at_heads a g && (autack && ltb 0 headers)) }
 {
-    if at_heads(a, g) {
-        if autack {
-            return 0 < headers;
-        }
-    }
-    false
+    at_heads(a, g) && autack && 0 < headers
 }
 
 fn item_may(g: Group, autack: bool) -> bool
     ensures { result ≡ (at_items g && not autack) }
 {
-    if at_items(g) {
-        return !autack;
-    }
-    false
+    at_items(g) && !autack
 }
 
 // Whether a segment of kind `k` may come next in the message.
@@ -161,23 +103,16 @@ pub fn may_come(k: Kind, m: Message) -> bool
     let g = m.group;
     let subset = m.autack;
     let autack = is_autack(subset);
-    let headers = m.headers;
     match k {
-        Kind::Unb => false,
-        Kind::Unh => false,
-        Kind::Unt => may_close(autack, g),
-        Kind::Unz => false,
-        Kind::Ush => ush_may(subset, g, headers),
+        Kind::Unt | Kind::Ust => may_close(autack, g),
+        Kind::Ush => ush_may(subset, g, m.headers),
         Kind::Usa => usa_may(g),
         Kind::Usc => usc_may(g),
         Kind::Usr => usr_may(g),
-        Kind::Ust => may_close(autack, g),
-        Kind::Usb => usb_may(subset, g, autack, headers),
+        Kind::Usb => usb_may(subset, g, autack, m.headers),
         Kind::Usx => usx_may(g),
         Kind::Usy => usy_may(g),
-        Kind::Reserved => false,
-        Kind::Qty => item_may(g, autack),
-        Kind::Cnt => item_may(g, autack),
-        Kind::Other => item_may(g, autack),
+        Kind::Qty | Kind::Cnt | Kind::Other => item_may(g, autack),
+        Kind::Unb | Kind::Unh | Kind::Unz | Kind::Reserved => false,
     }
 }

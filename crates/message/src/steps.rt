@@ -16,31 +16,19 @@ use elements::fields::{field, field_end, field_start};
 use elements::formed::digits;
 use grammar::Subset;
 use syntax::Syntax;
-use syntax::content::{Number, content_is, digits_value};
-
-// The message after a segment, or the number of its breach.
-#[derive(Clone, Copy)]
-pub enum Moved {
-    To(Message),
-    Bad(u8),
-}
+use syntax::content::{content_is, digits_value};
 
 // 0541 is 1 or 2; in AUTACK it is F01, or 3 in the subset of GS1.
-fn scope_right(s: &[u8], at: usize, y: Syntax, marks: &[usize], autack: Subset) -> bool
+fn scope_right(s: &[u8], at: usize, y: Syntax, marks: &[usize], autack: Option<Subset>) -> bool
     requires { Marked y.service s.now at marks.now }
     ensures { result ≡ scope_code autack (text_at y.service s.now at 3 0) }
 {
     let v = y.service;
     let x = field(s, at, y, marks, 3, 0);
     match autack {
-        Subset::F01 => content_is(x, v.release, b"F01"),
-        Subset::Gs1 => content_is(x, v.release, b"3"),
-        Subset::None => {
-            if content_is(x, v.release, b"1") {
-                return true;
-            }
-            content_is(x, v.release, b"2")
-        }
+        Some(Subset::F01) => content_is(x, v.release, b"F01"),
+        Some(Subset::Gs1) => content_is(x, v.release, b"3"),
+        None => { content_is(x, v.release, b"1") || content_is(x, v.release, b"2") }
     }
 }
 
@@ -50,15 +38,11 @@ fn with_header(m: Message) -> Message
     ensures { result ≡ headed m }
 {
     let autack = m.autack;
-    let u = m.sums;
-    let p = m.pair;
     Message {
         group: Group::Header(0),
-        autack: autack,
         segments: m.segments + 1,
         headers: m.headers + 1,
-        sums: u,
-        pair: p,
+        ..m
     }
 }
 
@@ -70,7 +54,7 @@ pub fn on_ush(
     m: Message,
     marks: &[usize],
     heads: &mut [usize; 36],
-) -> Moved
+) -> Result<Message, u8>
     requires marked { Marked y.service s.now at marks.now }
     requires roomy { Roomy m heads.old }
     requires headers_bound { (m.headers < 9) × (m.segments < 65535) × (length heads.old ≡ 36) }
@@ -81,20 +65,20 @@ pub fn on_ush(
     let n = m.headers as usize;
     let x = field(s, at, y, marks, 2, 0);
     if header_named(s, v.release, heads, n, x) {
-        return Moved::Bad(9);
+        return Err(9);
     }
     let autack = m.autack;
     if !scope_right(s, at, y, marks, autack) {
-        return Moved::Bad(11);
+        return Err(11);
     }
     let b = field_start(marks, 2, 0);
     let e = field_end(marks, 2, 0);
     push_header(heads, n, b, e);
-    Moved::To(with_header(m))
+    Ok(with_header(m))
 }
 
 // A USA, a USC or a USR of the header group now open: a segment more in it.
-pub fn in_header(m: Message, g: Group, heads: &mut [usize; 36]) -> Moved
+pub fn in_header(m: Message, g: Group, heads: &mut [usize; 36]) -> Result<Message, u8>
     requires roomy { Roomy m heads.old }
     requires segments_bound { (m.segments < 65535) × (length heads.old ≡ 36) }
     ensures by_index { (ρ : ℕ) (s : List ℕ) (u w : ℕ) → MovedIs (to_m (grown_by (summary_in ρ s m u w heads.old) g (more_in_last (head_sizes heads.old m.headers)))) result ρ s u w heads.new }
@@ -102,7 +86,7 @@ pub fn in_header(m: Message, g: Group, heads: &mut [usize; 36]) -> Moved
 {
     let n = m.headers as usize;
     grow_last(heads, n);
-    Moved::To(grown_to(m, g))
+    Ok(grown_to(m, g))
 }
 
 // A USR of the trailer group now open: a segment more in it.
@@ -111,25 +95,22 @@ fn in_trailer(m: Message) -> Message
     ensures { result ≡ own_grown m }
 {
     let autack = m.autack;
-    let u = m.sums;
     let p = m.pair;
     Message {
         group: Group::Trailer(true),
-        autack: autack,
         segments: m.segments + 1,
-        headers: m.headers,
-        sums: u,
         pair: Pair {
             right: p.right,
             claim: p.claim,
             base: p.base,
             own: p.own + 1,
         },
+        ..m
     }
 }
 
 // A USR: the certificate's, or the trailer's; elsewhere it may not come.
-pub fn on_usr(m: Message, heads: &mut [usize; 36]) -> Moved
+pub fn on_usr(m: Message, heads: &mut [usize; 36]) -> Result<Message, u8>
     requires roomy { Roomy m heads.old }
     requires segments_bound { (m.segments < 65535) × (length heads.old ≡ 36) }
     ensures by_index { (ρ : ℕ) (s : List ℕ) (u w : ℕ) → MovedIs (to_m (usr_next (summary_in ρ s m u w heads.old) m.group)) result ρ s u w heads.new }
@@ -138,11 +119,11 @@ pub fn on_usr(m: Message, heads: &mut [usize; 36]) -> Moved
     let g = m.group;
     match g {
         Group::Certificate(n, k, _) => in_header(m, Group::Certificate(n, k, true), heads),
-        Group::Trailer(_) => Moved::To(in_trailer(m)),
-        Group::Opened => Moved::To(m),
-        Group::Header(_) => Moved::To(m),
-        Group::Body => Moved::To(m),
-        Group::Ack(_, _) => Moved::To(m),
+        Group::Trailer(_) => Ok(in_trailer(m)),
+        Group::Opened => Ok(m),
+        Group::Header(_) => Ok(m),
+        Group::Body => Ok(m),
+        Group::Ack(_, _) => Ok(m),
     }
 }
 
@@ -154,8 +135,8 @@ pub fn number_in(s: &[u8], at: usize, y: Syntax, marks: &[usize], p: usize) -> u
 {
     let v = y.service;
     match digits_value(field(s, at, y, marks, p, 0), v.release) {
-        Number::Is(n) => n,
-        Number::Not => 0,
+        Some(n) => n,
+        None => 0,
     }
 }
 
@@ -176,21 +157,18 @@ fn with_trailer(m: Message, claim: u32, base: u32) -> Message
     ensures { result ≡ trailed m claim base }
 {
     let autack = m.autack;
-    let u = m.sums;
     let p = m.pair;
     let right = pairs_right(p);
     Message {
         group: Group::Trailer(false),
-        autack: autack,
         segments: m.segments + 1,
-        headers: m.headers,
-        sums: u,
         pair: Pair {
             right: right,
             claim: claim,
             base: base,
             own: 1,
         },
+        ..m
     }
 }
 
@@ -203,7 +181,7 @@ pub fn on_ust(
     marks: &[usize],
     heads: &mut [usize; 36],
     i: usize,
-) -> Moved
+) -> Result<Message, u8>
     requires marked { Marked y.service s.now at marks.now }
     requires roomy { Roomy m heads.old }
     requires segments_bound { (m.segments < 65535) × (length heads.old ≡ 36) }
@@ -213,12 +191,12 @@ pub fn on_ust(
 {
     let n = m.headers as usize;
     if n <= i {
-        return Moved::Bad(9);
+        return Err(9);
     }
     let base = heads[4 * i + 2];
     name_header(heads, n, i);
     let claim = claimed_in(s, at, y, marks);
-    Moved::To(with_trailer(m, claim as u32, base as u32))
+    Ok(with_trailer(m, claim as u32, base as u32))
 }
 
 // A USY: it names a USH of its message.
@@ -229,7 +207,7 @@ pub fn on_usy(
     m: Message,
     marks: &[usize],
     heads: &[usize; 36],
-) -> Moved
+) -> Result<Message, u8>
     requires marked { Marked y.service s.now at marks.now }
     requires roomy { Roomy m heads.now }
     requires segments_bound { m.segments < 65535 }
@@ -239,7 +217,7 @@ pub fn on_usy(
     let n = m.headers as usize;
     let x = field(s, at, y, marks, 1, 0);
     if header_named(s, v.release, heads, n, x) {
-        return Moved::To(grown_to(m, Group::Ack(true, true)));
+        return Ok(grown_to(m, Group::Ack(true, true)));
     }
-    Moved::Bad(9)
+    Err(9)
 }

@@ -1,17 +1,17 @@
 -- The grams number of each form: what is written is read back, what is read was written so, and which grams a form holds.
-use Rattle.std.specs.Prelude.{ℕ, zero, suc, ◌+◌, ◌-◌, ◌*◌, ◌/◌, ◌%◌, ◌≤◌, ◌<◌, Bool, true, false, cond, ◌||◌, List, [], ◌∷◌, ◌++◌, ◌≡◌, refl, T, leb, ltb, eqb, pos, negsuc}
-use Rattle.std.proofs.Common.{arith, sym, ap, subst, ◌∙◌, lt-ltb, le-ltb, le-leb, ltb-true, leb-false, eq-eqb, ne_eqb, eqb-true}
+use Rattle.std.specs.Prelude.{ℕ, zero, suc, ◌-◌, ◌*◌, ◌/◌, ◌%◌, ◌≤◌, ◌<◌, Bool, true, false, cond, ◌||◌, List, [], ◌∷◌, ◌++◌, ◌≡◌, refl, T, ltb, eqb, pos, negsuc}
+use Rattle.std.proofs.Common.{arith, sym, ap, subst, lt-ltb, ltb-true, leb-false, eq-eqb, ne_eqb, eqb-true}
 use Rattle.std.proofs.lemmas.Bool.{lt-leb, eqb-false}
 use Rattle.syntax.specs.Refusals.{at_zero}
 use Rattle.syntax.proofs.TreeLaws.{is_true}
-use Rattle.grammar.specs.Grams.{Grams, signed, below, magnitude}
+use Rattle.grammar.specs.Grams.{Grams, below, magnitude}
 use Rattle.grammar.specs.WeighedLaws.{signed_back}
 use Rattle.writing.specs.Written.{text, no_text}
 use Rattle.forms.specs.declared.Form.{Form}
 use Rattle.forms.specs.declared.Form.TheVariants.{Old, Small, Signed}
 use Rattle.forms.specs.declared.Entry.{Entry}
 use Rattle.forms.specs.Forms.{grams_of, entry, doubled, grams_number, register_text, large, sign_lost, any_below, text_in}
-use Rattle.moves.specs.Stored.{Stored, stored, halved, grams_by, any_large, moved_to, holds, Fit, AllFit}
+use Rattle.moves.specs.Stored.{stored, halved, grams_by, any_large, moved_to, holds, AllFit}
 
 clash : true ≡ false → ⊥
 clash e = let z : ◌≡◌ {A = ℕ} 0 1 = cc in absurd (omega arith)
@@ -174,22 +174,6 @@ entry-grams p l o z = signed_back z
 
 pub entry-plain : (p l o : ℕ) (z : Grams) → entry p l o (grams_of (entry p l o z)) ≡ entry p l o z
 entry-plain p l o z = ap (entry p l o) (signed_back z)
-
--- as the code reads it, by the form
-module _ (f : Form) (n : ℕ) where
-  pub magnitude-read : f ≡ Signed → n / 2 + n % 2 ≡ magnitude (grams_by f n)
-  magnitude-read d = rw d (by (eqb (n % 2) 1) refl)
-    where
-      by : (t : Bool) → eqb (n % 2) 1 ≡ t → n / 2 + n % 2 ≡ magnitude (cond t (negsuc (n / 2)) (pos (n / 2)))
-      by true e = let o : n % 2 ≡ 1 = eqb-true (n % 2) 1 e in omega arith
-      by false e = let o : n % 2 ≡ 0 = parity n e in omega arith
-
-  pub below-read : f ≡ Signed → eqb (n % 2) 1 ≡ below (grams_by f n)
-  below-read d = rw d (by (eqb (n % 2) 1))
-    where
-      by : (t : Bool) → t ≡ below (cond t (negsuc (n / 2)) (pos (n / 2)))
-      by true = refl
-      by false = refl
 
 -- ---- the entries one after the other, as the loop goes
 

@@ -1,65 +1,28 @@
--- The code's steps: an entry and the count as they are read, and the register read and laid entry by entry.
-use Rattle.std.specs.Prelude.{ℕ, zero, suc, ◌+◌, ◌-◌, ◌*◌, ◌≤◌, ◌<◌, Bool, true, false, cond, ◌||◌, List, [], ◌∷◌, ◌++◌, ◌≡◌, refl, eqb, length}
+-- The code's steps: the register read and laid entry by entry.
+use Rattle.std.specs.Prelude.{ℕ, zero, suc, ◌+◌, ◌-◌, ◌*◌, ◌≤◌, ◌<◌, Bool, true, false, cond, ◌||◌, List, [], ◌∷◌, ◌++◌, ◌≡◌, refl, eqb, length, Option, Result, Some, None, Ok, Err}
 use Rattle.std.proofs.Common.{arith, append_assoc, append-nil, sym, ap, subst, ◌∙◌, length-append, eq-eqb, ne_eqb}
-use Rattle.grammar.specs.Grams.{below, magnitude}
-use Rattle.seven.specs.declared.Number.{Number}
-use Rattle.seven.specs.declared.Number.TheVariants.{Value, Bad}
+use Rattle.grammar.specs.Grams.{below}
 use Rattle.syntax.specs.Refusals.{at_zero}
 use Rattle.syntax.specs.declared.Refusal.{Refusal}
 use Rattle.writing.specs.Laid.{Laid}
 use Rattle.writing.specs.LaidLaws.{laid_same, laid-length, laid_more, laid_none}
 use Rattle.writing.specs.Written.{Text, text, no_text, refused_as, too_long, Writes}
 use Rattle.writing.specs.WrittenLaws.{writes-none, writes-over, writes-fit, length-told}
-use Rattle.writing.specs.declared.Written.{Written}
-use Rattle.writing.specs.declared.Written.TheVariants.{Length, Refused}
 use Rattle.forms.specs.declared.Form.{Form}
 use Rattle.forms.specs.declared.Entry.{Entry}
-use Rattle.moves.specs.declared.reading.Taken.{Taken}
-use Rattle.moves.specs.declared.reading.Taken.TheVariants.{One, Bad as Nothing}
-use Rattle.forms.specs.Forms.{grams_of, entry, entry_text, entries_text, mark, count_text, register_text, large, sign_lost, any_below, text_in}
+use Rattle.forms.specs.Forms.{grams_of, entry_text, entries_text, count_text, register_text, large, sign_lost, any_below, text_in}
 use Rattle.forms.specs.FormsLaws.{entries-joined, below_more, or-false}
-use Rattle.moves.specs.Stored.{number_at, grams_by, entry_at, Stored, stored, bad, before, followed, entries_at, marked, count_at, counted, stored_by, any_large, moved_to, move_of, Octets, Lays}
+use Rattle.moves.specs.Stored.{entry_at, Stored, stored, bad, before, followed, entries_at, count_at, counted, stored_by, any_large, moved_to, move_of, Octets, Lays}
 use Rattle.moves.specs.GramsLaws.{large-more}
 use Rattle.moves.specs.StoredLaws.{count-back}
 
--- ---- an entry, number by number
-
-module _ (f : Form) (s : List ℕ) (i : ℕ) {x : Number} (h : x ≡ number_at f 4 4294967295 s i) where
-  pub entry-stop : x ≡ Bad → Nothing ≡ entry_at f s i
-  entry-stop e = rw (← h, e)
-
-  module _ {p a : ℕ} (e : x ≡ Value p a) {y : Number} (k : y ≡ number_at f 4 4294967295 s a) where
-    pub entry-stop2 : y ≡ Bad → Nothing ≡ entry_at f s i
-    entry-stop2 d = rw (← h, e, ← k, d)
-
-    module _ {l b : ℕ} (d : y ≡ Value l b) {z : Number} (m : z ≡ number_at f 4 4294967295 s b) where
-      pub entry-stop3 : z ≡ Bad → Nothing ≡ entry_at f s i
-      entry-stop3 t = rw (← h, e, ← k, d, ← m, t)
-
-      module _ {o c : ℕ} (t : z ≡ Value o c) {w : Number} (n : w ≡ number_at f 8 18446744073709551615 s c) where
-        pub entry-stop4 : w ≡ Bad → Nothing ≡ entry_at f s i
-        entry-stop4 u = rw (← h, e, ← k, d, ← m, t, ← n, u)
-
-        pub entry_read : {v q g : ℕ} {b : Bool} → w ≡ Value v q → g ≡ magnitude (grams_by f v) → b ≡ below (grams_by f v)
-            → One (record { place = p; length = l; loads = o; grams = g; below = b }) q ≡ entry_at f s i
-        entry_read u x y = rw (← h, e, ← k, d, ← m, t, ← n, u, x, y)
-
--- ---- the count behind its mark
-
-module _ (f : Form) (s : List ℕ) {b : Bool} (h : b ≡ marked f s) where
-  pub count-other : b ≡ false → Bad ≡ count_at f s
-  count-other e = rw (← h, e)
-
-  pub count-read : {r : Number} {m : ℕ} → b ≡ true → m ≡ length (mark f) → r ≡ number_at f 4 65535 s m → r ≡ count_at f s
-  count-read e d k = k ∙ rw (← h, e, d)
-
 -- ---- a refusal
 
-module _ (f g : Form) (s out : List ℕ) {r : Written} (out' : List ℕ) (q : r ≡ refused_as 17) where
+module _ (f g : Form) (s out : List ℕ) {r : Result ℕ Refusal} (out' : List ℕ) (q : r ≡ refused_as 17) where
   lays-bad : stored_by f s ≡ bad → Lays (move_of f g s) out r out'
   lays-bad e = subst (λ (x : Stored). Lays (moved_to g x) out r out') (sym e) q
 
-  pub count-bad : {x : Number} → x ≡ count_at f s → x ≡ Bad → Lays (move_of f g s) out r out'
+  pub count-bad : {x : Option (ℕ × ℕ)} → x ≡ count_at f s → x ≡ None → Lays (move_of f g s) out r out'
   count-bad h e = lays-bad (ap (counted f s) (sym h ∙ e))
 
 -- ---- the loop: `seen` were read and laid, one of them is below zero or not, and so many are left from i on
@@ -97,8 +60,8 @@ entries-last f zero s i h = refl
 entries-last f (suc n) s i h = absurd (omega arith)
 
 module _ (f g : Form) (s : List ℕ) where
-  pub moving-start : Octets s → {x : Number} {n a p : ℕ} {out : List ℕ} → x ≡ count_at f s → x ≡ Value n a → p ≤ 11 → Moving f g s p out n out p a n false
-  moving-start o {x} {n} {a} {p} h e l = record {
+  pub moving-start : Octets s → {x : Option (ℕ × ℕ)} {n a p left : ℕ} {out : List ℕ} → left ≡ n → x ≡ count_at f s → x ≡ Some (n, a) → p ≤ 11 → Moving f g s p out n out p a left false
+  moving-start o {x} {n} {a} {p} z h e l = rw z (record {
     seen = [];
     going = ap (counted f s) (sym h ∙ e) ∙ sym (before-none (entries_at f n s a));
     fits = refl;
@@ -108,18 +71,18 @@ module _ (f g : Form) (s : List ℕ) where
     near = omega (arith, l);
     laid = laid_none;
     same = refl;
-  }
+  })
 
 module _ {f g : Form} {s : List ℕ} {p₀ : ℕ} {out₀ : List ℕ} {n : ℕ} {out : List ℕ} {p i left : ℕ} {any : Bool} (m : Moving f g s p₀ out₀ n out p i left any) where
   pub moving-room : 0 < left → p + 40 < 18446744073709551616
   moving-room h = omega (arith, m.near, m.sum, m.few)
 
-  next : {y z : Taken} → 0 < left → y ≡ entry_at f s i → y ≡ z → stored_by f s ≡ before m.seen (followed z (entries_at f (left - 1) s))
-  next h d e = m.going ∙ ap (before m.seen) (entries_next f left s i h ∙ ap (λ (t : Taken). followed t (entries_at f (left - 1) s)) (sym d ∙ e))
+  next : {y z : Option (Entry × ℕ)} → 0 < left → y ≡ entry_at f s i → y ≡ z → stored_by f s ≡ before m.seen (followed z (entries_at f (left - 1) s))
+  next h d e = m.going ∙ ap (before m.seen) (entries_next f left s i h ∙ ap (λ (t : Option (Entry × ℕ)). followed t (entries_at f (left - 1) s)) (sym d ∙ e))
 
-  pub moving-on : {y : Taken} {e : Entry} {q r : ℕ} {out' : List ℕ} {t u : Bool} → 0 < left → y ≡ entry_at f s i → y ≡ One e q → t ≡ large g (grams_of e) → t ≡ false
-      → u ≡ (any || below (grams_of e)) → Laid out p (entry_text g e) r out' × (r ≤ p + 40) → Moving f g s p₀ out₀ n out' r q (left - 1) u
-  moving-on {e = e} {q = q} h d k v w u l = record {
+  pub moving-on : {y : Option (Entry × ℕ)} {e : Entry} {q r : ℕ} {out' : List ℕ} {t u : Bool} {rest : ℕ} → rest ≡ left - 1 → 0 < left → y ≡ entry_at f s i → y ≡ Some (e, q) → t ≡ large g (grams_of e) → t ≡ false
+      → u ≡ (any || below (grams_of e)) → Laid out p (entry_text g e) r out' × (r ≤ p + 40) → Moving f g s p₀ out₀ n out' r q rest u
+  moving-on {e = e} {q = q} z h d k v w u l = rw z (record {
     seen = m.seen ++ (e ∷ []);
     going = next h d k ∙ before_more m.seen e (entries_at f (left - 1) s q);
     fits = large-more g m.seen (e ∷ []) ∙ rw (m.fits, ← v, w);
@@ -129,13 +92,13 @@ module _ {f g : Form} {s : List ℕ} {p₀ : ℕ} {out₀ : List ℕ} {n : ℕ} 
     near = omega (arith, m.near, l.1, length-append m.seen (e ∷ []));
     laid = laid_same (sym (entries-more g m.seen e)) (laid_more m.laid l.0);
     same = laid-length l.0 ∙ m.same;
-  }
+  })
 
-  pub moving-bad : (w : List ℕ) {y : Taken} {r : Written} → 0 < left → y ≡ entry_at f s i → y ≡ Nothing → r ≡ refused_as 17 → Lays (move_of f g s) w r out
+  pub moving-bad : (w : List ℕ) {y : Option (Entry × ℕ)} {r : Result ℕ Refusal} → 0 < left → y ≡ entry_at f s i → y ≡ None → r ≡ refused_as 17 → Lays (move_of f g s) w r out
   moving-bad w h d k q = lays-bad f g s w out q (next h d k)
 
   -- grams that are too large are 17, whatever comes behind them
-  pub moving-large : (w : List ℕ) {y : Taken} {e : Entry} {q : ℕ} {t : Bool} {r : Written} → 0 < left → y ≡ entry_at f s i → y ≡ One e q → t ≡ large g (grams_of e) → t ≡ true → r ≡ refused_as 17
+  pub moving-large : (w : List ℕ) {y : Option (Entry × ℕ)} {e : Entry} {q : ℕ} {t : Bool} {r : Result ℕ Refusal} → 0 < left → y ≡ entry_at f s i → y ≡ Some (e, q) → t ≡ large g (grams_of e) → t ≡ true → r ≡ refused_as 17
       → Lays (move_of f g s) w r out
   moving-large w {e = e} {q = q} {r = r} h d k v u z = subst (λ (x : Stored). Lays (moved_to g x) w r out) (sym (next h d k ∙ before_more m.seen e (entries_at f (left - 1) s q))) (by (entries_at f (left - 1) s q))
     where
@@ -151,7 +114,7 @@ module _ {f g : Form} {s : List ℕ} {p₀ : ℕ} {out₀ : List ℕ} {n : ℕ} 
   last : left ≤ 0 → {b : Bool} → eqb i (length s) ≡ b → stored_by f s ≡ before m.seen (cond b (stored []) bad)
   last h e = m.going ∙ ap (before m.seen) (entries-last f left s i h ∙ ap (λ (b : Bool). cond b (stored []) bad) e)
 
-  pub moving-over : (w : List ℕ) {r : Written} → left ≤ 0 → (i ≡ length s → ⊥) → r ≡ refused_as 17 → Lays (move_of f g s) w r out
+  pub moving-over : (w : List ℕ) {r : Result ℕ Refusal} → left ≤ 0 → (i ≡ length s → ⊥) → r ≡ refused_as 17 → Lays (move_of f g s) w r out
   moving-over w h d q = lays-bad f g s w out q (last h (ne_eqb i (length s) d))
 
   -- all were read
@@ -159,46 +122,46 @@ module _ {f g : Form} {s : List ℕ} {p₀ : ℕ} {out₀ : List ℕ} {n : ℕ} 
   done h d = ap (moved_to g) (last h (eq-eqb i (length s) d) ∙ ap stored (append-nil m.seen)) ∙ rw m.fits
 
   module _ {t : Bool} (v : t ≡ sign_lost g any) where
-    pub moving-sign : (w : List ℕ) {r : Written} → left ≤ 0 → i ≡ length s → t ≡ true → r ≡ refused_as 19 → Lays (move_of f g s) w r out
+    pub moving-sign : (w : List ℕ) {r : Result ℕ Refusal} → left ≤ 0 → i ≡ length s → t ≡ true → r ≡ refused_as 19 → Lays (move_of f g s) w r out
     moving-sign w {r} h d e q =
         let k : sign_lost g (any_below m.seen) ≡ true = sym (v ∙ ap (sign_lost g) m.signs) ∙ e in
         let z : move_of f g s ≡ no_text (at_zero 19) = done h d ∙ rw k in
         subst (λ (x : Text). Lays x w r out) (sym z) q
 
-    pub moving-end : {w : List ℕ} → left ≤ 0 → i ≡ length s → t ≡ false → Laid w 0 (count_text g n) p₀ out₀ → Lays (move_of f g s) w (Length p) out
+    pub moving-end : {w : List ℕ} → left ≤ 0 → i ≡ length s → t ≡ false → Laid w 0 (count_text g n) p₀ out₀ → Lays (move_of f g s) w (Ok p) out
     moving-end {w} h d e l =
         let k : sign_lost g (any_below m.seen) ≡ false = sym (v ∙ ap (sign_lost g) m.signs) ∙ e in
         let z : move_of f g s ≡ text (register_text g m.seen) = done h d ∙ rw k in
-        subst (λ (x : Text). Lays x w (Length p) out) (sym z) (told (omega (arith, m.sum)) (laid_more l m.laid))
+        subst (λ (x : Text). Lays x w (Ok p) out) (sym z) (told (omega (arith, m.sum)) (laid_more l m.laid))
       where
-        told : n ≡ length m.seen → Laid w 0 (count_text g n ++ entries_text g m.seen) p out → (Length p ≡ Length (length (register_text g m.seen))) × Laid w 0 (register_text g m.seen) (length (register_text g m.seen)) out
+        told : n ≡ length m.seen → Laid w 0 (count_text g n ++ entries_text g m.seen) p out → (◌≡◌ {A = Result ℕ Refusal} (Ok p) (Ok (length (register_text g m.seen)))) × Laid w 0 (register_text g m.seen) (length (register_text g m.seen)) out
         told e l =
             let v : Laid w 0 (register_text g m.seen) p out = laid_same (ap (λ (c : ℕ). count_text g c ++ entries_text g m.seen) e) l in
             let z : p ≡ length (register_text g m.seen) = omega (arith, v.place) in
-            (ap Length z, subst (λ (j : ℕ). Laid w 0 (register_text g m.seen) j out) z v)
+            (ap Ok z, subst (λ (j : ℕ). Laid w 0 (register_text g m.seen) j out) z v)
 
 -- ---- measured in no room, and then laid
 
-pub move-refused : (x : Text) (none none' out : List ℕ) {r : Written} {f : Refusal} → r ≡ Refused f → Lays x none r none' → Writes x out (Refused f) out
+pub move-refused : (x : Text) (none none' out : List ℕ) {r : Result ℕ Refusal} {f : Refusal} → r ≡ Err f → Lays x none r none' → Writes x out (Err f) out
 move-refused (no_text g) none none' out e l = writes-none (sym e ∙ l)
 move-refused (text t) none none' out e l = length-told (sym l.0 ∙ e)
 
-length-of : {m n : ℕ} → Length m ≡ Length n → m ≡ n
+length-of : {m n : ℕ} → ◌≡◌ {A = Result ℕ Refusal} (Ok m) (Ok n) → m ≡ n
 length-of e = cc
 
-measured : (x : Text) (none none' : List ℕ) {r : Written} {m : ℕ} → r ≡ Length m → Lays x none r none' → (t : List ℕ) × ((x ≡ text t) × (m ≡ length t))
+measured : (x : Text) (none none' : List ℕ) {r : Result ℕ Refusal} {m : ℕ} → r ≡ Ok m → Lays x none r none' → (t : List ℕ) × ((x ≡ text t) × (m ≡ length t))
 measured (no_text f) none none' e l = length-told (sym e ∙ l)
 measured (text t) none none' e l = (t, (refl, length-of (sym e ∙ l.0)))
 
-module _ (x : Text) (none none' : List ℕ) {r : Written} {m : ℕ} (e : r ≡ Length m) (l : Lays x none r none') {out : List ℕ} {b : Bool} (d : b ≡ too_long (length out) m) where
-  pub move-over : {q : Written} → b ≡ true → q ≡ refused_as 15 → Writes x out q out
+module _ (x : Text) (none none' : List ℕ) {r : Result ℕ Refusal} {m : ℕ} (e : r ≡ Ok m) (l : Lays x none r none') {out : List ℕ} {b : Bool} (d : b ≡ too_long (length out) m) where
+  pub move-over : {q : Result ℕ Refusal} → b ≡ true → q ≡ refused_as 15 → Writes x out q out
   move-over {q} h k =
       let w = measured x none none' e l in
       subst (λ (y : Text). Writes y out q out) (sym w.1.0) (writes-over w.1.1 d h k)
 
-  pub move-fit : {q : Written} {out' : List ℕ} → b ≡ false → Lays x out q out' → Writes x out q out'
+  pub move-fit : {q : Result ℕ Refusal} {out' : List ℕ} → b ≡ false → Lays x out q out' → Writes x out q out'
   move-fit {q} {out'} h k =
       let w = measured x none none' e l in
       let v : Lays (text w.0) out q out' = subst (λ (y : Text). Lays y out q out') w.1.0 k in
-      let z : q ≡ Length m = v.0 ∙ ap Length (sym w.1.1) in
-      subst (λ (y : Text). Writes y out q out') (sym w.1.0) (subst (λ (a : Written). Writes (text w.0) out a out') (sym z) (writes-fit w.1.1 d h v.1))
+      let z : q ≡ Ok m = v.0 ∙ ap Ok (sym w.1.1) in
+      subst (λ (y : Text). Writes y out q out') (sym w.1.0) (subst (λ (a : Result ℕ Refusal). Writes (text w.0) out a out') (sym z) (writes-fit w.1.1 d h v.1))

@@ -1,19 +1,19 @@
 -- A number that is written is read, and one that is read is written so, in each form.
-use Rattle.std.specs.Prelude.{ℕ, zero, suc, ◌+◌, ◌-◌, ◌*◌, ◌/◌, ◌%◌, ◌≤◌, ◌<◌, Bool, true, false, cond, ◌≡◌, refl, leb, eqb, length, get_or, drop}
+use Rattle.std.proofs.Common.{◌⊎◌, inl, inr}
+use Rattle.std.specs.Prelude.{ℕ, zero, suc, ◌+◌, ◌-◌, ◌*◌, ◌/◌, ◌%◌, ◌≤◌, ◌<◌, Bool, true, false, cond, ◌≡◌, refl, leb, length, get_or, drop, Option, Some, None}
 use Rattle.std.proofs.Math.Nat.{div-div-eq-div-mul, div-eq_of_lt}
-use Rattle.std.proofs.Common.{div-one, mul_comm, add-one, arith, sym, ◌∙◌, drop_of_length-le, length-append, drop-drop, drop_at, get_or-drop, drop-cons, le-leb, leb-true, ne_eqb}
+use Rattle.std.proofs.Common.{div-one, mul_comm, add-one, arith, sym, ◌∙◌, drop_of_length-le, length-append, drop-drop, drop_at, get_or-drop, drop-cons, le-leb, leb-true}
 use mathlib.Core.List.{List, [], ◌∷◌, ◌++◌, append_assoc, append-nil}
 use Rattle.std.proofs.Math.Path.{ap}
 use Rattle.std.proofs.lemmas.Bool.{lt-leb}
+use Rattle.std.proofs.lemmas.Option.{some_pair_parts}
 use Rattle.seven.specs.Groups.{read_from}
 use Rattle.seven.specs.TripLaws.{read-written, read-sound}
-use Rattle.seven.specs.declared.Number.{Number}
-use Rattle.seven.specs.declared.Number.TheVariants.{Value, Bad}
 use Rattle.forms.specs.declared.Form.{Form}
 use Rattle.forms.specs.declared.Form.TheVariants.{Old, Small, Signed}
 use Rattle.forms.specs.Forms.{power, highest, number_text}
 use Rattle.forms.specs.FormsLaws.{highest-length}
-use Rattle.moves.specs.Stored.{high_from, number_at, marked, Octets}
+use Rattle.moves.specs.Stored.{high_from, number_at, Octets}
 
 -- ---- a text that stands at a place
 
@@ -61,13 +61,13 @@ spell-whole {s} {t} g =
 part : (n k : ℕ) → n / power (suc k) ≡ n / power k / 256
 part n k = ap (λ (m : ℕ). n / m) (mul_comm 256 (power k)) ∙ sym (div-div-eq-div-mul n (power k) 256)
 
-high-there : (k most n : ℕ) (t : List ℕ) (i : ℕ) → n ≤ most → high_from k (n / power k) most (highest k n ++ t) i ≡ Value n (i + k)
+high-there : (k most n : ℕ) (t : List ℕ) (i : ℕ) → n ≤ most → high_from k (n / power k) most (highest k n ++ t) i ≡ Some (n, i + k)
 unfolding high_from
-high-there zero most n t i h = rw (div-one n, le-leb n most h) (ap (Value n) (omega arith))
+high-there zero most n t i h = rw (div-one n, le-leb n most h) (ap (λ q. Some (n, q)) (omega arith))
 high-there (suc k) most n t i h =
     let x : ℕ = n / power k in
     let e : n / power (suc k) * 256 + n / power k % 256 ≡ n / power k = ap (λ (m : ℕ). m * 256 + n / power k % 256) (part n k) ∙ omega arith in
-    ap (λ (v : ℕ). high_from k v most (highest k n ++ t) (suc i)) e ∙ high-there k most n t (suc i) h ∙ ap (Value n) (omega arith)
+    ap (λ (v : ℕ). high_from k v most (highest k n ++ t) (suc i)) e ∙ high-there k most n t (suc i) h ∙ ap (λ q. Some (n, q)) (omega arith)
 
 record High (k most v : ℕ) (s : List ℕ) (i n q : ℕ) : Type 0 where
   pub rest : List ℕ
@@ -76,15 +76,16 @@ record High (k most v : ℕ) (s : List ℕ) (i n q : ℕ) : Type 0 where
   pub within : n ≤ most
   pub before : n / power k ≡ v
 
-high-back : (k most v : ℕ) (s : List ℕ) (i n q : ℕ) → Octets s → high_from k v most s i ≡ Value n q → High k most v s i n q
+high-back : (k most v : ℕ) (s : List ℕ) (i n q : ℕ) → Octets s → high_from k v most s i ≡ Some (n, q) → High k most v s i n q
 unfolding high_from
 high-back zero most v s i n q o e = by (leb v most) refl e
   where
-    by : (b : Bool) → leb v most ≡ b → cond b (Value v i) Bad ≡ Value n q → High zero most v s i n q
+    by : (b : Bool) → leb v most ≡ b → cond {A = Option (ℕ × ℕ)} b (Some (v, i)) None ≡ Some (n, q) → High zero most v s i n q
     by false y w = let z : ◌≡◌ {A = ℕ} 0 1 = cc in absurd (omega arith)
     by true y w =
-        let a : v ≡ n = cc in
-        let b : i ≡ q = cc in
+        let both = some_pair_parts _ _ _ _ w in
+        let a : v ≡ n = both.0 in
+        let b : i ≡ q = both.1 in
         record { rest = s; spelled = refl; after = omega arith; within = omega (arith, leb-true v most y); before = div-one n ∙ sym a }
 high-back (suc k) most v [] i n q o e = let z : ◌≡◌ {A = ℕ} 0 1 = cc in absurd (omega arith)
 high-back (suc k) most v (b ∷ s) i n q o e =
@@ -110,18 +111,18 @@ octets-from : (s : List ℕ) (i : ℕ) → Octets s → Octets (drop i s)
 octets-from s i o j = rw (get_or-drop i s j 0) (o (i + j))
 
 module _ (k most : ℕ) (m : Holds k most) (s : List ℕ) where
-  pub number-there : (f : Form) {n i q : ℕ} → n ≤ most → Spell s i (number_text f k n) q → number_at f k most s i ≡ Value n q
+  pub number-there : (f : Form) {n i q : ℕ} → n ≤ most → Spell s i (number_text f k n) q → number_at f k most s i ≡ Some (n, q)
   unfolding number_text number_at
   number-there Old {n} {i} {q} h g =
       let z : n / power k ≡ 0 = div-eq_of_lt (omega (arith, m.0, h)) in
       ap (λ (u : List ℕ). high_from k 0 most u i) g.spelled ∙ ap (λ (v : ℕ). high_from k v most (highest k n ++ g.rest) i) (sym z) ∙ high-there k most n g.rest i h
-      ∙ ap (Value n) (omega (arith, g.after, highest-length k n))
+      ∙ ap (λ q. Some (n, q)) (omega (arith, g.after, highest-length k n))
   number-there Small {n} {i} {q} h g =
-      ap (λ (u : List ℕ). read_from 10 most u i) g.spelled ∙ read-written 9 most n i g.rest h (omega (arith, m.1, h)) ∙ ap (Value n) (sym g.after)
+      ap (λ (u : List ℕ). read_from 10 most u i) g.spelled ∙ read-written 9 most n i g.rest h (omega (arith, m.1, h)) ∙ ap (λ q. Some (n, q)) (sym g.after)
   number-there Signed {n} {i} {q} h g =
-      ap (λ (u : List ℕ). read_from 10 most u i) g.spelled ∙ read-written 9 most n i g.rest h (omega (arith, m.1, h)) ∙ ap (Value n) (sym g.after)
+      ap (λ (u : List ℕ). read_from 10 most u i) g.spelled ∙ read-written 9 most n i g.rest h (omega (arith, m.1, h)) ∙ ap (λ q. Some (n, q)) (sym g.after)
 
-pub number-back : (k most : ℕ) (s : List ℕ) → Octets s → (f : Form) (i : ℕ) {n q : ℕ} → number_at f k most s i ≡ Value n q → Spell s i (number_text f k n) q × (n ≤ most)
+pub number-back : (k most : ℕ) (s : List ℕ) → Octets s → (f : Form) (i : ℕ) {n q : ℕ} → number_at f k most s i ≡ Some (n, q) → Spell s i (number_text f k n) q × (n ≤ most)
 unfolding number_text number_at
 number-back k most s o Old i {n} {q} e =
     let h = high-back k most 0 (drop i s) i n q (octets-from s i o) e in
@@ -142,8 +143,8 @@ pub record Highing (s : List ℕ) (at k most v i left : ℕ) : Type 0 where
   pub short : k ≤ 8
   pub small : v < power done
 
-pub highing-start : {s : List ℕ} {at k most : ℕ} → k ≤ 8 → Highing s at k most 0 at k
-highing-start h = record { going = refl; done = 0; sum = omega arith; short = h; small = omega arith }
+pub highing-start : {s : List ℕ} {at k most left : ℕ} → left ≡ k → k ≤ 8 → Highing s at k most 0 at left
+highing-start e h = rw e (record { going = refl; done = 0; sum = omega arith; short = h; small = omega arith })
 
 power-most : (j : ℕ) → j ≤ 7 → power j ≤ 72057594037927936
 power-most zero h = omega arith
@@ -160,7 +161,7 @@ module _ {s : List ℕ} {at k most v i left : ℕ} where
   pub highing-fits : Highing s at k most v i left → 0 < left → v < 72057594037927936
   highing-fits g h = omega (arith, g.small, power-most g.done (omega (arith, g.sum, g.short, h)))
 
-high-empty : (k v most i : ℕ) → 0 < k → high_from k v most [] i ≡ Bad
+high-empty : (k v most i : ℕ) → 0 < k → high_from k v most [] i ≡ None
 unfolding high_from
 high-empty zero v most i h = absurd (omega arith)
 high-empty (suc k) v most i h = refl
@@ -172,56 +173,39 @@ high-next (suc k) v most b s i h =
     let z : suc k - 1 ≡ k = omega arith in
     rw (z, add-one i)
 
-high-last : (k v most : ℕ) (s : List ℕ) (i : ℕ) → k ≤ 0 → high_from k v most s i ≡ cond (leb v most) (Value v i) Bad
+high-last : (k v most : ℕ) (s : List ℕ) (i : ℕ) → k ≤ 0 → high_from k v most s i ≡ cond (leb v most) (Some (v, i)) None
 unfolding high_from
 high-last zero v most s i h = refl
 high-last (suc k) v most s i h = absurd (omega arith)
 
 module _ {s : List ℕ} {at k most v i left : ℕ} (g : Highing s at k most v i left) where
-  pub highing-cut : 0 < left → length s ≤ i → Bad ≡ high_from k 0 most (drop at s) at
+  pub highing-cut : 0 < left → length s ≤ i → None ≡ high_from k 0 most (drop at s) at
   highing-cut h l = sym (g.going ∙ ap (λ (u : List ℕ). high_from left v most u i) (drop_of_length-le s {i = i} l) ∙ high-empty left v most i h)
 
-  pub highing-on : {w : ℕ} → 0 < left → i < length s → (w ≡ get_or s i 0) × (w < 256) → Highing s at k most (v * 256 + w) (i + 1) (left - 1)
-  highing-on {w} h l e = record {
+  pub highing-on : {w next : ℕ} → next ≡ left - 1 → 0 < left → i < length s → (w ≡ get_or s i 0) × (w < 256) → Highing s at k most (v * 256 + w) (i + 1) next
+  highing-on {w} q h l e = rw q (record {
     going = g.going ∙ ap (λ (u : List ℕ). high_from left v most u i) (drop-cons s i 0 l) ∙ high-next left v most (get_or s i 0) (drop (suc i) s) i h
         ∙ ap (λ (b : ℕ). high_from (left - 1) (v * 256 + b) most (drop (suc i) s) (i + 1)) (sym e.0) ∙ ap (λ (j : ℕ). high_from (left - 1) (v * 256 + w) most (drop j s) (i + 1)) (sym (add-one i));
     done = suc g.done;
     sum = omega (arith, g.sum);
     short = g.short;
     small = omega (arith, g.small, e.1);
-  }
+  })
 
-  pub highing-end : left ≤ 0 → v ≤ most → Value v i ≡ high_from k 0 most (drop at s) at
+  pub highing-end : left ≤ 0 → v ≤ most → Some (v, i) ≡ high_from k 0 most (drop at s) at
   highing-end h l = sym (g.going ∙ high-last left v most (drop i s) i h ∙ rw (le-leb v most l))
 
-  pub highing-over : left ≤ 0 → most < v → Bad ≡ high_from k 0 most (drop at s) at
+  pub highing-over : left ≤ 0 → most < v → None ≡ high_from k 0 most (drop at s) at
   highing-over h l = sym (g.going ∙ high-last left v most (drop i s) i h ∙ rw (lt-leb v most l))
 
 -- ---- a number by its form, as the code has it
 
 module _ (f : Form) (k : ℕ) where
-  pub number-old : (most : ℕ) (s : List ℕ) (i : ℕ) {r : Number} → f ≡ Old → r ≡ high_from k 0 most (drop i s) i → r ≡ number_at f k most s i
+  pub number-old : (most : ℕ) (s : List ℕ) (i : ℕ) {r : Option (ℕ × ℕ)} → f ≡ Old → r ≡ high_from k 0 most (drop i s) i → r ≡ number_at f k most s i
   unfolding number_at
   number-old most s i e h = rw e h
 
-  pub number_small : (most : ℕ) (s : List ℕ) (i : ℕ) {r : Number} → f ≡ Small → r ≡ read_from 10 most (drop i s) i → r ≡ number_at f k most s i
+  pub number-new : (most : ℕ) (s : List ℕ) (i : ℕ) {r : Option (ℕ × ℕ)} → (f ≡ Small) ⊎ (f ≡ Signed) → r ≡ read_from 10 most (drop i s) i → r ≡ number_at f k most s i
   unfolding number_at
-  number_small most s i e h = rw e h
-
-  pub number-signed : (most : ℕ) (s : List ℕ) (i : ℕ) {r : Number} → f ≡ Signed → r ≡ read_from 10 most (drop i s) i → r ≡ number_at f k most s i
-  unfolding number_at
-  number-signed most s i e h = rw e h
-
--- ---- the mark by its form
-
-pub marked-old : (f : Form) (s : List ℕ) → f ≡ Old → true ≡ marked f s
-marked-old f s e = rw e
-
-pub first-none : (s : List ℕ) (b : ℕ) → length s ≡ 0 → 0 < b → false ≡ eqb (get_or s 0 0) b
-first-none s b z h = let d : s ≡ [] = no_more s z in rw d (sym (ne_eqb 0 b (λ e. omega (arith, e))))
-
-pub marked-small : (f : Form) (s : List ℕ) {b : Bool} → f ≡ Small → b ≡ eqb (get_or s 0 0) 2 → b ≡ marked f s
-marked-small f s e h = rw e h
-
-pub marked-signed : (f : Form) (s : List ℕ) {b : Bool} → f ≡ Signed → b ≡ eqb (get_or s 0 0) 3 → b ≡ marked f s
-marked-signed f s e h = rw e h
+  number-new most s i (inl e) h = rw e h
+  number-new most s i (inr e) h = rw e h

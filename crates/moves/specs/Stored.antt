@@ -1,33 +1,28 @@
 -- A stored register, as it is read in each form, and the moves: "17, in moves only, for a stored form that starts otherwise, is cut, overlong, has octets left over, has a count above
 -- 65,535, another number of 2^32 or more or a grams number of 2^64 or more, before 15". Nothing here looks at an interchange: places and lengths are compared with nothing.
 -- A form more is a case more in `number_at`, `grams_by` and `marked`.
-use Rattle.std.specs.Prelude.{ℕ, zero, suc, ◌+◌, ◌*◌, ◌/◌, ◌%◌, ◌≤◌, ◌<◌, Bool, true, false, cond, ◌||◌, List, [], ◌∷◌, ◌++◌, ◌≡◌, T, leb, ltb, eqb, pos, negsuc, length, get_or, drop}
+use Rattle.syntax.specs.declared.Refusal.{Refusal}
+use Rattle.std.specs.Prelude.{ℕ, zero, suc, ◌+◌, ◌*◌, ◌/◌, ◌%◌, ◌≤◌, ◌<◌, Bool, true, false, cond, ◌||◌, List, [], ◌∷◌, ◌++◌, ◌≡◌, T, leb, ltb, eqb, pos, negsuc, length, get_or, drop, Option, Result, Some, None, Ok, Err}
 use Rattle.syntax.specs.Refusals.{at_zero}
 use Rattle.grammar.specs.Grams.{Grams}
 use Rattle.seven.specs.Groups.{read_from}
-use Rattle.seven.specs.declared.Number.{Number}
-use Rattle.seven.specs.declared.Number.TheVariants.{Value, Bad}
 use Rattle.writing.specs.Laid.{Laid}
 use Rattle.writing.specs.Written.{Text, text, no_text}
-use Rattle.writing.specs.declared.Written.{Written}
-use Rattle.writing.specs.declared.Written.TheVariants.{Length, Refused}
 use Rattle.forms.specs.Forms.{mark, entry, grams_of, large, text_in}
 use Rattle.forms.specs.declared.Form.{Form}
 use Rattle.forms.specs.declared.Form.TheVariants.{Old, Small, Signed}
 use Rattle.forms.specs.declared.Entry.{Entry}
-use Rattle.moves.specs.declared.reading.Taken.{Taken}
-use Rattle.moves.specs.declared.reading.Taken.TheVariants.{One, Bad as Nothing}
 
 -- ---- a number: it and the place after it, or Bad where 17 is due
 
 -- k octets behind others that give v; "cut", or above the most
-unfoldable pub high_from : ℕ → ℕ → ℕ → List ℕ → ℕ → Number
-high_from zero v most s i = cond (leb v most) (Value v i) Bad
-high_from (suc k) v most [] i = Bad
+unfoldable pub high_from : ℕ → ℕ → ℕ → List ℕ → ℕ → Option (ℕ × ℕ)
+high_from zero v most s i = cond (leb v most) (Some (v, i)) None
+high_from (suc k) v most [] i = None
 high_from (suc k) v most (b ∷ s) i = high_from k (v * 256 + b) most s (suc i)
 
 -- at place i of s; in the old form it has k octets. "overlong": `seven` `Groups.joined`
-unfoldable pub number_at : Form → ℕ → ℕ → List ℕ → ℕ → Number
+unfoldable pub number_at : Form → ℕ → ℕ → List ℕ → ℕ → Option (ℕ × ℕ)
 number_at Old k most s i = high_from k 0 most (drop i s) i
 number_at Small k most s i = read_from 10 most (drop i s) i
 number_at Signed k most s i = read_from 10 most (drop i s) i
@@ -44,18 +39,18 @@ grams_by Signed n = halved n
 
 -- ---- an entry
 
-abbrev pub and_then : Number → (ℕ → ℕ → Taken) → Taken
-and_then Bad k = Nothing
-and_then (Value n q) k = k n q
+abbrev pub and_then : Option (ℕ × ℕ) → (ℕ → ℕ → Option (Entry × ℕ)) → Option (Entry × ℕ)
+and_then None k = None
+and_then (Some (n, q)) k = k n q
 
 -- "another number of 2^32 or more or a grams number of 2^64 or more"
-abbrev pub entry_at : Form → List ℕ → ℕ → Taken
+abbrev pub entry_at : Form → List ℕ → ℕ → Option (Entry × ℕ)
 entry_at f s i =
     and_then (number_at f 4 4294967295 s i) λ p a.
     and_then (number_at f 4 4294967295 s a) λ l b.
     and_then (number_at f 4 4294967295 s b) λ o c.
     and_then (number_at f 8 18446744073709551615 s c) λ n d.
-    One (entry p l o (grams_by f n)) d
+    Some (entry p l o (grams_by f n), d)
 
 -- ---- the register: its entries, or `bad` where 17 is due
 
@@ -67,9 +62,9 @@ abbrev pub before : List Entry → Stored → Stored
 before es bad = bad
 before es (stored fs) = stored (es ++ fs)
 
-abbrev pub followed : Taken → (ℕ → Stored) → Stored
-followed Nothing k = bad
-followed (One e q) k = before (e ∷ []) (k q)
+abbrev pub followed : Option (Entry × ℕ) → (ℕ → Stored) → Stored
+followed None k = bad
+followed (Some (e, q)) k = before (e ∷ []) (k q)
 
 -- so many entries from place i on, and no "octets left over" behind them
 unfoldable pub entries_at : Form → ℕ → List ℕ → ℕ → Stored
@@ -83,12 +78,12 @@ marked Small s = eqb (get_or s 0 0) 2
 marked Signed s = eqb (get_or s 0 0) 3
 
 -- "a count above 65,535"
-abbrev pub count_at : Form → List ℕ → Number
-count_at f s = cond (marked f s) (number_at f 4 65535 s (length (mark f))) Bad
+abbrev pub count_at : Form → List ℕ → Option (ℕ × ℕ)
+count_at f s = cond (marked f s) (number_at f 4 65535 s (length (mark f))) None
 
-abbrev pub counted : Form → List ℕ → Number → Stored
-counted f s Bad = bad
-counted f s (Value n i) = entries_at f n s i
+abbrev pub counted : Form → List ℕ → Option (ℕ × ℕ) → Stored
+counted f s None = bad
+counted f s (Some (n, i)) = entries_at f n s i
 
 abbrev pub stored_by : Form → List ℕ → Stored
 stored_by f s = counted f s (count_at f s)
@@ -136,6 +131,6 @@ Octets s = (j : ℕ) → get_or s j 0 < 256
 
 -- ---- as the code lays it: the text from the front on, as far as there is room, and its length; or the refusal
 
-abbrev pub Lays : Text → List ℕ → Written → List ℕ → Type 0
-Lays (no_text f) out r out' = r ≡ Refused f
-Lays (text t) out r out' = (r ≡ Length (length t)) × Laid out 0 t (length t) out'
+abbrev pub Lays : Text → List ℕ → Result ℕ Refusal → List ℕ → Type 0
+Lays (no_text f) out r out' = r ≡ Err f
+Lays (text t) out r out' = (r ≡ Ok (length t)) × Laid out 0 t (length t) out'

@@ -1,15 +1,12 @@
 -- What is printed is read back, what is read was printed so, and a move there and back gives the same octets.
-use Rattle.std.specs.Prelude.{ℕ, zero, suc, ◌+◌, ◌-◌, ◌≤◌, Bool, true, false, cond, List, [], ◌∷◌, ◌++◌, ◌≡◌, refl, T, eqb, length, drop}
+use Rattle.std.specs.Prelude.{ℕ, zero, suc, ◌+◌, ◌≤◌, Bool, true, false, cond, List, [], ◌∷◌, ◌++◌, ◌≡◌, refl, T, eqb, length, drop, Option, Some, None}
 use Rattle.std.proofs.Common.{arith, append_assoc, sym, ap, subst, ◌∙◌, eq-eqb, eqb-true}
-use Rattle.seven.specs.declared.Number.{Number}
-use Rattle.seven.specs.declared.Number.TheVariants.{Value, Bad}
+use Rattle.std.proofs.lemmas.Option.{some_pair_parts}
 use Rattle.grammar.specs.Grams.{Grams}
 use Rattle.writing.specs.Written.{text}
 use Rattle.forms.specs.declared.Form.{Form}
 use Rattle.forms.specs.declared.Form.TheVariants.{Old, Small, Signed}
 use Rattle.forms.specs.declared.Entry.{Entry}
-use Rattle.moves.specs.declared.reading.Taken.{Taken}
-use Rattle.moves.specs.declared.reading.Taken.TheVariants.{One, Bad as Nothing}
 use Rattle.forms.specs.Forms.{number_text, grams_of, entry, grams_number, entry_text, entries_text, mark, count_text, register_text}
 use Rattle.moves.specs.Stored.{number_at, grams_by, and_then, entry_at, Stored, stored, bad, before, followed, entries_at, marked, count_at, counted, stored_by, moved_to, move_of, holds, Octets, Fit, AllFit}
 use Rattle.moves.specs.NumberLaws.{Spell, spell-more, spell-first, spell_last, spell-none, spell-all, spell-whole, Holds, number-there, number-back}
@@ -27,7 +24,7 @@ few = (omega arith, omega arith)
 -- ---- an entry
 
 module _ (f : Form) (s : List ℕ) where
-  pub entry-there : (e : Entry) (i q : ℕ) → Fit f e → Spell s i (entry_text f e) q → entry_at f s i ≡ One e q
+  pub entry-there : (e : Entry) (i q : ℕ) → Fit f e → Spell s i (entry_text f e) q → entry_at f s i ≡ Some (e, q)
   entry-there e i q h g =
       let b = held_back f (grams_of e) h.grams in
       let P = number_text f 4 e.place in
@@ -38,17 +35,17 @@ module _ (f : Form) (s : List ℕ) where
       let c = spell-first (P ++ L ++ O) G g in
       let d = spell-first (P ++ L) O c in
       let a = spell-first P L d in
-      let w : number_at f 4 4294967295 s i ≡ Value e.place (i + length P) = number-there 4 4294967295 four s f h.place a in
-      let x : number_at f 4 4294967295 s (i + length P) ≡ Value e.length (i + length (P ++ L)) = number-there 4 4294967295 four s f h.length (spell_last P L d) in
-      let y : number_at f 4 4294967295 s (i + length (P ++ L)) ≡ Value e.loads (i + length (P ++ L ++ O)) = number-there 4 4294967295 four s f h.loads (spell_last (P ++ L) O c) in
-      let z : number_at f 8 18446744073709551615 s (i + length (P ++ L ++ O)) ≡ Value n q = number-there 8 18446744073709551615 eight s f b.0 (spell_last (P ++ L ++ O) G g) in
-      rw (w, x, y, z) (ap (λ (e : Entry). One e q) (ap (entry e.place e.length e.loads) b.1 ∙ h.plain))
+      let w : number_at f 4 4294967295 s i ≡ Some (e.place, i + length P) = number-there 4 4294967295 four s f h.place a in
+      let x : number_at f 4 4294967295 s (i + length P) ≡ Some (e.length, i + length (P ++ L)) = number-there 4 4294967295 four s f h.length (spell_last P L d) in
+      let y : number_at f 4 4294967295 s (i + length (P ++ L)) ≡ Some (e.loads, i + length (P ++ L ++ O)) = number-there 4 4294967295 four s f h.loads (spell_last (P ++ L) O c) in
+      let z : number_at f 8 18446744073709551615 s (i + length (P ++ L ++ O)) ≡ Some (n, q) = number-there 8 18446744073709551615 eight s f b.0 (spell_last (P ++ L ++ O) G g) in
+      rw (w, x, y, z) (ap (λ (e : Entry). Some (e, q)) (ap (entry e.place e.length e.loads) b.1 ∙ h.plain))
 
-then_one : (x : Number) (k : ℕ → ℕ → Taken) {e : Entry} {q : ℕ} → and_then x k ≡ One e q → (n : ℕ) × (a : ℕ) × ((x ≡ Value n a) × (k n a ≡ One e q))
-then_one Bad k w = let z : ◌≡◌ {A = ℕ} 0 1 = cc in absurd (omega arith)
-then_one (Value n a) k w = (n, a, (refl, w))
+then_one : (x : Option (ℕ × ℕ)) (k : ℕ → ℕ → Option (Entry × ℕ)) {e : Entry} {q : ℕ} → and_then x k ≡ Some (e, q) → (n : ℕ) × (a : ℕ) × ((x ≡ Some (n, a)) × (k n a ≡ Some (e, q)))
+then_one None k w = let z : ◌≡◌ {A = ℕ} 0 1 = cc in absurd (omega arith)
+then_one (Some (n, a)) k w = (n, a, (refl, w))
 
-pub entry-back : (f : Form) (s : List ℕ) → Octets s → (i : ℕ) {e : Entry} {q : ℕ} → entry_at f s i ≡ One e q → Spell s i (entry_text f e) q × Fit f e
+pub entry-back : (f : Form) (s : List ℕ) → Octets s → (i : ℕ) {e : Entry} {q : ℕ} → entry_at f s i ≡ Some (e, q) → Spell s i (entry_text f e) q × Fit f e
 entry-back f s o i {e} {q} w =
     let a = then_one _ _ w in
     let b = then_one _ _ a.2.1 in
@@ -70,10 +67,11 @@ entry-back f s o i {e} {q} w =
       plain = entry-plain a.0 b.0 c.0 z;
     })
   where
-    same : {e₁ : Entry} {r : ℕ} → One e₁ r ≡ One e q → Spell s i (entry_text f e₁) r → Fit f e₁ → Spell s i (entry_text f e) q × Fit f e
+    same : {e₁ : Entry} {r : ℕ} → ◌≡◌ {A = Option (Entry × ℕ)} (Some (e₁, r)) (Some (e, q)) → Spell s i (entry_text f e₁) r → Fit f e₁ → Spell s i (entry_text f e) q × Fit f e
     same {e₁} {r} w h t =
-        let x : e₁ ≡ e = cc in
-        let y : r ≡ q = cc in
+        let both = some_pair_parts _ _ _ _ w in
+        let x : e₁ ≡ e = both.0 in
+        let y : r ≡ q = both.1 in
         rw (← x, ← y) (h, t)
 
 -- ---- the entries
@@ -101,7 +99,7 @@ entries-back f s o zero i es w = by (eqb i (length s)) refl w
         rw (← e) (record { count = refl; fit = tt; spells = record { rest = drop i s; spelled = refl; after = omega arith } })
 entries-back f s o (suc n) i es w = by (entry_at f s i) refl w (λ q fs. entries-back f s o n q fs)
   where
-    on : (e : Entry) (q : ℕ) → entry_at f s i ≡ One e q → (x : Stored) → entries_at f n s q ≡ x → before (e ∷ []) x ≡ stored es → ((fs : List Entry) → entries_at f n s q ≡ stored fs → Lists f n s q fs) → Lists f (suc n) s i es
+    on : (e : Entry) (q : ℕ) → entry_at f s i ≡ Some (e, q) → (x : Stored) → entries_at f n s q ≡ x → before (e ∷ []) x ≡ stored es → ((fs : List Entry) → entries_at f n s q ≡ stored fs → Lists f n s q fs) → Lists f (suc n) s i es
     on e q y bad v w ih = let z : ◌≡◌ {A = ℕ} 0 1 = cc in absurd (omega arith)
     on e q y (stored fs) v w ih =
         let d : e ∷ fs ≡ es = cc in
@@ -109,9 +107,9 @@ entries-back f s o (suc n) i es w = by (entry_at f s i) refl w (λ q fs. entries
         let k = entry-back f s o i y in
         rw (← d) (record { count = ap suc h.count; fit = (k.1, h.fit); spells = spell-more k.0 h.spells })
 
-    by : (x : Taken) → entry_at f s i ≡ x → followed x (entries_at f n s) ≡ stored es → ((q : ℕ) (fs : List Entry) → entries_at f n s q ≡ stored fs → Lists f n s q fs) → Lists f (suc n) s i es
-    by Nothing y w ih = let z : ◌≡◌ {A = ℕ} 0 1 = cc in absurd (omega arith)
-    by (One e q) y w ih = on e q y (entries_at f n s q) refl w (ih q)
+    by : (x : Option (Entry × ℕ)) → entry_at f s i ≡ x → followed x (entries_at f n s) ≡ stored es → ((q : ℕ) (fs : List Entry) → entries_at f n s q ≡ stored fs → Lists f n s q fs) → Lists f (suc n) s i es
+    by None y w ih = let z : ◌≡◌ {A = ℕ} 0 1 = cc in absurd (omega arith)
+    by (Some (e, q)) y w ih = on e q y (entries_at f n s q) refl w (ih q)
 
 -- ---- the count and its mark
 
@@ -127,10 +125,10 @@ mark-back Small (x ∷ s) e = record { rest = s; spelled = ap (λ (b : ℕ). b �
 mark-back Signed [] e = let z : ◌≡◌ {A = ℕ} 0 1 = cc in absurd (omega arith)
 mark-back Signed (x ∷ s) e = record { rest = s; spelled = ap (λ (b : ℕ). b ∷ s) (eqb-true x 3 e); after = refl }
 
-pub count-back : (f : Form) (s : List ℕ) → Octets s → {n i : ℕ} → count_at f s ≡ Value n i → Spell s 0 (count_text f n) i × (n ≤ 65535)
+pub count-back : (f : Form) (s : List ℕ) → Octets s → {n i : ℕ} → count_at f s ≡ Some (n, i) → Spell s 0 (count_text f n) i × (n ≤ 65535)
 count-back f s o {n} {i} w = by (marked f s) refl w
   where
-    by : (b : Bool) → marked f s ≡ b → cond b (number_at f 4 65535 s (length (mark f))) Bad ≡ Value n i → Spell s 0 (count_text f n) i × (n ≤ 65535)
+    by : (b : Bool) → marked f s ≡ b → cond b (number_at f 4 65535 s (length (mark f))) None ≡ Some (n, i) → Spell s 0 (count_text f n) i × (n ≤ 65535)
     by false y w = let z : ◌≡◌ {A = ℕ} 0 1 = cc in absurd (omega arith)
     by true y w = let h = number-back 4 65535 s o f (length (mark f)) w in (spell-more (mark-back f s y) h.0, h.1)
 
@@ -143,10 +141,10 @@ stored_there f es l h =
     let C = count_text f (length es) in
     let c = spell-first C (entries_text f es) g in
     let a = mark-there f s (number_text f 4 (length es) ++ entries_text f es) (append_assoc (mark f) (number_text f 4 (length es)) (entries_text f es)) in
-    let n : number_at f 4 65535 s (0 + length (mark f)) ≡ Value (length es) (0 + length (count_text f (length es))) = number-there 4 65535 few s f l (spell_last (mark f) (number_text f 4 (length es)) c) in
+    let n : number_at f 4 65535 s (0 + length (mark f)) ≡ Some (length es, 0 + length (count_text f (length es))) = number-there 4 65535 few s f l (spell_last (mark f) (number_text f 4 (length es)) c) in
     let z : 0 + length (mark f) ≡ length (mark f) = omega arith in
-    let n' : number_at f 4 65535 s (length (mark f)) ≡ Value (length es) (0 + length (count_text f (length es))) = ap (number_at f 4 65535 s) (sym z) ∙ n in
-    ap (λ (b : Bool). counted f s (cond b (number_at f 4 65535 s (length (mark f))) Bad)) a ∙ ap (counted f s) n' ∙ entries-there f s es (0 + length (count_text f (length es))) h (spell_last C (entries_text f es) g)
+    let n' : number_at f 4 65535 s (length (mark f)) ≡ Some (length es, 0 + length (count_text f (length es))) = ap (number_at f 4 65535 s) (sym z) ∙ n in
+    ap (λ (b : Bool). counted f s (cond b (number_at f 4 65535 s (length (mark f))) None)) a ∙ ap (counted f s) n' ∙ entries-there f s es (0 + length (count_text f (length es))) h (spell_last C (entries_text f es) g)
 
 pub record Kept (f : Form) (s : List ℕ) (es : List Entry) : Type 0 where
   pub printed : register_text f es ≡ s
@@ -156,9 +154,9 @@ pub record Kept (f : Form) (s : List ℕ) (es : List Entry) : Type 0 where
 pub stored_back : (f : Form) (s : List ℕ) → Octets s → (es : List Entry) → stored_by f s ≡ stored es → Kept f s es
 stored_back f s o es w = by (count_at f s) refl w
   where
-    by : (x : Number) → count_at f s ≡ x → counted f s x ≡ stored es → Kept f s es
-    by Bad y w = let z : ◌≡◌ {A = ℕ} 0 1 = cc in absurd (omega arith)
-    by (Value n i) y w =
+    by : (x : Option (ℕ × ℕ)) → count_at f s ≡ x → counted f s x ≡ stored es → Kept f s es
+    by None y w = let z : ◌≡◌ {A = ℕ} 0 1 = cc in absurd (omega arith)
+    by (Some (n, i)) y w =
         let c = count-back f s o y in
         let h = entries-back f s o n i es w in
         let d : Spell s 0 (count_text f (length es)) i = subst (λ (m : ℕ). Spell s 0 (count_text f m) i) h.count c.0 in

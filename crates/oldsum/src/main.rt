@@ -8,16 +8,20 @@
 //
 // The arguments are the names of the files. An argument `-` stands for the files on standard input, one behind the other; so does no argument at all.
 // A file that is refused ends it: `file 2 refused 23 at 0 segment 0`.
+ghost use Rattle.std.specs.Prelude.{◌≡◌, ℕ, ◌≤◌, List, [], length, take};
+
 use input::{drain, read_full};
-use judge::run::{Verdict, judge};
-use printing::{flush, number, print_refusal_at, put, text};
-use returns::sums::{Left, OldSum, old_sum};
+use judge::run::judge;
+use printing::{Output, Told};
+use returns::sums::{Left, old_sum};
 use std::env::{Env, FillError};
+use std::fmt::Write;
 use std::fs::File;
 use std::io::{Error, ErrorKind};
-use syntax::content::{content_is, part};
+use std::marker::Model;
+use syntax::content::part;
 
-// The year so far. Its last file may be refused.
+// The year so far.
 #[derive(Clone, Copy)]
 struct Year {
     files: u64,
@@ -25,133 +29,99 @@ struct Year {
     sum: u64,
     loads: u64,
     kilograms: u64,
-    refused: bool,
 }
 
-// "It starts at zero with the year."
-fn new_year() -> Year {
-    Year {
-        files: 0,
-        single: 0.0,
-        sum: 0,
-        loads: 0,
-        kilograms: 0,
-        refused: false,
+// A file was refused or not read, and that is told: the year is not.
+#[derive(Clone, Copy)]
+struct Ended;
+
+impl Year {
+    // "It starts at zero with the year."
+    fn new() -> Self {
+        Year {
+            files: 0,
+            single: 0.0,
+            sum: 0,
+            loads: 0,
+            kilograms: 0,
+        }
+    }
+
+    // Loads and kilograms stay far below 2^64: no run has so many files.
+    fn with_file(self, x: Left) -> Self {
+        Year {
+            files: self.files.wrapping_add(1),
+            single: x.single,
+            sum: x.sum,
+            loads: self.loads.wrapping_add(x.loads),
+            kilograms: self.kilograms.wrapping_add(x.kilograms),
+        }
     }
 }
 
-// Loads and kilograms stay far below 2^64: no run has so many files.
-fn with_file(y: Year, x: Left) -> Year {
-    Year {
-        files: y.files.wrapping_add(1),
-        single: x.single,
-        sum: x.sum,
-        loads: y.loads.wrapping_add(x.loads),
-        kilograms: y.kilograms.wrapping_add(x.kilograms),
-        refused: false,
-    }
-}
-
-fn print_difference(rt: &impl Print, out: &mut [u8; 4096], n: usize, a: u64, b: u64) -> usize {
-    if a < b {
-        let k = put(rt, out, n, b'-');
-        return number(rt, out, k, b - a);
-    }
-    number(rt, out, n, a - b)
-}
-
-fn print_loads(
-    rt: &impl Print,
-    out: &mut [u8; 4096],
-    n: usize,
-    loads: u64,
-    kilograms: u64,
-    sum: u64,
-) -> usize {
-    let mut k = text(rt, out, n, b" loads ");
-    k = number(rt, out, k, loads);
-    k = text(rt, out, k, b" kilograms ");
-    k = number(rt, out, k, kilograms);
-    k = text(rt, out, k, b" oldsum ");
-    number(rt, out, k, sum)
-}
-
-// The number of the file that comes next.
-fn print_ordinal(rt: &impl Print, out: &mut [u8; 4096], n: usize, y: Year) -> usize {
-    let k = text(rt, out, n, b"file ");
-    number(rt, out, k, y.files.wrapping_add(1))
-}
-
-// What a file added, and the difference up to it; `z` is the year with it.
-fn print_file(rt: &impl Print, out: &mut [u8; 4096], n: usize, y: Year, x: Left, z: Year) -> usize {
-    let mut k = print_ordinal(rt, out, n, y);
-    k = print_loads(rt, out, k, x.loads, x.kilograms, x.sum);
-    k = text(rt, out, k, b" added ");
-    k = print_difference(rt, out, k, x.sum, y.sum);
-    k = text(rt, out, k, b" difference ");
-    k = print_difference(rt, out, k, z.sum, z.kilograms);
-    put(rt, out, k, b'\n')
+fn difference(a: u64, b: u64) -> i128 {
+    i128::from(a) - i128::from(b)
 }
 
 fn print_year(rt: &impl Print, y: Year) {
-    let mut out = [0u8; 4096];
-    let mut k = text(rt, &mut out, 0, b"year");
-    k = print_loads(rt, &mut out, k, y.loads, y.kilograms, y.sum);
-    k = text(rt, &mut out, k, b" difference ");
-    k = print_difference(rt, &mut out, k, y.sum, y.kilograms);
-    k = put(rt, &mut out, k, b'\n');
-    flush(rt, &out, k);
+    let mut out = Output::new(rt);
+    let _ = writeln!(
+        out,
+        "year loads {} kilograms {} oldsum {} difference {}",
+        y.loads,
+        y.kilograms,
+        y.sum,
+        difference(y.sum, y.kilograms)
+    );
+    out.end();
 }
 
-fn ended(y: Year) -> Year {
-    Year {
-        files: y.files,
-        single: y.single,
-        sum: y.sum,
-        loads: y.loads,
-        kilograms: y.kilograms,
-        refused: true,
-    }
+// What a file added, and the difference up to it; `z` is the year with it.
+fn print_file(out: &mut Output<impl Print>, y: Year, x: Left, z: Year) {
+    let _ = writeln!(
+        out,
+        "file {} loads {} kilograms {} oldsum {} added {} difference {}",
+        z.files,
+        x.loads,
+        x.kilograms,
+        x.sum,
+        difference(x.sum, y.sum),
+        difference(z.sum, z.kilograms)
+    );
 }
 
 // One file more.
-fn after_file(rt: &impl Print, y: Year, s: &[u8]) -> Year {
-    let mut out = [0u8; 4096];
-    match old_sum(s, y.single) {
-        OldSum::Of(x) => {
-            let z = with_file(y, x);
-            let n = print_file(rt, &mut out, 0, y, x, z);
-            flush(rt, &out, n);
-            z
+fn after_file(rt: &impl Print, y: Year, s: &[u8]) -> Result<Year, Ended> {
+    let mut out = Output::new(rt);
+    let after = match old_sum(s, y.single) {
+        Ok(x) => {
+            let z = y.with_file(x);
+            print_file(&mut out, y, x, z);
+            Ok(z)
         }
-        OldSum::Refused(f) => {
-            let mut n = print_ordinal(rt, &mut out, 0, y);
-            n = put(rt, &mut out, n, b' ');
-            n = print_refusal_at(rt, &mut out, n, f);
-            flush(rt, &out, n);
-            ended(y)
+        Err(refusal) => {
+            let _ = writeln!(out, "file {} {}", y.files.wrapping_add(1), Told(refusal));
+            Err(Ended)
         }
-    }
+    };
+    out.end();
+    after
 }
 
 // A line on standard error: what could not be read, and why.
-fn fail(rt: &HostRuntime, what: &[u8], why: Error) {
+fn unread(rt: &HostRuntime, what: &[u8], why: Error) -> Ended {
     let error = rt.stderr();
     let _ = error.write_all(what);
     let _ = error.print(": ");
     let _ = error.println(why);
-}
-
-fn unread(rt: &HostRuntime, y: Year, path: &[u8], why: Error) -> Year {
-    fail(rt, path, why);
-    ended(y)
+    Ended
 }
 
 // The file of this name. The buffer has one octet more than an interchange may have, so one that is too long is told.
-fn after_path(rt: &HostRuntime, y: Year, path: &[u8]) -> Year {
+fn after_path(rt: &HostRuntime, y: Year, path: &[u8]) -> Result<Year, Ended> {
     match opened(rt, path) {
         Ok(file) => after_opened(rt, y, file),
-        Err(why) => unread(rt, y, path, why),
+        Err(why) => Err(unread(rt, path, why)),
     }
 }
 
@@ -163,158 +133,141 @@ fn opened(rt: &HostRuntime, path: &[u8]) -> Result<File, Error> {
     }
 }
 
-fn after_opened(rt: &HostRuntime, y: Year, from: File) -> Year {
-    let mut file = from;
+fn after_opened(rt: &HostRuntime, y: Year, mut file: File) -> Result<Year, Ended> {
     let mut space = [0u8; 65536];
     let n = read_full(&mut file, &mut space);
     after_file(rt, y, &space[..n])
 }
 
-fn is_accepted(s: &[u8]) -> bool {
-    match judge(s) {
-        Verdict::Accepted => true,
-        Verdict::Refused(_) => false,
-    }
-}
-
 // Where the first file ends in `s`: octets after UNZ give 7 at the first of them. All of `s` is one file where it ends nowhere.
 fn first_end(s: &[u8]) -> usize {
     match judge(s) {
-        Verdict::Accepted => s.len(),
-        Verdict::Refused(f) => {
-            if f.number == 7 {
-                if is_accepted(part(s, 0, f.place)) {
-                    return f.place;
-                }
-            }
-            s.len()
+        Err(f) if f.number == 7 && judge(part(s, 0, f.place)).is_ok() => f.place,
+        _ => s.len(),
+    }
+}
+
+// What was read of standard input and belongs to no file yet. The buffer has as many octets as an interchange may have: what is
+// told of a file that is refused must not hang on those of the next ones. So one that is too long is told by its first 65,535
+// octets.
+// Kept: an array with a length, as the program works in fixed memory, without a heap.
+#[derive(Drop)]
+struct Waiting {
+    octets: [u8; 65535],
+    taken: usize,
+}
+
+impl Model for Waiting {
+    ghost Value = { List ℕ };
+
+    ghost view = { λ w. take w.taken w.octets };
+
+    ghost invariant = { λ w. w.taken ≤ 65535 };
+}
+
+impl Waiting {
+    fn new() -> Self
+        ensures { result ≡ [] }
+    {
+        Waiting {
+            octets: [0; 65535],
+            taken: 0,
         }
     }
-}
 
-// The octet at `from` goes to `to`: the place behind that.
-fn copied(space: &mut [u8], from: usize, to: usize) -> usize {
-    if from < space.len() {
-        if to < space.len() {
-            space[to] = space[from];
-            return to + 1;
-        }
+    // Reads on behind them.
+    fn fill(&mut self, rt: &impl Input) {
+        self.taken += read_full(&mut rt.reader(), &mut self.octets[self.taken..]);
     }
-    to
-}
 
-// What stands from `e` to before `n` goes to the front: how many octets those are.
-fn moved_up(space: &mut [u8], e: usize, n: usize) -> usize {
-    let mut i: usize = 0;
-    let mut j = e;
-    while j < n {
-        i = copied(&mut *space, j, i);
-        j += 1;
+    fn octets(&self) -> &[u8]
+        ensures { result.now ≡ self.now }
+    {
+        &self.octets[..self.taken]
     }
-    i
-}
 
-// Reads on behind the `n` octets that wait: how many wait then.
-fn filled(rt: &impl Input, space: &mut [u8], n: usize) -> usize {
-    let most = space.len();
-    if n < most {
-        let got = read_full(&mut rt.reader(), &mut space[n..]);
-        return n + got;
+    // Lets go of the first octets, so many.
+    fn let_go(&mut self, count: usize) {
+        let from = count.min(self.taken);
+        self.octets.copy_within(from..self.taken, 0);
+        self.taken -= from;
     }
-    most
 }
 
-// The files on standard input. The buffer has as many octets as an interchange may have: what is told of a file that is refused must not hang on those of
-// the next ones. So one that is too long is told by its first 65,535 octets. A proved loop has to end, and nothing says that the input does: so the loop
-// counts its turns down, from a number that no run uses up.
-fn after_input(rt: &(impl Input + Print), before: Year) -> Year {
-    let mut space = [0u8; 65535];
+// The files on standard input. A proved loop has to end, and nothing says that the input does: so the loop has more turns than any
+// run uses up.
+fn after_input(rt: &(impl Input + Print), before: Year) -> Result<Year, Ended> {
+    let mut waiting = Waiting::new();
     let mut y = before;
-    let mut n: usize = 0;
-    let mut turns = u64::MAX;
-    while turns > 0 {
-        n = filled(rt, &mut space, n);
-        if n == 0 {
-            return y;
+    for _ in 0..u64::MAX {
+        waiting.fill(rt);
+        let s = waiting.octets();
+        if s.is_empty() {
+            break;
         }
-        let e = first_end(part(&space, 0, n));
-        y = after_file(rt, y, part(&space, 0, e));
-        if y.refused {
-            drain(rt);
-            return y;
+        let end = first_end(s);
+        match after_file(rt, y, part(s, 0, end)) {
+            Ok(z) => y = z,
+            Err(Ended) => {
+                drain(rt);
+                return Err(Ended);
+            }
         }
-        n = moved_up(&mut space, e, n);
-        turns -= 1;
+        waiting.let_go(end);
     }
-    y
+    Ok(y)
 }
 
 // An argument of more octets than a name may have is not read.
-fn after_argument(rt: &HostRuntime, y: Year, i: usize) -> Year {
+fn after_argument(rt: &HostRuntime, y: Year, i: usize) -> Result<Year, Ended> {
     let mut path = [0u8; 4096];
     match rt.arg(i, &mut path) {
         Ok(length) => after_named(rt, y, &path[..length]),
-        Err(_) => unread(
+        Err(_) => Err(unread(
             rt,
-            y,
             b"argument",
             Error::new(ErrorKind::InvalidFilename, "File name too long"),
-        ),
+        )),
     }
 }
 
-fn after_named(rt: &HostRuntime, y: Year, path: &[u8]) -> Year {
-    if content_is(path, 32, b"-") {
+fn after_named(rt: &HostRuntime, y: Year, path: &[u8]) -> Result<Year, Ended> {
+    if path == b"-".as_slice() {
         return after_input(rt, y);
     }
     after_path(rt, y, path)
 }
 
-fn after_arguments(rt: &HostRuntime, count: usize) -> Year {
-    let mut y = new_year();
-    let mut i: usize = 1;
-    while i < count {
-        y = after_argument(rt, y, i);
-        if y.refused {
-            return y;
-        }
-        i += 1;
+fn after_arguments(rt: &HostRuntime, count: usize) -> Result<Year, Ended> {
+    let mut y = Year::new();
+    for i in 1..count {
+        y = after_argument(rt, y, i)?;
     }
-    y
+    Ok(y)
 }
 
 fn has_argument(rt: &impl Env, i: usize) -> bool {
     let mut start = [0u8; 1];
-    match rt.arg(i, &mut start) {
-        Ok(_) => true,
-        Err(FillError::TooLong) => true,
-        Err(FillError::NotPresent) => false,
-    }
+    !matches!(rt.arg(i, &mut start), Err(FillError::NotPresent))
 }
 
 // How many arguments there are, the program's own name among them.
 fn argument_count(rt: &impl Env) -> usize {
-    let mut i: usize = 0;
-    while i < usize::MAX {
-        if !has_argument(rt, i) {
-            return i;
-        }
-        i += 1;
-    }
-    i
+    (0..usize::MAX)
+        .position(|i| !has_argument(rt, i))
+        .unwrap_or(usize::MAX)
 }
 
-fn after_all(rt: &HostRuntime) -> Year {
+fn after_all(rt: &HostRuntime) -> Result<Year, Ended> {
     let count = argument_count(rt);
     if count < 2 {
-        return after_input(rt, new_year());
+        return after_input(rt, Year::new());
     }
     after_arguments(rt, count)
 }
 
 fn main(rt: HostRuntime) {
-    let y = after_all(&rt);
-    if !y.refused {
+    if let Ok(y) = after_all(&rt) {
         print_year(&rt, y);
     }
 }

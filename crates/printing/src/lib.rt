@@ -1,75 +1,112 @@
 #![tactic(auto)]
 
-// Printing to standard output by way of a buffer, for the programs. What is printed waits in `out`, of which `n` octets are
-// taken. Each function that prints answers how many are taken after it, and writes `out` out where it is full.
+// Printing to standard output by way of a buffer, for the programs.
+ghost use Rattle.std.specs.Prelude.{◌≡◌, ℕ, ◌+◌, ◌<◌, ◌≤◌, List, [], ◌∷◌, ◌++◌, length, take, codes, decimal, Some};
+ghost use Rattle.printing.specs.HexText.{hex_text};
+
+use std::fmt::{self, Write};
+use std::marker::Model;
 use syntax::Refusal;
-use syntax::content::part;
 
-// Writes out what waits. The caller then prints from 0 on. What cannot be written is lost, and nothing stops for it.
-pub fn flush(rt: &impl Print, out: &[u8; 4096], n: usize) {
-    let _ = rt.write_all(part(out, 0, n));
+// What is printed waits here, and is written out where the buffer is full, and by `flush`. What cannot be written is lost, and
+// nothing stops for it. Clauses see what waits.
+// Kept: an array with a length, as the programs print in fixed memory, without a heap.
+pub struct Output<'a, P> {
+    to: &'a P,
+    octets: [u8; 4096],
+    taken: usize,
 }
 
-pub fn put(rt: &impl Print, out: &mut [u8; 4096], n: usize, b: u8) -> usize {
-    if n < 4096 {
-        out[n] = b;
-        return n + 1;
-    }
-    flush(rt, out, n);
-    out[0] = b;
-    1
+impl<'a, P> Model for Output<'a, P> {
+    ghost Value = { List ℕ };
+
+    ghost view = { λ o. take o.taken o.octets };
+
+    ghost invariant = { λ o. o.taken ≤ 4096 };
 }
 
-pub fn text(rt: &impl Print, out: &mut [u8; 4096], n: usize, t: &[u8]) -> usize {
-    let mut k = n;
-    let mut i: usize = 0;
-    while i < t.len() {
-        k = put(rt, out, k, t[i]);
-        i += 1;
-    }
-    k
-}
-
-// In decimal: the digits are found from the last one on, at most 20.
-pub fn number(rt: &impl Print, out: &mut [u8; 4096], n: usize, v: u64) -> usize {
-    let mut digits = [b'0'; 20];
-    let mut rest = v;
-    let mut i: usize = 20;
-    while i > 0 {
-        i -= 1;
-        digits[i] = 48 + (rest % 10) as u8;
-        rest /= 10;
-        if rest == 0 {
-            return text(rt, out, n, &digits[i..]);
+impl<'a, P: Print> Output<'a, P> {
+    pub fn new(to: &'a P) -> Self
+        ensures { result ≡ [] }
+    {
+        Output {
+            to,
+            octets: [0; 4096],
+            taken: 0,
         }
     }
-    text(rt, out, n, &digits)
+
+    pub fn flush(&mut self)
+        ensures { self.new ≡ [] }
+    {
+        let _ = self.to.write_all(&self.octets[..self.taken]);
+        self.taken = 0;
+    }
+
+    // Prints what waits. Each output ends with it, so that nothing is forgotten.
+    pub fn end(self) {
+        let Output { to, octets, taken } = self;
+        let _ = to.write_all(&octets[..taken]);
+    }
+
+    pub fn put(&mut self, b: u8)
+        ensures waits { length self.old < 4096 → self.new ≡ self.old ++ b ∷ [] }
+        ensures full { length self.old ≡ 4096 → self.new ≡ b ∷ [] }
+    {
+        if self.taken == 4096 {
+            self.flush();
+        }
+        self.octets[self.taken] = b;
+        self.taken += 1;
+    }
+
+    pub fn put_all(&mut self, octets: &[u8])
+        ensures waits { length self.old + length octets.now ≤ 4096 → self.new ≡ self.old ++ octets.now }
+    {
+        for b in octets {
+            self.put(*b);
+        }
+    }
 }
 
-// The two forms of a refusal differ only in what stands before the place and before the segment.
-fn print_refusal_with(
-    rt: &impl Print,
-    out: &mut [u8; 4096],
-    n: usize,
-    f: Refusal,
-    at: &[u8],
-    segment: &[u8],
-) -> usize {
-    let mut k = text(rt, out, n, b"refused ");
-    k = number(rt, out, k, f.number as u64);
-    k = text(rt, out, k, at);
-    k = number(rt, out, k, f.place as u64);
-    k = text(rt, out, k, segment);
-    k = number(rt, out, k, f.segment as u64);
-    put(rt, out, k, b'\n')
+// So that `write!` prints here.
+impl<'a, P: Print> Write for Output<'a, P> {
+    ghost write_str_gives = { λ o s p. length o + length s ≤ 4096 → p ≡ o ++ s };
+
+    fn write_str(&mut self, s: &str) -> fmt::Result {
+        self.put_all(s.as_bytes());
+        Ok(())
+    }
 }
 
-// A line as `refused 10 at 113 segment 6`, for people.
-pub fn print_refusal_at(rt: &impl Print, out: &mut [u8; 4096], n: usize, f: Refusal) -> usize {
-    print_refusal_with(rt, out, n, f, b" at ", b" segment ")
+// Octets in lower-case hex.
+#[derive(Clone, Copy)]
+pub struct Hex<'a>(pub &'a [u8]);
+
+impl fmt::Display for Hex<'_> {
+    ghost output = { λ h. Some (hex_text h.0.now) };
+
+    fn fmt<W: fmt::Write>(&self, f: &mut fmt::Formatter<W>) -> fmt::Result {
+        for &octet in self.0 {
+            write!(f, "{:x}{:x}", octet / 16, octet % 16)?;
+        }
+        Ok(())
+    }
 }
 
-// A line as `refused 10 113 6`, as the desk answers.
-pub fn print_refusal(rt: &impl Print, out: &mut [u8; 4096], n: usize, f: Refusal) -> usize {
-    print_refusal_with(rt, out, n, f, b" ", b" ")
+// A refusal for people: `refused 10 at 113 segment 6`.
+#[derive(Clone, Copy)]
+pub struct Told(pub Refusal);
+
+impl fmt::Display for Told {
+    ghost output = { λ t. Some (codes "refused " ++ (decimal t.0.number ++ (codes " at " ++ (decimal t.0.place ++ (codes " segment " ++ decimal t.0.segment))))) };
+
+    fn fmt<W: fmt::Write>(&self, f: &mut fmt::Formatter<W>) -> fmt::Result {
+        let Told(r) = *self;
+        write!(
+            f,
+            "refused {} at {} segment {}",
+            r.number, r.place, r.segment
+        )
+    }
 }

@@ -1,9 +1,7 @@
 -- The references of the messages so far, each as two numbers, and the search tree over them: 0062 is used once in an interchange.
-use Rattle.std.specs.Prelude.{ℕ, zero, suc, ◌+◌, ◌-◌, ◌*◌, ◌/◌, ◌%◌, ◌≤◌, ◌<◌, List, [], ◌∷◌, ◌++◌, ◌≡◌, Bool, true, false, cond, eqb, leb, length, get_or, take, drop, set}
+use Rattle.std.specs.Prelude.{ℕ, zero, suc, ◌+◌, ◌-◌, ◌*◌, ◌/◌, ◌%◌, ◌≤◌, ◌<◌, List, [], ◌∷◌, ◌++◌, ◌≡◌, Bool, true, false, cond, eqb, leb, length, get_or, take, drop, set, Option, Some, None}
 use Rattle.syntax.specs.Content.{content}
 use Rattle.grammar.specs.Lists.{Snoc, nil, ◌▷◌, among}
-use Rattle.syntax.specs.declared.Found.{Found}
-use Rattle.syntax.specs.declared.Found.TheVariants.{At, Nothing}
 
 -- ---- a content as two numbers
 
@@ -122,6 +120,6 @@ pub record Fitting (names slots : List ℕ) (n : ℕ) (t : List ℕ) (i : ℕ) (
   pub size : length names' ≡ length names
   pub next : 2 * n + 2 ≤ length names' → (ref_at names' n ≡ t) × Offered names' slots n i
 
-abbrev pub OfferIs : List ℕ → List ℕ → ℕ → List ℕ → Found → List ℕ → Type 0
-OfferIs names slots n t (At i) names' = Fitting names slots n t i names'
-OfferIs names slots n t Nothing names' = (among (refs_in names n) t ≡ true) × (length names' ≡ length names)
+abbrev pub OfferIs : List ℕ → List ℕ → ℕ → List ℕ → Option ℕ → List ℕ → Type 0
+OfferIs names slots n t (Some i) names' = Fitting names slots n t i names'
+OfferIs names slots n t None names' = (among (refs_in names n) t ≡ true) × (length names' ≡ length names)

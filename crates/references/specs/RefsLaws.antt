@@ -1,5 +1,5 @@
 -- The name of a content gives the content back; a search finds a name if it is there; one more reference keeps the tree.
-use Rattle.std.specs.Prelude.{ℕ, zero, suc, ◌+◌, ◌-◌, ◌*◌, ◌/◌, ◌%◌, ◌≤◌, ◌<◌, List, [], ◌∷◌, ◌++◌, ◌≡◌, refl, Bool, true, false, cond, ◌||◌, T, eqb, leb, length, get_or, take, drop, set, replicate}
+use Rattle.std.specs.Prelude.{ℕ, zero, suc, ◌+◌, ◌-◌, ◌*◌, ◌/◌, ◌%◌, ◌≤◌, ◌<◌, List, [], ◌∷◌, ◌++◌, ◌≡◌, refl, Bool, true, false, cond, ◌||◌, T, eqb, leb, length, get_or, take, drop, set, replicate, Option, Some, None}
 use Rattle.std.proofs.Common.{add-one, arith, suc-add, zero-add, append_assoc, append-nil, ap, sym, subst, ◌∙◌, eq-eqb, ne_eqb, eqb-true, leb-true, leb-false, le-leb, length-set, length-drop, take-append-drop, length-append, get_or-set_same, get_or-set_other, drop-drop, take-add}
 use Rattle.std.proofs.Math.Bool.{or-true}
 use Rattle.std.proofs.lemmas.Bool.{false≢true, eqb-false, lt-leb}
@@ -9,8 +9,6 @@ use Rattle.syntax.specs.Octets.{same}
 use Rattle.syntax.specs.Content.{content}
 use Rattle.syntax.specs.Scanning.{next_of}
 use Rattle.syntax.proofs.ContentLaws.{next-steps, next-over, same_self}
-use Rattle.syntax.specs.declared.content.Next.{Next}
-use Rattle.syntax.specs.declared.content.Next.TheVariants.{Octet, Over}
 use Rattle.grammar.specs.Lists.{among}
 use Rattle.grammar.proofs.PlacingLaws.{same-eq}
 use Rattle.references.specs.Refs.{packed, octets_in, head_of, tail_of, Named, is_named, ref_at, refs_in, root_of, Leads, here, down, Reached, Indexed, WordOf, NameOf, Grown, Spot, put, kept, Offered, Fitting}
@@ -100,11 +98,11 @@ module _ {ρ : ℕ} {x : List ℕ} {from i v n : ℕ} (u : Packing ρ x from i v
   pub packing-full : 7 ≤ n → WordOf ρ x from v i false
   packing-full h = let p : 7 - n ≡ 0 = omega arith in packing-word false (rw p) (rw p) (λ (z : false ≡ true). absurd (false≢true z))
 
-  module _ {r : Next} (e : r ≡ next_of ρ (drop i x) i) where
-    pub packing-end : r ≡ Over → WordOf ρ x from v i true
+  module _ {r : Option (ℕ × ℕ)} (e : r ≡ next_of ρ (drop i x) i) where
+    pub packing-end : r ≡ None → WordOf ρ x from v i true
     packing-end d = let p = next-over ρ x i e d in packing-word true (rw (p, take-nil)) (rw (p, drop-nil)) (λ z. p)
 
-    module _ {b j : ℕ} (d : r ≡ Octet b j) where
+    module _ {b j : ℕ} (d : r ≡ Some (b, j)) where
       pub packing-on : n < 7 → {y : ℕ} → (y ≡ b) × (y < 256) → Packing ρ x from j (v * 256 + y) (n + 1)
       packing-on h {y} q =
           let w = (next-steps ρ x i e d).gives in
@@ -154,11 +152,11 @@ module _ {ρ : ℕ} {x : List ℕ} {v a w b : ℕ} {o q : Bool} (f : WordOf ρ x
   pub name-two : q ≡ true → NameOf (content ρ x) v w
   name-two d = name-both (g.last d)
 
-  module _ {r : Next} (e : r ≡ next_of ρ (drop b x) b) where
-    pub name-full : r ≡ Over → NameOf (content ρ x) v w
+  module _ {r : Option (ℕ × ℕ)} (e : r ≡ next_of ρ (drop b x) b) where
+    pub name-full : r ≡ None → NameOf (content ρ x) v w
     name-full d = name-both (next-over ρ x b e d)
 
-    pub name-long : {c j : ℕ} → r ≡ Octet c j → NameOf (content ρ x) 0 0
+    pub name-long : {c j : ℕ} → r ≡ Some (c, j) → NameOf (content ρ x) 0 0
     name-long {c} {j} d =
         let p : drop 14 (content ρ x) ≡ c ∷ content ρ (drop j x) = sym name-rest ∙ (next-steps ρ x b e d).gives in
         let k : length (content ρ x) - 14 ≡ suc (length (content ρ (drop j x))) = sym (length-drop 14 (content ρ x)) ∙ ap length p in

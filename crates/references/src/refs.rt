@@ -3,8 +3,7 @@ ghost use Rattle.std.specs.Prelude.{◌≡◌, ◌+◌, ◌*◌, ◌%◌, ◌≤
 ghost use Rattle.syntax.specs.Content.{content};
 ghost use Rattle.references.specs.Refs.{full, refs_in, is_named, root_of, WordOf, NameOf, Indexed, Spot, kept, Offered, OfferIs};
 
-use syntax::Found;
-use syntax::content::{Next, next_octet, wide};
+use syntax::content::{next_octet, wide};
 
 // Up to seven octets of content as a number, the place after them, and whether no more was met.
 #[derive(Clone, Copy)]
@@ -21,12 +20,6 @@ struct Name {
     tail: u64,
 }
 
-fn wide16(x: u16) -> usize
-    ensures { result ≡ x }
-{
-    x as usize
-}
-
 // The octets stand behind a 1, so that other octets, also fewer or more, give another number.
 fn word_at(x: &[u8], from: usize, release: u8) -> Word
     ensures { WordOf release x.now from result.value result.next result.over }
@@ -36,12 +29,12 @@ fn word_at(x: &[u8], from: usize, release: u8) -> Word
     let mut n: usize = 0;
     while n < 7 {
         match next_octet(x, i, release) {
-            Next::Octet(b, j) => {
+            Some((b, j)) => {
                 v = v * 256 + wide(b);
                 i = j;
                 n += 1;
             }
-            Next::Over => {
+            None => {
                 return Word {
                     value: v,
                     next: i,
@@ -76,11 +69,11 @@ fn name_of(x: &[u8], release: u8) -> Name
         };
     }
     match next_octet(x, b.next, release) {
-        Next::Over => Name {
+        None => Name {
             head: a.value,
             tail: b.value,
         },
-        Next::Octet(_, _) => Name { head: 0, tail: 0 },
+        Some((_, _)) => Name { head: 0, tail: 0 },
     }
 }
 
@@ -121,7 +114,7 @@ fn slot_of(names: &[u64], slots: &[u16], n: usize, head: u64, tail: u64) -> usiz
     let mut a = head;
     let mut b = tail;
     loop {
-        let k = wide16(slots[i]);
+        let k = usize::from(slots[i]);
         if k == 0 {
             return i;
         }
@@ -150,7 +143,7 @@ fn keep(names: &mut [u64], n: usize, head: u64, tail: u64)
 // Where the way of a reference ends that has the content of `x`: a free slot, and the name is kept behind the `n` that are there; nowhere if one of
 // these has the content. `names` holds the two numbers of reference k at 2 * k. `slots` holds, behind as many roots as it is longer, the two slots below
 // reference k at 2 * k; a slot holds one more than a reference, or 0.
-pub fn offer(release: u8, names: &mut [u64], slots: &[u16], n: usize, x: &[u8]) -> Found
+pub fn offer(release: u8, names: &mut [u64], slots: &[u16], n: usize, x: &[u8]) -> Option<usize>
     requires indexed { Indexed names.old slots.now n }
     requires x_len_bound { length (content release x.now) ≤ 14 }
     ensures { OfferIs names.old slots.now n (content release x.now) result names.new }
@@ -158,10 +151,10 @@ pub fn offer(release: u8, names: &mut [u64], slots: &[u16], n: usize, x: &[u8]) 
     let w = name_of(x, release);
     let i = slot_of(names, slots, n, w.head, w.tail);
     if slots[i] != 0 {
-        return Found::Nothing;
+        return None;
     }
     keep(names, n, w.head, w.tail);
-    Found::At(i)
+    Some(i)
 }
 
 // The reference that was offered slot `i` becomes reference `n`.

@@ -13,10 +13,9 @@ use syntax::{Breach, Refusal};
 pub fn refusal(s: &[u8], b: Breach) -> Refusal
     ensures { result ≡ refusal_at s.now b.number b.place }
 {
-    let place = b.place;
     Refusal {
         number: b.number,
-        place,
-        segment: ordinal(s, place),
+        place: b.place,
+        segment: ordinal(s, b.place),
     }
 }

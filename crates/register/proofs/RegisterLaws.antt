@@ -1,5 +1,6 @@
 -- What the walk lays is the register of the reading.
-use Rattle.std.specs.Prelude.{ℕ, ◌+◌, ◌-◌, ◌*◌, ◌≤◌, ◌<◌, Bool, true, false, cond, ◌||◌, List, [], ◌∷◌, ◌++◌, ◌≡◌, refl, length, replicate}
+use Rattle.syntax.specs.declared.opening.Start.{Start}
+use Rattle.std.specs.Prelude.{ℕ, ◌+◌, ◌-◌, ◌*◌, ◌≤◌, ◌<◌, Bool, true, false, cond, ◌||◌, List, [], ◌∷◌, ◌++◌, ◌≡◌, refl, length, replicate, Result, Err, Ok}
 use Rattle.std.proofs.Common.{arith, append-nil, ap, sym, ◌∙◌, subst, length-append, lt-ltb, le-ltb}
 use Rattle.std.proofs.Math.Seq.{slice}
 use Rattle.syntax.proofs.ContentLaws.{plain-content}
@@ -12,8 +13,6 @@ use Rattle.syntax.specs.declared.Breach.{Breach}
 use Rattle.syntax.specs.declared.Refusal.{Refusal}
 use Rattle.syntax.specs.declared.Service.{Service}
 use Rattle.syntax.specs.declared.Syntax.{Syntax}
-use Rattle.syntax.specs.declared.opening.Begun.{Begun}
-use Rattle.syntax.specs.declared.opening.Begun.TheVariants.{Refused as Refuses}
 use Rattle.grammar.specs.Interchange.{Leaf, Open, message, Reading, idle, shown, show_message}
 use Rattle.grammar.specs.Places.{wide}
 use Rattle.grammar.specs.Valid.{Interchange, interchange, opening_in}
@@ -31,8 +30,6 @@ use Rattle.writing.specs.Laid.{Laid}
 use Rattle.writing.specs.LaidLaws.{laid_same, laid-part, laid_more, laid_none}
 use Rattle.writing.specs.Written.{Text, text, no_text, refused_as, Writes, too_long}
 use Rattle.writing.specs.WrittenLaws.{writes_as, writes-none, writes-over, writes-fit}
-use Rattle.writing.specs.declared.Written.{Written}
-use Rattle.writing.specs.declared.Written.TheVariants.{Length, Refused}
 use Rattle.forms.specs.Forms.{grams_of, count_text, entry_text, entries_text, register_text, large, sign_lost, any_below, text_in}
 use Rattle.forms.specs.FormsLaws.{count-short, entries-short, entries-joined, light-fits, below_more, or-false}
 use Rattle.forms.specs.declared.Form.{Form}
@@ -40,9 +37,6 @@ use Rattle.forms.specs.declared.Entry.{Entry}
 use Rattle.register.specs.Register.{entry_of, entries_of, entries_in, register_by, register_of, equal_to, checked_by, check_of}
 use Rattle.register.specs.Laying.{BeginsAt, entry_at, section_at, entries_read, none_from, Adds, LaysEntries, LaysAll, Measured, MeasuredAs, Lays}
 use Rattle.register.specs.declared.entries.Extent.{Extent}
-use Rattle.register.specs.declared.register.Entries.{Entries}
-use Rattle.register.specs.declared.register.Entries.TheVariants.{Of, Refused as Unread}
-use Rattle.register.specs.declared.register.Checked.TheVariants.{Same, Refused as Differs}
 
 -- ---- entries laid one after the other
 
@@ -172,7 +166,7 @@ module _ {f : Form} {p : ℕ} {y : Syntax} {s : List ℕ} {from : ℕ} {x : Stat
       section-short c true = omega arith
 
   -- all was read
-  pub lays-told : BeginsAt y s from → ReadAll g.looping.walks → LaysAll f p s out₀ (Of r) out
+  pub lays-told : BeginsAt y s from → ReadAll g.looping.walks → LaysAll f p s out₀ (Ok r) out
   lays-told e a =
       let u = a.1.0 in
       let ms = a.1.1 in
@@ -191,13 +185,13 @@ lays-stopped y s from b e a k = verdict-by s refl e a ∙ ap refused_with (sym k
 -- ---- the register is measured, and then laid behind its count
 
 -- by what `lay` and `measure` answer
-pub laid-all : (f : Form) (p : ℕ) (s out out' : List ℕ) {a : Entries} {x : Extent} → a ≡ Of x → LaysAll f p s out a out' → LaysEntries f p s out x out'
-laid-all f p s out out' e g = subst (λ (a : Entries). LaysAll f p s out a out') e g
+pub laid-all : (f : Form) (p : ℕ) (s out out' : List ℕ) {a : Result Extent Refusal} {x : Extent} → a ≡ Ok x → LaysAll f p s out a out' → LaysEntries f p s out x out'
+laid-all f p s out out' e g = subst (λ (a : Result Extent Refusal). LaysAll f p s out a out') e g
 
-pub laid-refused : (f : Form) (p : ℕ) (s out out' : List ℕ) {a : Entries} {w : Refusal} → a ≡ Unread w → LaysAll f p s out a out' → MeasuredAs f s (Unread w)
-laid-refused f p s out out' e g = subst (λ (a : Entries). LaysAll f p s out a out') e g
+pub laid-refused : (f : Form) (p : ℕ) (s out out' : List ℕ) {a : Result Extent Refusal} {w : Refusal} → a ≡ Err w → LaysAll f p s out a out' → MeasuredAs f s (Err w)
+laid-refused f p s out out' e g = subst (λ (a : Result Extent Refusal). LaysAll f p s out a out') e g
 
-pub measured : (f : Form) (s : List ℕ) {a v : Entries} → a ≡ v → MeasuredAs f s a → MeasuredAs f s v
+pub measured : (f : Form) (s : List ℕ) {a v : Result Extent Refusal} → a ≡ v → MeasuredAs f s a → MeasuredAs f s v
 measured f s e g = subst (MeasuredAs f s) e g
 
 module _ {f : Form} {s out out' : List ℕ} {x : Extent} (g : LaysEntries f 0 s out x out') {q : ℕ} {z z' : List ℕ} (l : Laid z 0 (count_text f x.count) q z') where
@@ -219,7 +213,7 @@ module _ {f : Form} {s out out' : List ℕ} {x : Extent} (g : LaysEntries f 0 s 
 
 -- the count, and the entries behind it
 pub filled : {f : Form} {s : List ℕ} {p : ℕ} {out₀ out out' : List ℕ} {x z : Extent} → Measured f s x → sign_lost f x.below ≡ false → Laid out₀ 0 (count_text f x.count) p out
-    → LaysEntries f p s out z out' → Lays (register_of f s) out₀ (Length z.end) out'
+    → LaysEntries f p s out z out' → Lays (register_of f s) out₀ (Ok z.end) out'
 filled {f} {s} {out₀ = out₀} {out' = out'} {x = x} {z = z} w v l g =
     let es = entries_in g.whole in
     let i : w.whole ≡ g.whole = accepted-one (sym w.accepts ∙ g.accepts) in
@@ -228,21 +222,21 @@ filled {f} {s} {out₀ = out₀} {out' = out'} {x = x} {z = z} w v l g =
     let k : z.end ≡ length (register_text f es) = omega (arith, d.place) in
     let u : sign_lost f (any_below es) ≡ false = sym (ap (sign_lost f) (w.below ∙ ap (λ (i : Interchange). any_below (entries_in i)) i)) ∙ v in
     let t : register_of f s ≡ text (register_text f es) = ap (register_by f) g.accepts ∙ rw u in
-    record { octets = register_text f es; is = t; answer = ap Length k; laid = rw k at d }
+    record { octets = register_text f es; is = t; answer = ap Ok k; laid = rw k at d }
   where
     accepted-one : {i j : Interchange} → accepted i ≡ accepted j → i ≡ j
     accepted-one e = cc
 
-module _ (f : Form) (s : List ℕ) (w : Refusal) (e : MeasuredAs f s (Unread w)) where
-  pub write-refused : (out : List ℕ) → Writes (register_of f s) out (Refused w) out
+module _ (f : Form) (s : List ℕ) (w : Refusal) (e : MeasuredAs f s (Err w)) where
+  pub write-refused : (out : List ℕ) → Writes (register_of f s) out (Err w) out
   write-refused out = writes_as (sym (ap (register_by f) e)) (writes-none refl)
 
-  pub check-refused : (r : List ℕ) → Differs w ≡ check_of f s r
+  pub check-refused : (r : List ℕ) → Err w ≡ check_of f s r
   check-refused r = sym (ap (λ (v : Verdict). checked_by f v r) e)
 
 module _ {f : Form} {s : List ℕ} {x : Extent} (w : Measured f s x) where
   -- what is measured is not refused
-  pub unrefused : {A : Type 0} (v : Refusal) → MeasuredAs f s (Unread v) → A
+  pub unrefused : {A : Type 0} (v : Refusal) → MeasuredAs f s (Err v) → A
   unrefused v e =
       let d : accepted w.whole ≡ refused_with v = sym w.accepts ∙ e in
       let z : ◌≡◌ {A = ℕ} 0 1 = cc in
@@ -262,10 +256,10 @@ module _ {f : Form} {s : List ℕ} {x : Extent} (w : Measured f s x) where
     no_text_lem : text_in f (entries_in w.whole) ≡ no_text (at_zero 19)
     no_text_lem = rw (sign-is v h)
 
-    pub write-negative : {out : List ℕ} {r : Written} → r ≡ refused_as 19 → Writes (register_of f s) out r out
+    pub write-negative : {out : List ℕ} {r : Result ℕ Refusal} → r ≡ refused_as 19 → Writes (register_of f s) out r out
     write-negative q = writes_as (sym (ap (register_by f) w.accepts ∙ no_text_lem)) (writes-none q)
 
-    pub check-negative : (r : List ℕ) → Differs (at_zero 13) ≡ check_of f s r
+    pub check-negative : (r : List ℕ) → Err (at_zero 13) ≡ check_of f s r
     check-negative r = sym (check-is r ∙ ap (λ (t : Text). equal_to t r) no_text_lem)
 
   -- .. or none
@@ -279,41 +273,41 @@ module _ {f : Form} {s : List ℕ} {x : Extent} (w : Measured f s x) where
     check-so : (r : List ℕ) → check_of f s r ≡ equal_to (text octets) r
     check-so r = check-is r ∙ ap (λ (t : Text). equal_to t r) text-so
 
-    lays-so : {out out' : List ℕ} {a : Written} → Lays (register_of f s) out a out' → (a ≡ Length x.end) × Laid out 0 octets x.end out'
+    lays-so : {out out' : List ℕ} {a : Result ℕ Refusal} → Lays (register_of f s) out a out' → (a ≡ Ok x.end) × Laid out 0 octets x.end out'
     lays-so q =
         let e : text q.octets ≡ text octets = sym q.is ∙ register-so in
         let d : q.octets ≡ octets = cc in
-        (q.answer ∙ ap (λ (t : List ℕ). Length (length t)) d ∙ sym (ap Length w.long), rw (d, ← w.long) at q.laid)
+        (q.answer ∙ ap (λ (t : List ℕ). Ok (length t)) d ∙ sym (ap Ok w.long), rw (d, ← w.long) at q.laid)
 
     -- by what `too_long` answers
     module _ {out : List ℕ} {b : Bool} (d : b ≡ too_long (length out) x.end) where
-      pub write-over : {r : Written} → b ≡ true → r ≡ refused_as 15 → Writes (register_of f s) out r out
+      pub write-over : {r : Result ℕ Refusal} → b ≡ true → r ≡ refused_as 15 → Writes (register_of f s) out r out
       write-over h q = writes_as (sym register-so) (writes-over w.long d h q)
 
-      pub write-fit : {r : Written} {out' : List ℕ} → b ≡ false → Lays (register_of f s) out r out' → Writes (register_of f s) out r out'
+      pub write-fit : {r : Result ℕ Refusal} {out' : List ℕ} → b ≡ false → Lays (register_of f s) out r out' → Writes (register_of f s) out r out'
       write-fit {r} {out'} h q =
           let g = lays-so q in
-          writes_as (sym register-so) (subst (λ (r : Written). Writes (text octets) out r out') (sym g.0) (writes-fit w.long d h g.1))
+          writes_as (sym register-so) (subst (λ (r : Result ℕ Refusal). Writes (text octets) out r out') (sym g.0) (writes-fit w.long d h g.1))
 
     -- the check: it is compared with what would be written
-    pub check-long : (r : List ℕ) → 65535 < x.end → Differs (at_zero 13) ≡ check_of f s r
+    pub check-long : (r : List ℕ) → 65535 < x.end → Err (at_zero 13) ≡ check_of f s r
     check-long r h = sym (check-so r ∙ rw (← w.long, lt-ltb _ _ h))
 
-    module _ (r : List ℕ) {out : List ℕ} {a : Written} {out' z : List ℕ} {b : Bool} (l : x.end ≤ 65535) (h : x.end ≤ length out) (q : Lays (register_of f s) out a out')
+    module _ (r : List ℕ) {out : List ℕ} {a : Result ℕ Refusal} {out' z : List ℕ} {b : Bool} (l : x.end ≤ 65535) (h : x.end ≤ length out) (q : Lays (register_of f s) out a out')
         (d : z ≡ slice 0 x.end out') (e : b ≡ same (content 32 z) r) where
-      check-laid : cond b Same (Differs (at_zero 13)) ≡ check_of f s r
+      check-laid : cond b (Ok tt) (Err (at_zero 13)) ≡ check_of f s r
       check-laid =
           let k : length octets ≤ length out = omega (arith, w.long, h) in
           let v : slice 0 x.end out' ≡ octets = slice-take 0 x.end out' ∙ laid-part (lays-so q).1 k in
           let g : b ≡ same octets r = e ∙ ap (λ (y : List ℕ). same y r) (plain-content z ∙ d ∙ v) in
-          ap (λ (c : Bool). cond c Same (Differs (at_zero 13))) g ∙ sym (check-so r ∙ rw (← w.long, le-ltb _ _ l))
+          ap (λ (c : Bool). cond c (Ok tt) (Err (at_zero 13))) g ∙ sym (check-so r ∙ rw (← w.long, le-ltb _ _ l))
 
-      pub check-same : b ≡ true → Same ≡ check_of f s r
-      check-same k = sym (ap (λ (c : Bool). cond c Same (Differs (at_zero 13))) k) ∙ check-laid
+      pub check-same : b ≡ true → Ok tt ≡ check_of f s r
+      check-same k = sym (ap (λ (c : Bool). cond c (Ok tt) (Err (at_zero 13))) k) ∙ check-laid
 
-      pub check-other : b ≡ false → Differs (at_zero 13) ≡ check_of f s r
-      check-other k = sym (ap (λ (c : Bool). cond c Same (Differs (at_zero 13))) k) ∙ check-laid
+      pub check-other : b ≡ false → Err (at_zero 13) ≡ check_of f s r
+      check-other k = sym (ap (λ (c : Bool). cond c (Ok tt) (Err (at_zero 13))) k) ∙ check-laid
 
-module _ (f : Form) (s : List ℕ) {g : Begun} {b : Breach} {w : Refusal} (e : g ≡ begun_of s) (d : g ≡ Refuses b) (k : w ≡ refusal_at s b.number b.place) where
-  pub unbegun : MeasuredAs f s (Unread w)
+module _ (s : List ℕ) {g : Result Start Breach} {b : Breach} {w : Refusal} (e : g ≡ begun_of s) (d : g ≡ Err b) (k : w ≡ refusal_at s b.number b.place) where
+  pub unbegun : verdict_of s ≡ refused_with w
   unbegun = ap (verdict_by s) (sym e ∙ d) ∙ ap refused_with (sym k)

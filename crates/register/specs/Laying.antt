@@ -1,28 +1,24 @@
 -- The register as the code lays it: its entries section by section, behind room for the count; then all of it, once it is measured.
-use Rattle.std.specs.Prelude.{ℕ, ◌+◌, ◌-◌, ◌≤◌, Bool, true, false, ◌||◌, List, [], ◌∷◌, ◌≡◌, length}
+use Rattle.syntax.specs.declared.Refusal.{Refusal}
+use Rattle.std.specs.Prelude.{ℕ, ◌+◌, ◌-◌, ◌≤◌, Bool, true, false, ◌||◌, List, [], ◌∷◌, ◌≡◌, length, Result, Ok, Err}
 use Rattle.syntax.specs.Opening.{begun_of}
 use Rattle.syntax.specs.declared.Service.{Service}
 use Rattle.syntax.specs.declared.Syntax.{Syntax}
-use Rattle.syntax.specs.declared.opening.Begun.TheVariants.{Ready as Begins}
 use Rattle.grammar.specs.Interchange.{Reading, start, idle, busy, done}
 use Rattle.grammar.specs.Valid.{Interchange}
 use Rattle.grammar.specs.Verdict.{accepted, refused_with, verdict_of}
 use Rattle.walk.specs.declared.sections.Layout.{Layout}
 use Rattle.writing.specs.Laid.{Laid}
 use Rattle.writing.specs.Written.{Text, text}
-use Rattle.writing.specs.declared.Written.{Written}
-use Rattle.writing.specs.declared.Written.TheVariants.{Length}
 use Rattle.forms.specs.Forms.{entries_text, register_text, any_below}
 use Rattle.forms.specs.declared.Form.{Form}
 use Rattle.forms.specs.declared.Entry.{Entry}
 use Rattle.register.specs.Register.{entries_of, entries_in}
 use Rattle.register.specs.declared.entries.Extent.{Extent}
-use Rattle.register.specs.declared.register.Entries.{Entries}
-use Rattle.register.specs.declared.register.Entries.TheVariants.{Of, Refused}
 
 -- the octets s begin well: their UNB stands at p
 abbrev pub BeginsAt : Syntax → List ℕ → ℕ → Type 0
-BeginsAt y s p = begun_of s ≡ Begins (record { syntax = y; at = p })
+BeginsAt y s p = begun_of s ≡ Ok (record { syntax = y; at = p })
 
 -- ---- entries
 
@@ -58,9 +54,9 @@ pub record LaysEntries (f : Form) (p : ℕ) (s out : List ℕ) (r : Extent) (out
   pub adds : Adds f out (none_from p) (entries_in whole) r out'
 
 -- .. or it is refused
-abbrev pub LaysAll : Form → ℕ → List ℕ → List ℕ → Entries → List ℕ → Type 0
-LaysAll f p s out (Of r) out' = LaysEntries f p s out r out'
-LaysAll f p s out (Refused w) out' = verdict_of s ≡ refused_with w
+abbrev pub LaysAll : Form → ℕ → List ℕ → List ℕ → Result Extent Refusal → List ℕ → Type 0
+LaysAll f p s out (Ok r) out' = LaysEntries f p s out r out'
+LaysAll f p s out (Err w) out' = verdict_of s ≡ refused_with w
 
 -- ---- the register
 
@@ -72,13 +68,13 @@ pub record Measured (f : Form) (s : List ℕ) (r : Extent) : Type 0 where
   pub below : r.below ≡ any_below (entries_in whole)
   pub long : r.end ≡ length (register_text f (entries_in whole))
 
-abbrev pub MeasuredAs : Form → List ℕ → Entries → Type 0
-MeasuredAs f s (Of r) = Measured f s r
-MeasuredAs f s (Refused w) = verdict_of s ≡ refused_with w
+abbrev pub MeasuredAs : Form → List ℕ → Result Extent Refusal → Type 0
+MeasuredAs f s (Ok r) = Measured f s r
+MeasuredAs f s (Err w) = verdict_of s ≡ refused_with w
 
 -- the text x is laid from the front on, as far as there is room, and the answer is its length
-pub record Lays (x : Text) (out : List ℕ) (r : Written) (out' : List ℕ) : Type 0 where
+pub record Lays (x : Text) (out : List ℕ) (r : Result ℕ Refusal) (out' : List ℕ) : Type 0 where
   pub octets : List ℕ
   pub is : x ≡ text octets
-  pub answer : r ≡ Length (length octets)
+  pub answer : r ≡ Ok (length octets)
   pub laid : Laid out 0 octets (length octets) out'

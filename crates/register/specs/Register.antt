@@ -1,6 +1,7 @@
 -- "One call writes it, another checks one against the interchange.": the register of an interchange, in the form that the call is told (`forms` `Forms.antt`). It has an entry for
 -- each message, in their order.
-use Rattle.std.specs.Prelude.{ℕ, ◌+◌, cond, List, [], ◌∷◌, ◌++◌, ltb, length}
+use Rattle.syntax.specs.declared.Refusal.{Refusal}
+use Rattle.std.specs.Prelude.{ℕ, ⊤, ◌+◌, cond, List, [], ◌∷◌, ◌++◌, ltb, length, Result, Ok, Err}
 use Rattle.syntax.specs.Octets.{same}
 use Rattle.syntax.specs.Refusals.{at_zero}
 use Rattle.syntax.specs.declared.Service.{Service}
@@ -14,8 +15,6 @@ use Rattle.writing.specs.Written.{Text, text, no_text}
 use Rattle.forms.specs.Forms.{entry, text_in}
 use Rattle.forms.specs.declared.Form.{Form}
 use Rattle.forms.specs.declared.Entry.{Entry}
-use Rattle.register.specs.declared.register.Checked.{Checked}
-use Rattle.register.specs.declared.register.Checked.TheVariants.{Same, Refused as Differs}
 use Rattle.groups.specs.Calls.{service_in}
 
 -- ---- what stands in it
@@ -43,22 +42,22 @@ register_of f s = register_by f (verdict_of s)
 
 -- ---- "another checks one against the interchange": equal octets, or 13. One that is too long to be written, or that the form cannot tell, is none
 
-abbrev pub equal_to : Text → List ℕ → Checked
-equal_to (no_text f) r = Differs (at_zero 13)
-equal_to (text t) r = cond (ltb 65535 (length t)) (Differs (at_zero 13)) (cond (same t r) Same (Differs (at_zero 13)))
+abbrev pub equal_to : Text → List ℕ → Result ⊤ Refusal
+equal_to (no_text f) r = Err (at_zero 13)
+equal_to (text t) r = cond (ltb 65535 (length t)) (Err (at_zero 13)) (cond (same t r) (Ok tt) (Err (at_zero 13)))
 
 -- 1 to 12 first
-abbrev pub checked_by : Form → Verdict → List ℕ → Checked
-checked_by f (refused_with g) r = Differs g
+abbrev pub checked_by : Form → Verdict → List ℕ → Result ⊤ Refusal
+checked_by f (refused_with g) r = Err g
 checked_by f (accepted i) r = equal_to (text_in f (entries_in i)) r
 
-abbrev pub check_of : Form → List ℕ → List ℕ → Checked
+abbrev pub check_of : Form → List ℕ → List ℕ → Result ⊤ Refusal
 check_of f s r = checked_by f (verdict_of s) r
 
 -- for each case the paper's number and place, and the segment; 0 where there is none
-abbrev pub told_check : Checked → List ℕ
-told_check Same = 0 ∷ 0 ∷ 0 ∷ []
-told_check (Differs f) = f.number ∷ f.place ∷ f.segment ∷ []
+abbrev pub told_check : Result ⊤ Refusal → List ℕ
+told_check (Ok tt) = 0 ∷ 0 ∷ 0 ∷ []
+told_check (Err f) = f.number ∷ f.place ∷ f.segment ∷ []
 
 abbrev pub check_numbers : Form → List ℕ → List ℕ → List ℕ
 check_numbers f s r = told_check (check_of f s r)

@@ -4,16 +4,12 @@
 use input::{drain, read_full};
 use listing::text::listing;
 use syntax::content::part;
-use writing::Written;
 
 // The buffer is long enough for every text, as `listing` reckons, so it is never refused. What cannot be written is lost.
 fn tell(rt: &impl Print, s: &[u8]) {
     let mut out = [0u8; 131072];
-    match listing(s, &mut out) {
-        Written::Length(n) => {
-            let _ = rt.write_all(part(&out, 0, n));
-        }
-        Written::Refused(_) => {}
+    if let Ok(n) = listing(s, &mut out) {
+        let _ = rt.write_all(part(&out, 0, n));
     }
 }
 

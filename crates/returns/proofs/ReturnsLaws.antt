@@ -1,5 +1,5 @@
 -- Laws of the calls: the loads of a file and of a message are those that the walk adds, and what is left is told.
-use Rattle.std.specs.Prelude.{ℕ, ◌+◌, ◌≤◌, refl, Bool, not, List, [], ◌∷◌, ◌++◌, T, leb, length, Float}
+use Rattle.std.specs.Prelude.{ℕ, ◌+◌, ◌≤◌, refl, Bool, not, List, [], ◌∷◌, ◌++◌, T, leb, length, Float, Result, Ok, Err, ⊤}
 use Rattle.std.proofs.Common.{arith, sym, ◌∙◌, subst, leb→le, length-append}
 use Rattle.std.proofs.Math.Path.{◌≡◌, ap}
 use Rattle.std.proofs.Math.Option.{Option, none, some}
@@ -17,8 +17,6 @@ use Rattle.syntax.specs.declared.Breach.{Breach}
 use Rattle.syntax.specs.declared.Refusal.{Refusal}
 use Rattle.syntax.specs.declared.Syntax.{Syntax}
 use Rattle.syntax.specs.declared.opening.Start.{Start}
-use Rattle.syntax.specs.declared.opening.Begun.{Begun}
-use Rattle.syntax.specs.declared.opening.Begun.TheVariants.{Ready as Begins, Refused as Refuses}
 use Rattle.grammar.specs.Lists.{Snoc, nil, ◌▷◌, ◌+++◌, joined, list, Rule, holds, every}
 use Rattle.grammar.proofs.ListsLaws.{every-left, every-right}
 use Rattle.grammar.specs.Grams.{Grams}
@@ -40,68 +38,62 @@ use Rattle.grammar.proofs.PlacesLaws.{wide-list}
 use Rattle.grammar.specs.Places.{wide}
 use Rattle.walk.specs.declared.sections.Layout.{Layout}
 use Rattle.judge.specs.Told.{verdict_as}
-use Rattle.judge.specs.declared.run.Verdict.{Verdict as Judged}
-use Rattle.judge.specs.declared.run.Verdict.TheVariants.{Accepted, Refused as Declined}
 use Rattle.kilograms.specs.OldSum.{Old, tally, refused, limit, added_all, single, handed_in, handed_bits}
 use Rattle.kilograms.specs.SingleLaws.{Whole}
 use Rattle.kilograms.specs.Running.{running_as, Held, Runs}
 use Rattle.kilograms.specs.RunningLaws.{whole-real, runs-whole, held-handed, handed-none}
 use Rattle.kilograms.specs.declared.Tally.{Tally}
-use Rattle.kilograms.specs.declared.Running.{Running}
-use Rattle.kilograms.specs.declared.Running.TheVariants.{Of as Counts, Refused as Counts-not}
 use Rattle.returns.specs.Returns.{file_loads, message_loads, file_loads_of, message_loads_of, weighed, Summed, left, refused_sum, summed_as, summed_by, old_sum_as, told_sum, single_in, single_of, sum_numbers}
 use Rattle.returns.specs.Reading.{added_from, Starts}
 use Rattle.returns.proofs.LoadsLaws.{body-loads, file-loads, from-loads}
 use Rattle.returns.specs.ReadingLaws.{held-from}
 use Rattle.returns.specs.declared.sums.Left.{Left}
-use Rattle.returns.specs.declared.sums.OldSum.{OldSum}
-use Rattle.returns.specs.declared.sums.OldSum.TheVariants.{Of, Refused}
 
 -- ---- what is left
 
-pub sum-real : (t : Tally) → Runs (Counts t) → T (not (is_nan t.sum))
+pub sum-real : (t : Tally) → Runs (Ok t) → T (not (is_nan t.sum))
 sum-real t r = let k = runs-whole t r in whole-real t.sum k.value k.whole
 
 -- the fields of what the code keeps
-sum_of : Running → Float
-sum_of (Counts t) = t.sum
-sum_of (Counts-not n) = single 0
+sum_of : Result Tally ℕ → Float
+sum_of (Ok t) = t.sum
+sum_of (Err n) = single 0
 
-loads_in : Running → ℕ
-loads_in (Counts t) = t.loads
-loads_in (Counts-not n) = n
+loads_in : Result Tally ℕ → ℕ
+loads_in (Ok t) = t.loads
+loads_in (Err n) = n
 
-kilograms_in : Running → ℕ
-kilograms_in (Counts t) = t.kilograms
-kilograms_in (Counts-not n) = 0
+kilograms_in : Result Tally ℕ → ℕ
+kilograms_in (Ok t) = t.kilograms
+kilograms_in (Err n) = 0
 
-is_refused : Running → ℕ
-is_refused (Counts t) = 0
-is_refused (Counts-not n) = 1
+is_refused : Result Tally ℕ → ℕ
+is_refused (Ok t) = 0
+is_refused (Err n) = 1
 
 pub left_so : (t : Tally) {w b : ℕ} → ((v : ℕ) → Whole t.sum v → v ≤ limit → w ≡ v) → b ≡ to_bits binary32 t.sum
-    → (o : Old) → Held o → Counts t ≡ running_as o
-    → Of (record { sum = w; single = t.sum; bits = b; loads = t.loads; kilograms = t.kilograms }) ≡ old_sum_as (summed_as o)
+    → (o : Old) → Held o → Ok t ≡ running_as o
+    → Ok (record { sum = w; single = t.sum; bits = b; loads = t.loads; kilograms = t.kilograms }) ≡ old_sum_as (summed_as o)
 unfolding sum_of loads_in kilograms_in is_refused
 left_so t f d (refused n) h e = let z : ◌≡◌ {A = ℕ} 0 1 = ap is_refused e in absurd (omega (arith, z))
 left_so t {w} {b} f d (tally v n m) h e =
     let a : t.sum ≡ single v = ap sum_of e in
     let q : w ≡ v = f v (subst (λ (x : Float). Whole x v) (sym a) h.1.0) h.0 in
     let r : b ≡ to_bits binary32 (single v) = d ∙ ap (to_bits binary32) a in
-    ap (λ (x : ℕ). Of (record { sum = x; single = t.sum; bits = b; loads = t.loads; kilograms = t.kilograms })) q
-    ∙ ap (λ (x : Float). Of (record { sum = v; single = x; bits = b; loads = t.loads; kilograms = t.kilograms })) a
-    ∙ ap (λ (x : ℕ). Of (record { sum = v; single = single v; bits = x; loads = t.loads; kilograms = t.kilograms })) r
-    ∙ ap (λ (x : ℕ). Of (record { sum = v; single = single v; bits = to_bits binary32 (single v); loads = x; kilograms = t.kilograms })) (ap loads_in e)
-    ∙ ap (λ (x : ℕ). Of (record { sum = v; single = single v; bits = to_bits binary32 (single v); loads = n; kilograms = x })) (ap kilograms_in e)
+    ap (λ (x : ℕ). Ok (record { sum = x; single = t.sum; bits = b; loads = t.loads; kilograms = t.kilograms })) q
+    ∙ ap (λ (x : Float). Ok (record { sum = v; single = x; bits = b; loads = t.loads; kilograms = t.kilograms })) a
+    ∙ ap (λ (x : ℕ). Ok (record { sum = v; single = single v; bits = x; loads = t.loads; kilograms = t.kilograms })) r
+    ∙ ap (λ (x : ℕ). Ok (record { sum = v; single = single v; bits = to_bits binary32 (single v); loads = x; kilograms = t.kilograms })) (ap loads_in e)
+    ∙ ap (λ (x : ℕ). Ok (record { sum = v; single = single v; bits = to_bits binary32 (single v); loads = n; kilograms = x })) (ap kilograms_in e)
 
-module _ {k : Running} where
-  pub concluded-left : {t : Tally} {r : OldSum} → k ≡ Counts t → ((o : Old) → Held o → Counts t ≡ running_as o → r ≡ old_sum_as (summed_as o))
+module _ {k : Result Tally ℕ} where
+  pub concluded-left : {t : Tally} {r : Result Left Refusal} → k ≡ Ok t → ((o : Old) → Held o → Ok t ≡ running_as o → r ≡ old_sum_as (summed_as o))
       → (o : Old) → Held o → k ≡ running_as o → r ≡ old_sum_as (summed_as o)
   concluded-left e f o h q = f o h (sym e ∙ q)
 
-  pub concluded-refused : {n : ℕ} → k ≡ Counts-not n → (o : Old) → Held o → k ≡ running_as o → Refused (at_zero n) ≡ old_sum_as (summed_as o)
+  pub concluded-refused : {n : ℕ} → k ≡ Err n → (o : Old) → Held o → k ≡ running_as o → Err (at_zero n) ≡ old_sum_as (summed_as o)
   unfolding loads_in is_refused
-  concluded-refused e (refused m) h q = ap (λ (x : ℕ). Refused (at_zero x)) (ap loads_in (sym e ∙ q))
+  concluded-refused e (refused m) h q = ap (λ (x : ℕ). Err (at_zero x)) (ap loads_in (sym e ∙ q))
   concluded-refused e (tally v m f) h q = let z : ◌≡◌ {A = ℕ} 1 0 = ap is_refused (sym e ∙ q) in absurd (omega (arith, z))
 
 -- ---- a file
@@ -111,7 +103,7 @@ una-length : (n : Option Una) → length (print_una n) ≡ (opening_in n).at
 una-length none = refl
 una-length (some (una σ m)) = refl
 
-file-row : (s : List ℕ) (i : Interchange) (x : Start) → begun_of s ≡ Begins x → verdict_of s ≡ accepted i
+file-row : (s : List ℕ) (i : Interchange) (x : Start) → begun_of s ≡ Ok x → verdict_of s ≡ accepted i
     → Row x.syntax.service s x.at (list (shown (reading i))) (length s)
 file-row s i x e d =
     let b = begins s i x e d in
@@ -129,14 +121,14 @@ file-adds : (i : Interchange) → Valid i → (o : Old) → added_from o (list (
 file-adds (interchange n u ms z) v o =
     from-loads o (shown (done u ms z)) v.weighed ∙ ap (λ (l : Snoc Grams). added_all o (weighed l)) (file-loads u ms z)
 
-module _ (s : List ℕ) {g : Begun} (e : g ≡ begun_of s) where
-  pub file-unbegun : {f : Breach} {r : OldSum} → g ≡ Refuses f → (o : Old) (i : Interchange) → verdict_of s ≡ accepted i → r ≡ old_sum_as (summed_as (added_all o (weighed (file_loads i))))
+module _ (s : List ℕ) {g : Result Start Breach} (e : g ≡ begun_of s) where
+  pub file-unbegun : {f : Breach} {r : Result Left Refusal} → g ≡ Err f → (o : Old) (i : Interchange) → verdict_of s ≡ accepted i → r ≡ old_sum_as (summed_as (added_all o (weighed (file_loads i))))
   file-unbegun {f} d o i v =
       let q : refused_with (refusal_at s f.number f.place) ≡ accepted i = sym (ap (verdict_by s) (sym e ∙ d)) ∙ v in
       let z : ◌≡◌ {A = ℕ} 0 1 = cc in
       absurd (omega arith)
 
-  pub file-so : {x : Start} {before k : Running} {r : OldSum} → g ≡ Begins x
+  pub file-so : {x : Start} {before k : Result Tally ℕ} {r : Result Left Refusal} → g ≡ Ok x
       → ((gs : List Segment) (o : Old) → Row x.syntax.service s x.at gs (length s) → Held o → before ≡ running_as o → k ≡ running_as (added_from o gs))
       → ((o : Old) → Held o → k ≡ running_as o → r ≡ old_sum_as (summed_as o))
       → (o : Old) (i : Interchange) → Held o → before ≡ running_as o → verdict_of s ≡ accepted i → r ≡ old_sum_as (summed_as (added_all o (weighed (file_loads i))))
@@ -146,23 +138,23 @@ module _ (s : List ℕ) {g : Begun} (e : g ≡ begun_of s) where
       c (added_from o (list (shown (reading i)))) (held-from o (list (shown (reading i))) h) (f (list (shown (reading i))) o w h q) ∙ ap (λ (p : Old). old_sum_as (summed_as p)) (file-adds i n o)
 
 -- the verdict first
-module _ (s : List ℕ) {v : Judged} (e : v ≡ verdict_as (verdict_of s)) {r : OldSum} where
-  pub file-read : {before : Running} → v ≡ Accepted
+module _ (s : List ℕ) {v : Result ⊤ Refusal} (e : v ≡ verdict_as (verdict_of s)) {r : Result Left Refusal} where
+  pub file-read : {before : Result Tally ℕ} → v ≡ Ok tt
       → ((o : Old) (i : Interchange) → Held o → before ≡ running_as o → verdict_of s ≡ accepted i → r ≡ old_sum_as (summed_as (added_all o (weighed (file_loads i)))))
       → (o : Old) → Held o → before ≡ running_as o → r ≡ old_sum_as (summed_by o (file_loads_of s))
   file-read d f o h q = by (verdict_of s) (sym d ∙ e) (λ i k. f o i h q k)
     where
-      by : (w : Verdict) → Accepted ≡ verdict_as w → ((i : Interchange) → w ≡ accepted i → r ≡ old_sum_as (summed_as (added_all o (weighed (file_loads i)))))
+      by : (w : Verdict) → Ok tt ≡ verdict_as w → ((i : Interchange) → w ≡ accepted i → r ≡ old_sum_as (summed_as (added_all o (weighed (file_loads i)))))
           → r ≡ old_sum_as (summed_by o (answered_by w (λ i. some (file_loads i))))
       by (accepted i) k g = g i refl
       by (refused_with f) k g = let z : ◌≡◌ {A = ℕ} 0 1 = cc in absurd (omega arith)
 
-  pub file-refused : {f : Refusal} {before : Running} → v ≡ Declined f → r ≡ Refused f → (o : Old) → Held o → before ≡ running_as o → r ≡ old_sum_as (summed_by o (file_loads_of s))
+  pub file-refused : {f : Refusal} {before : Result Tally ℕ} → v ≡ Err f → r ≡ Err f → (o : Old) → Held o → before ≡ running_as o → r ≡ old_sum_as (summed_by o (file_loads_of s))
   file-refused {f} d g o h q = by (verdict_of s) (sym d ∙ e)
     where
-      by : (w : Verdict) → Declined f ≡ verdict_as w → r ≡ old_sum_as (summed_by o (answered_by w (λ i. some (file_loads i))))
+      by : (w : Verdict) → Err f ≡ verdict_as w → r ≡ old_sum_as (summed_by o (answered_by w (λ i. some (file_loads i))))
       by (accepted i) k = let z : ◌≡◌ {A = ℕ} 0 1 = cc in absurd (omega arith)
-      by (refused_with k) z = let x : f ≡ k = cc in g ∙ ap Refused x
+      by (refused_with k) z = let x : f ≡ k = cc in g ∙ ap Err x
 
 -- ---- a message
 
@@ -189,14 +181,14 @@ module _ (s m : List ℕ) where
   abbrev ask : Interchange → Placed → Option (Snoc Grams)
   ask i p = some (message_loads p)
 
-  pub message-refused : {f : Refusal} {before : Running} → verdict_of s ≡ refused_with f → (o : Old) → Held o → before ≡ running_as o → Refused f ≡ old_sum_as (summed_by o (message_loads_of s m))
+  pub message-refused : {f : Refusal} {before : Result Tally ℕ} → verdict_of s ≡ refused_with f → (o : Old) → Held o → before ≡ running_as o → Err f ≡ old_sum_as (summed_by o (message_loads_of s m))
   message-refused e o h q = sym (ap (λ (a : Answered (Snoc Grams)). old_sum_as (summed_by o a)) (call-refused s m ask e))
 
-  pub message-missing : {f : Refusal} {before : Running} → (i : Interchange) × ((verdict_of s ≡ accepted i) × (message_in i m ≡ none)) → f ≡ at_zero 13
-      → (o : Old) → Held o → before ≡ running_as o → Refused f ≡ old_sum_as (summed_by o (message_loads_of s m))
-  message-missing k e o h q = ap Refused e ∙ sym (ap (λ (a : Answered (Snoc Grams)). old_sum_as (summed_by o a)) (call-missing s m ask k))
+  pub message-missing : {f : Refusal} {before : Result Tally ℕ} → (i : Interchange) × ((verdict_of s ≡ accepted i) × (message_in i m ≡ none)) → f ≡ at_zero 13
+      → (o : Old) → Held o → before ≡ running_as o → Err f ≡ old_sum_as (summed_by o (message_loads_of s m))
+  message-missing k e o h q = ap Err e ∙ sym (ap (λ (a : Answered (Snoc Grams)). old_sum_as (summed_by o a)) (call-missing s m ask k))
 
-  pub message-so : {y : Syntax} {c : Layout} {rows : List ℕ} {before k : Running} {r : OldSum} → Holds s m y c rows
+  pub message-so : {y : Syntax} {c : Layout} {rows : List ℕ} {before k : Result Tally ℕ} {r : Result Left Refusal} → Holds s m y c rows
       → ((gs : List Segment) (o : Old) → Row y.service s c.body gs c.tail → Held o → before ≡ running_as o → k ≡ running_as (added_from o gs))
       → ((o : Old) → Held o → k ≡ running_as o → r ≡ old_sum_as (summed_as o))
       → (o : Old) → Held o → before ≡ running_as o → r ≡ old_sum_as (summed_by o (message_loads_of s m))
@@ -211,10 +203,10 @@ module _ (s m : List ℕ) where
 
 -- ---- the calls
 
-pub starts-handed : (x : Float) {k : Running} → T (fits binary32 x) → k ≡ running_as (handed_in x) → Starts k
+pub starts-handed : (x : Float) {k : Result Tally ℕ} → T (fits binary32 x) → k ≡ running_as (handed_in x) → Starts k
 starts-handed x f e = record { old = handed_in x; held = held-handed x f; is = e; none_yet = handed-none x }
 
-pub starts-bits : (b : ℕ) {k : Running} → k ≡ running_as (handed_bits b) → Starts k
+pub starts-bits : (b : ℕ) {k : Result Tally ℕ} → k ≡ running_as (handed_bits b) → Starts k
 starts-bits b e = starts-handed (of_bits binary32 b) (of_bits-fits binary32 b) e
 
 pub held-bits : (b : ℕ) → Held (handed_bits b)
@@ -232,10 +224,10 @@ told-so : (x : Summed) → told_sum (old_sum_as x) ≡ sum_numbers x
 told-so (left v n e) = refl
 told-so (refused_sum f) = refl
 
-pub sum-promised : {r : OldSum} (x : Summed) → r ≡ old_sum_as x → (r ≡ old_sum_as x) × (told_sum r ≡ sum_numbers x)
+pub sum-promised : {r : Result Left Refusal} (x : Summed) → r ≡ old_sum_as x → (r ≡ old_sum_as x) × (told_sum r ≡ sum_numbers x)
 sum-promised x e = (e, ap told_sum e ∙ told-so x)
 
-pub single-told : {r : OldSum} (x : Summed) → r ≡ old_sum_as x → single_in r ≡ single_of x
+pub single-told : {r : Result Left Refusal} (x : Summed) → r ≡ old_sum_as x → single_in r ≡ single_of x
 single-told x e = ap single_in e ∙ by x
   where
     by : (x : Summed) → single_in (old_sum_as x) ≡ single_of x

@@ -1,7 +1,8 @@
 -- Laws of the loads as the code reads them: one segment, and the walk along many.
-use Rattle.std.specs.Prelude.{ℕ, suc, ◌+◌, ◌-◌, ◌/◌, ◌%◌, ◌≤◌, ◌<◌, ◌≡◌, refl, Bool, true, false, cond, ◌&&◌, List, [], ◌∷◌, ◌++◌, T, eqb, leb, ltb, pos, negsuc, length}
+use Rattle.kilograms.specs.declared.Tally.{Tally}
+use Rattle.std.specs.Prelude.{ℕ, suc, ◌+◌, ◌-◌, ◌/◌, ◌%◌, ◌≤◌, ◌<◌, ◌≡◌, refl, Bool, true, false, cond, ◌&&◌, List, [], ◌∷◌, ◌++◌, T, eqb, leb, ltb, pos, negsuc, length, Option, Result, Some, None}
 use Rattle.std.proofs.Common.{arith, ap, sym, ◌∙◌, subst, length-append, leb-true, eq-eqb, ne_eqb}
-use Rattle.std.proofs.Math.Option.{Option, none, some}
+use Rattle.std.proofs.Math.Option.{Option as Maybe, none, some}
 use Rattle.syntax.specs.Octets.{octets, same}
 use Rattle.syntax.specs.Service.{fit}
 use Rattle.syntax.specs.Content.{content}
@@ -10,18 +11,12 @@ use Rattle.syntax.specs.Segment.{component_at, part_of}
 use Rattle.syntax.specs.Tree.{Segment, print_s, print}
 use Rattle.syntax.proofs.TreeLaws.{print-cons}
 use Rattle.syntax.specs.declared.Service.{Service}
-use Rattle.syntax.specs.declared.Found.{Found}
-use Rattle.syntax.specs.declared.Found.TheVariants.{At as EndsAt, Nothing as NoEnd}
 use Rattle.grammar.specs.Segments.{Asked, asked}
 use Rattle.grammar.specs.Loads.{Shape, shape, amount_right, grams, amount, unit, unit_of, three_part, load_unit, load_shape}
 use Rattle.elements.specs.Octets.{asked_at}
 use Rattle.elements.specs.Amounts.{amount_is, unit_is}
 use Rattle.elements.specs.declared.amounts.Form.{Form}
-use Rattle.elements.specs.declared.amounts.Amount.{Amount}
 use Rattle.grammar.specs.Grams as number
-use Rattle.elements.specs.declared.amounts.Amount.TheVariants.{Grams, Bad}
-use Rattle.elements.specs.declared.amounts.Unit.{Unit}
-use Rattle.elements.specs.declared.amounts.Unit.TheVariants.{Of, Unknown}
 use Rattle.walk.specs.RunLaws.{long-print}
 use Rattle.groups.specs.Stand.{Row}
 use Rattle.groups.specs.StandLaws.{row_first, row-asked, row-rest}
@@ -29,13 +24,8 @@ use Rattle.groups.specs.LinksLaws.{ends-in}
 use Rattle.kilograms.specs.OldSum.{Old, tally, refused, limit, rounded, kilograms_in, added, single}
 use Rattle.kilograms.specs.Running.{running_as, load_as, Held, loads_of, Runs, Weighs}
 use Rattle.kilograms.specs.RunningLaws.{held-added, running-one}
-use Rattle.kilograms.specs.declared.Running.{Running}
-use Rattle.kilograms.specs.declared.Load.{Load}
-use Rattle.kilograms.specs.declared.Load.TheVariants.{Other}
 use Rattle.returns.specs.Returns.{kilograms_of}
 use Rattle.returns.specs.Reading.{three_parted, weighed_by, read_by, read_in, read_as, added_by, added_from, Starts}
-use Rattle.returns.specs.declared.loads.Read.{Read}
-use Rattle.returns.specs.declared.loads.Read.TheVariants.{Load as Weighed, Nothing}
 
 -- ---- a load is at most 100,000 kilograms
 
@@ -51,11 +41,11 @@ pub kilograms-weigh : (g : number.Grams) → Weighs (load_as (kilograms_of g))
 kilograms-weigh (pos g) = whole-weighs g
 kilograms-weigh (negsuc g) = tt
 
-read-weighs : (o : Option Shape) (s : List ℕ) {x : Option ℕ} → read_by o s ≡ some x → Weighs (load_as x)
+read-weighs : (o : Maybe Shape) (s : List ℕ) {x : Maybe ℕ} → read_by o s ≡ some x → Weighs (load_as x)
 read-weighs none s e = let z : ◌≡◌ {A = ℕ} 0 1 = cc in absurd (omega arith)
-read-weighs (some u) s {x} e = subst (λ (y : Option ℕ). Weighs (load_as y)) (inner e) (by (amount_right u s))
+read-weighs (some u) s {x} e = subst (λ (y : Maybe ℕ). Weighs (load_as y)) (inner e) (by (amount_right u s))
   where
-    inner : {a b : Option ℕ} → some a ≡ some b → a ≡ b
+    inner : {a b : Maybe ℕ} → some a ≡ some b → a ≡ b
     inner e = cc
 
     by : (b : Bool) → Weighs (load_as (cond b (kilograms_of (grams u s)) none))
@@ -63,12 +53,12 @@ read-weighs (some u) s {x} e = subst (λ (y : Option ℕ). Weighs (load_as y)) (
     by false = tt
 
 -- the load of an amount is that of its grams
-amount-so : (z : number.Grams) → weighed_by (Grams (number.magnitude z) (number.below z)) ≡ load_as (kilograms_of z)
+amount-so : (z : number.Grams) → weighed_by (Some (number.magnitude z, number.below z)) ≡ load_as (kilograms_of z)
 amount-so (pos n) = refl
 amount-so (negsuc n) = refl
 
-pub forward-weighed : {a : Amount} {n : ℕ} {b : Bool} {x : Load} → a ≡ Grams n b → b ≡ false → x ≡ load_as (kilograms_in n) → x ≡ weighed_by a
-forward-weighed {a} {n} {b} e d h = h ∙ sym (ap weighed_by (e ∙ ap (Grams n) d))
+pub forward-weighed : {a : Option (ℕ × Bool)} {n : ℕ} {b : Bool} {x : Option ℕ} → a ≡ Some (n, b) → b ≡ false → x ≡ load_as (kilograms_in n) → x ≡ weighed_by a
+forward-weighed {a} {n} {b} e d h = h ∙ sym (ap weighed_by (e ∙ ap (λ q. Some (n, q)) d))
 
 -- ---- what a segment is
 
@@ -82,53 +72,53 @@ pub three-one : (a : Asked) {q : Bool} → q ≡ same a.tag (octets "QTY") → q
 three-one a e d n k = k ∙ sym (rw (← e, d, eq-eqb a.size 1 n))
 
 -- no load
-pub read_none : (a : Asked) {r : Bool} → r ≡ three_parted a → r ≡ false → Nothing ≡ read_as (read_in a)
+pub read_none : (a : Asked) {r : Bool} → r ≡ three_parted a → r ≡ false → None ≡ read_as (read_in a)
 read_none a e d = sym (ap (λ (b : Bool). read_as (read_by (cond b (load_unit (unit_of a)) none) (amount a))) (sym e ∙ d))
 
 module _ (a : Asked) {r : Bool} (e : r ≡ three_parted a) (d : r ≡ true) where
   shape-so : read_in a ≡ read_by (load_unit (unit_of a)) (amount a)
   shape-so = ap (λ (b : Bool). read_by (cond b (load_unit (unit_of a)) none) (amount a)) (sym e ∙ d)
 
-  unknown-so : (o : Option Shape) → Unknown ≡ unit_is o → o ≡ none
+  unknown-so : (o : Maybe Shape) → None ≡ unit_is o → o ≡ none
   unknown-so none k = refl
   unknown-so (some (shape w m)) k = let z : ◌≡◌ {A = ℕ} 0 1 = cc in absurd (omega arith)
 
-  known_so : (o : Option Shape) (u : Form) → Of u ≡ unit_is o → o ≡ some (shape u.whole u.decimals)
+  known_so : (o : Maybe Shape) (u : Form) → Some u ≡ unit_is o → o ≡ some (shape u.whole u.decimals)
   known_so none u k = let z : ◌≡◌ {A = ℕ} 0 1 = cc in absurd (omega arith)
   known_so (some (shape w m)) u k =
       let x : u ≡ record { whole = w; decimals = m } = cc in
       ap (λ (f : Form). some (shape f.whole f.decimals)) (sym x)
 
   -- not in KGM or TNE
-  pub read-unknown : {p : List ℕ} {k : Unit} → p ≡ unit_of a → k ≡ unit_is (unit p (shape 9 3) (shape 6 6)) → k ≡ Unknown → Nothing ≡ read_as (read_in a)
+  pub read-unknown : {p : List ℕ} {k : Option Form} → p ≡ unit_of a → k ≡ unit_is (unit p (shape 9 3) (shape 6 6)) → k ≡ None → None ≡ read_as (read_in a)
   read-unknown {p} h q z =
       let n : load_unit (unit_of a) ≡ none = unknown-so (load_unit (unit_of a)) (sym z ∙ q ∙ ap (λ (x : List ℕ). unit_is (load_unit x)) h) in
-      sym (ap read_as (shape-so ∙ ap (λ (o : Option Shape). read_by o (amount a)) n))
+      sym (ap read_as (shape-so ∙ ap (λ (o : Maybe Shape). read_by o (amount a)) n))
 
   -- a load
-  pub read-load : {p g : List ℕ} {k : Unit} {u : Form} {m : Amount} {x : Load} → p ≡ unit_of a → k ≡ unit_is (unit p (shape 9 3) (shape 6 6)) → k ≡ Of u → g ≡ amount a
-      → m ≡ amount_is (amount_right (shape u.whole u.decimals) g) (grams (shape u.whole u.decimals) g) → x ≡ weighed_by m → Weighed x ≡ read_as (read_in a)
+  pub read-load : {p g : List ℕ} {k : Option Form} {u : Form} {m : Option (ℕ × Bool)} {x : Option ℕ} → p ≡ unit_of a → k ≡ unit_is (unit p (shape 9 3) (shape 6 6)) → k ≡ Some u → g ≡ amount a
+      → m ≡ amount_is (amount_right (shape u.whole u.decimals) g) (grams (shape u.whole u.decimals) g) → x ≡ weighed_by m → Some x ≡ read_as (read_in a)
   read-load {p} {g} {k} {u} {m} {x} h q z l w v =
       let n : load_unit (unit_of a) ≡ some (shape u.whole u.decimals) = known_so (load_unit (unit_of a)) u (sym z ∙ q ∙ ap (λ (x : List ℕ). unit_is (load_unit x)) h) in
-      ap Weighed (v ∙ ap weighed_by w ∙ by (amount_right (shape u.whole u.decimals) g) ∙ ap (λ (y : List ℕ). load_as (cond (amount_right (shape u.whole u.decimals) y) (kilograms_of (grams (shape u.whole u.decimals) y)) none)) l)
-      ∙ sym (ap read_as (shape-so ∙ ap (λ (o : Option Shape). read_by o (amount a)) n))
+      ap Some (v ∙ ap weighed_by w ∙ by (amount_right (shape u.whole u.decimals) g) ∙ ap (λ (y : List ℕ). load_as (cond (amount_right (shape u.whole u.decimals) y) (kilograms_of (grams (shape u.whole u.decimals) y)) none)) l)
+      ∙ sym (ap read_as (shape-so ∙ ap (λ (o : Maybe Shape). read_by o (amount a)) n))
     where
       by : (b : Bool) → weighed_by (amount_is b (grams (shape u.whole u.decimals) g)) ≡ load_as (cond b (kilograms_of (grams (shape u.whole u.decimals) g)) none)
       by true = amount-so (grams (shape u.whole u.decimals) g)
       by false = refl
 
 -- an amount as a load weighs at most 100,000 kilograms
-pub amount-weighs : (m : Amount) → Weighs (weighed_by m)
-amount-weighs (Grams n false) = whole-weighs n
-amount-weighs (Grams n true) = tt
-amount-weighs Bad = tt
+pub amount-weighs : (m : Option (ℕ × Bool)) → Weighs (weighed_by m)
+amount-weighs (Some (n, false)) = whole-weighs n
+amount-weighs (Some (n, true)) = tt
+amount-weighs None = tt
 
 -- ---- one segment more
 
 held_by_lem : (o : Old) (a : Asked) → Held o → Held (added_by o (read_in a))
 held_by_lem o a h = by (read_in a) (λ y q. read-weighs (load_shape a) (amount a) q)
   where
-    by : (x : Option (Option ℕ)) → ((y : Option ℕ) → x ≡ some y → Weighs (load_as y)) → Held (added_by o x)
+    by : (x : Maybe (Maybe ℕ)) → ((y : Maybe ℕ) → x ≡ some y → Weighs (load_as y)) → Held (added_by o x)
     by none k = h
     by (some y) k = held-added o y (k y refl) h
 
@@ -136,7 +126,7 @@ pub held-from : (o : Old) (gs : List Segment) → Held o → Held (added_from o 
 held-from o [] h = h
 held-from o (g ∷ gs) h = held-from (added_by o (read_in (asked g))) gs (held_by_lem o (asked g) h)
 
-loads-by : (o : Old) (x : Option (Option ℕ)) → loads_of (added_by o x) ≤ suc (loads_of o)
+loads-by : (o : Old) (x : Maybe (Maybe ℕ)) → loads_of (added_by o x) ≤ suc (loads_of o)
 loads-by o none = omega arith
 loads-by (refused n) (some x) = omega arith
 loads-by (tally v n e) (some none) = omega arith
@@ -147,33 +137,33 @@ loads-by (tally v n e) (some (some x)) = by (ltb limit (v + x))
     by false = omega arith
 
 -- the load that was read weighs at most 100,000 kilograms
-pub weighs-read : (a : Asked) {f : Read} → f ≡ read_as (read_in a) → {x : Load} → f ≡ Weighed x → Weighs x
+pub weighs-read : (a : Asked) {f : Option (Option ℕ)} → f ≡ read_as (read_in a) → {x : Option ℕ} → f ≡ Some x → Weighs x
 weighs-read a {f} e {x} d = by (read_in a) (sym d ∙ e) (λ z q. read-weighs (load_shape a) (amount a) q)
   where
-    by : (y : Option (Option ℕ)) → Weighed x ≡ read_as y → ((z : Option ℕ) → y ≡ some z → Weighs (load_as z)) → Weighs x
+    by : (y : Maybe (Maybe ℕ)) → Some x ≡ read_as y → ((z : Maybe ℕ) → y ≡ some z → Weighs (load_as z)) → Weighs x
     by none q w = let z : ◌≡◌ {A = ℕ} 0 1 = cc in absurd (omega arith)
     by (some y) q w = let z : x ≡ load_as y = cc in subst Weighs (sym z) (w y refl)
 
-module _ {k r : Running} (a : Asked) {f : Read} (e : f ≡ read_as (read_in a)) where
-  pub after-load : {x : Load} → f ≡ Weighed x → ((o : Old) (l : Option ℕ) → Held o → k ≡ running_as o → x ≡ load_as l → r ≡ running_as (added o l))
+module _ {k r : Result Tally ℕ} (a : Asked) {f : Option (Option ℕ)} (e : f ≡ read_as (read_in a)) where
+  pub after-load : {x : Option ℕ} → f ≡ Some x → ((o : Old) (l : Maybe ℕ) → Held o → k ≡ running_as o → x ≡ load_as l → r ≡ running_as (added o l))
       → (o : Old) → Held o → k ≡ running_as o → r ≡ running_as (added_by o (read_in a))
   after-load {x} d g o h q = by (read_in a) (sym d ∙ e)
     where
-      by : (y : Option (Option ℕ)) → Weighed x ≡ read_as y → r ≡ running_as (added_by o y)
+      by : (y : Maybe (Maybe ℕ)) → Some x ≡ read_as y → r ≡ running_as (added_by o y)
       by none z = let z : ◌≡◌ {A = ℕ} 0 1 = cc in absurd (omega arith)
       by (some l) z = let i : x ≡ load_as l = cc in g o l h q i
 
-  pub after_none : f ≡ Nothing → r ≡ k → (o : Old) → Held o → k ≡ running_as o → r ≡ running_as (added_by o (read_in a))
+  pub after_none : f ≡ None → r ≡ k → (o : Old) → Held o → k ≡ running_as o → r ≡ running_as (added_by o (read_in a))
   after_none d g o h q = by (read_in a) (sym d ∙ e)
     where
-      by : (y : Option (Option ℕ)) → Nothing ≡ read_as y → r ≡ running_as (added_by o y)
+      by : (y : Maybe (Maybe ℕ)) → None ≡ read_as y → r ≡ running_as (added_by o y)
       by none z = g ∙ q
       by (some l) z = let z : ◌≡◌ {A = ℕ} 0 1 = cc in absurd (omega arith)
 
 -- ---- the walk along the segments
 
 -- what was added so far; and whatever segments stand from `from` to `to`, the rest of them adds up to the same
-pub record Summing (σ : Service) (s : List ℕ) (from to : ℕ) (before k : Running) (at : ℕ) : Type 0 where
+pub record Summing (σ : Service) (s : List ℕ) (from to : ℕ) (before k : Result Tally ℕ) (at : ℕ) : Type 0 where
   pub sofar : Old
   pub held : Held sofar
   pub is : k ≡ running_as sofar
@@ -181,7 +171,7 @@ pub record Summing (σ : Service) (s : List ℕ) (from to : ℕ) (before k : Run
   pub room : loads_of sofar ≤ length s
   pub on : (gs : List Segment) (o : Old) → Row σ s from gs to → Held o → before ≡ running_as o → (hs : List Segment) × (Row σ s at hs to × (added_from o gs ≡ added_from sofar hs))
 
-module _ {σ : Service} {s : List ℕ} {from to : ℕ} {before : Running} where
+module _ {σ : Service} {s : List ℕ} {from to : ℕ} {before : Result Tally ℕ} where
   pub summing_start : Starts before → Summing σ s from to before before from
   summing_start b = record {
     sofar = b.old;
@@ -192,16 +182,16 @@ module _ {σ : Service} {s : List ℕ} {from to : ℕ} {before : Running} where
     on = λ gs o w l e. (gs, (w, ap (λ (x : Old). added_from x gs) (running-one o b.old l b.held (sym e ∙ b.is))));
   }
 
-  pub summing-runs : {k : Running} {at : ℕ} → length s ≤ 65535 → Summing σ s from to before k at → Runs k
+  pub summing-runs : {k : Result Tally ℕ} {at : ℕ} → length s ≤ 65535 → Summing σ s from to before k at → Runs k
   summing-runs h g = let a = g.room in record { old = g.sofar; held = g.held; is = g.is; few = omega (arith, a, h) }
 
-  module _ (fits : T (fit σ)) {k : Running} {at : ℕ} (g : Summing σ s from to before k at) (less : at < to) {f : Found} (ends : f ≡ end_at σ s at) where
+  module _ (fits : T (fit σ)) {k : Result Tally ℕ} {at : ℕ} (g : Summing σ s from to before k at) (less : at < to) {f : Option ℕ} (ends : f ≡ end_at σ s at) where
     -- the segment at hand
     record Step (gs : List Segment) (o : Old) : Type 0 where
       g₁ : Segment
       hs : List Segment
       rest : Row σ s (at + length (print_s σ g₁)) hs to
-      end : end_at σ s at ≡ EndsAt (at + (length (print_s σ g₁) - 1))
+      end : end_at σ s at ≡ Some (at + (length (print_s σ g₁) - 1))
       adds : added_from o gs ≡ added_from (added_by g.sofar (read_in (asked_at σ s at))) hs
 
     step : (gs : List Segment) (o : Old) → Row σ s from gs to → Held o → before ≡ running_as o → Step gs o
@@ -217,7 +207,7 @@ module _ {σ : Service} {s : List ℕ} {from to : ℕ} {before : Running} where
           adds = q ∙ ap (λ (a : Asked). added_from (added_by g.sofar (read_in a)) hs) (sym (row-asked σ s at fits x hs v));
         }
 
-    pub summing_on : {e next : ℕ} {k' : Running} → f ≡ EndsAt e → next ≡ e + 1
+    pub summing_on : {e next : ℕ} {k' : Result Tally ℕ} → f ≡ Some e → next ≡ e + 1
         → ((o : Old) → Held o → k ≡ running_as o → k' ≡ running_as (added_by o (read_in (asked_at σ s at)))) → Summing σ s from to before k' next
     summing_on {e} {next} {k'} q n a =
         let i = ends-in σ s at ends q in
@@ -235,19 +225,19 @@ module _ {σ : Service} {s : List ℕ} {from to : ℕ} {before : Running} where
         by : (gs : List Segment) (o : Old) → Step gs o
             → (hs : List Segment) × (Row σ s next hs to × (added_from o gs ≡ added_from (added_by g.sofar (read_in (asked_at σ s at))) hs))
         by gs o y =
-            let m : EndsAt e ≡ EndsAt (at + (length (print_s σ y.g₁) - 1)) = sym q ∙ ends ∙ y.end in
+            let m : Some e ≡ Some (at + (length (print_s σ y.g₁) - 1)) = sym q ∙ ends ∙ y.end in
             let j : e ≡ at + (length (print_s σ y.g₁) - 1) = cc in
             let p : at + length (print_s σ y.g₁) ≡ next = omega (arith, j, n, long-print σ y.g₁) in
             (y.hs, (subst (λ (i : ℕ). Row σ s i y.hs to) p y.rest, y.adds))
 
     -- every segment has an end
-    pub summing-none : f ≡ NoEnd → (gs : List Segment) (o : Old) → Row σ s from gs to → Held o → before ≡ running_as o → k ≡ running_as (added_from o gs)
+    pub summing-none : f ≡ None → (gs : List Segment) (o : Old) → Row σ s from gs to → Held o → before ≡ running_as o → k ≡ running_as (added_from o gs)
     summing-none d gs o w l e =
         let y = step gs o w l e in
-        let m : NoEnd ≡ EndsAt (at + (length (print_s σ y.g₁) - 1)) = sym d ∙ ends ∙ y.end in
+        let m : None ≡ Some (at + (length (print_s σ y.g₁) - 1)) = sym d ∙ ends ∙ y.end in
         cc
 
-  pub summing-end : {k : Running} {at : ℕ} → Summing σ s from to before k at → to ≤ at → (gs : List Segment) (o : Old) → Row σ s from gs to → Held o → before ≡ running_as o
+  pub summing-end : {k : Result Tally ℕ} {at : ℕ} → Summing σ s from to before k at → to ≤ at → (gs : List Segment) (o : Old) → Row σ s from gs to → Held o → before ≡ running_as o
       → k ≡ running_as (added_from o gs)
   summing-end {k} {at} g less gs o w l e = let q = g.on gs o w l e in by q.0 q.1.0 q.1.1
     where

@@ -1,5 +1,6 @@
 -- The old sum that a file leaves, and the one that a message of it leaves: "kilograms in single precision, in file order, one rounding for each addition".
-use Rattle.std.specs.Prelude.{ℕ, List, [], ◌∷◌, pos, negsuc, Float}
+use Rattle.returns.specs.declared.sums.Left.{Left}
+use Rattle.std.specs.Prelude.{ℕ, List, [], ◌∷◌, pos, negsuc, Float, Result, Ok, Err}
 use Rattle.std.proofs.Math.Option.{Option, none, some}
 use Rattle.syntax.specs.Refusals.{at_zero}
 use Rattle.syntax.specs.declared.Refusal.{Refusal}
@@ -10,8 +11,6 @@ use Rattle.grammar.specs.Verdict.{verdict_of, loads_m}
 use Rattle.grammar.specs.Named.{Placed, placed}
 use Rattle.groups.specs.Calls.{Answered, given, refused_as, answered_by, then, message_in}
 use Rattle.kilograms.specs.OldSum.{Old, tally, refused, added_all, kilograms_in, single, bits_of, handed_in, handed_bits}
-use Rattle.returns.specs.declared.sums.OldSum.{OldSum}
-use Rattle.returns.specs.declared.sums.OldSum.TheVariants.{Of, Refused}
 
 -- ---- the loads, in order
 
@@ -71,18 +70,18 @@ message_old_sum_bits_of s m b = summed_by (handed_bits b) (message_loads_of s m)
 -- ---- as the calls answer it, and the paper's number and place for each case of the answer, the segment, and then the sum in kilograms and as its 32 bits,
 -- the loads and their kilograms; 0 where there is none
 
-abbrev pub old_sum_as : Summed → OldSum
-old_sum_as (left v n e) = Of (record { sum = v; single = single v; bits = bits_of v; loads = n; kilograms = e })
-old_sum_as (refused_sum f) = Refused f
+abbrev pub old_sum_as : Summed → Result Left Refusal
+old_sum_as (left v n e) = Ok (record { sum = v; single = single v; bits = bits_of v; loads = n; kilograms = e })
+old_sum_as (refused_sum f) = Err f
 
-abbrev pub told_sum : OldSum → List ℕ
-told_sum (Of x) = 0 ∷ 0 ∷ 0 ∷ x.sum ∷ x.bits ∷ x.loads ∷ x.kilograms ∷ []
-told_sum (Refused f) = f.number ∷ f.place ∷ f.segment ∷ 0 ∷ 0 ∷ 0 ∷ 0 ∷ []
+abbrev pub told_sum : Result Left Refusal → List ℕ
+told_sum (Ok x) = 0 ∷ 0 ∷ 0 ∷ x.sum ∷ x.bits ∷ x.loads ∷ x.kilograms ∷ []
+told_sum (Err f) = f.number ∷ f.place ∷ f.segment ∷ 0 ∷ 0 ∷ 0 ∷ 0 ∷ []
 
 -- and in single precision; 0 where there is none
-abbrev pub single_in : OldSum → Float
-single_in (Of x) = x.single
-single_in (Refused f) = single 0
+abbrev pub single_in : Result Left Refusal → Float
+single_in (Ok x) = x.single
+single_in (Err f) = single 0
 
 abbrev pub single_of : Summed → Float
 single_of (left v n e) = single v

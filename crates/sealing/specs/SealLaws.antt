@@ -1,23 +1,23 @@
 -- The two calls answer as the definitions say.
-use Rattle.std.specs.Prelude.{ℕ, ◌+◌, ◌≤◌, ◌<◌, Bool, true, false, cond, ◌&&◌, List, ◌≡◌, refl, eqb, leb, length}
-use Rattle.std.proofs.Common.{arith, ap, ◌∙◌, sym, subst, leb-true}
+use Rattle.std.specs.Prelude.{ℕ, ◌≤◌, Bool, true, false, cond, ◌&&◌, List, ◌≡◌, eqb, leb, length}
+use Rattle.std.proofs.Common.{arith, ap, ◌∙◌, sym, leb-true}
 use Rattle.std.proofs.Math.Option.{Option, none, some}
 use Rattle.std.proofs.Math.Seq.{slice}
 use Rattle.syntax.specs.Refusals.{at_zero}
 use Rattle.syntax.specs.Octets.{all_pass, within}
-use Rattle.syntax.specs.RepertoireLaws.{and_l, and_r}
+use Rattle.syntax.specs.RepertoireLaws.{and_r}
 use Rattle.syntax.proofs.CuttingLaws.{slice-take}
 use Rattle.syntax.specs.declared.Refusal.{Refusal}
 use Rattle.syntax.specs.Opening.{earlier}
 use Rattle.syntax.specs.declared.Syntax.{Syntax}
 use Rattle.syntax.specs.declared.Version.{Version}
 use Rattle.grammar.specs.Interchange.{message}
-use Rattle.grammar.specs.Valid.{Interchange, syntax_in}
+use Rattle.grammar.specs.Valid.{Interchange}
 use Rattle.grammar.specs.Verdict.{accepted, refused_with, verdict_of}
-use Rattle.grammar.specs.Named.{Placed, placed}
+use Rattle.grammar.specs.Named.{placed}
 use Rattle.walk.specs.declared.sections.Layout.{Layout}
 use Rattle.writing.specs.Laid.{Laid, together}
-use Rattle.writing.specs.LaidLaws.{laid-part, laid-all}
+use Rattle.writing.specs.LaidLaws.{laid-part}
 use Rattle.writing.specs.Written.{Text, text, no_text, Writes}
 use Rattle.filters.specs.Hex.{hex_text}
 use Rattle.filters.specs.HexLaws.{hex-length}

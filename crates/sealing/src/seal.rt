@@ -1,6 +1,5 @@
 // The two sealing calls.
 ghost use Rattle.std.specs.Prelude.{◌≡◌, List, true, ℕ, ◌+◌, ◌≤◌, ◌<◌, length};
-ghost use Rattle.syntax.specs.Classes.{Table};
 ghost use Rattle.grammar.specs.Interchange.{message};
 ghost use Rattle.grammar.specs.Named.{placed};
 ghost use Rattle.writing.specs.Laid.{Laid, together};
@@ -10,16 +9,17 @@ ghost use Rattle.weaving.specs.Seals.{length_right, text_by};
 ghost use Rattle.weaving.specs.Woven.{count_at, count_end, octets_pieces, rest_pieces, sealed_pieces, woven_or, sized_or};
 ghost use Rattle.sealing.specs.Sealing.{octets_at, seal_octets_of, seal_at, seal_of};
 
-use groups::calls::{Named, message_named};
-use syntax::content::{Number, digits_value, part};
+use groups::calls::{Opened, message_named};
+use syntax::classes::Classes;
+use syntax::content::{digits_value, part};
 use syntax::cutting::stop;
 use syntax::reading::component_part;
-use syntax::{Found, Service, Syntax};
+use syntax::{Refusal, Service};
 use walk::sections::Layout;
 use weaving::allowed::{is_value_length, may_seal};
 use weaving::pieces::{put_header, put_trailer};
 use weaving::value::{filter_text, is_writable};
-use writing::{Written, put, put_number, refused, too_long};
+use writing::{put, put_number, refused, too_long};
 
 // ---- the octets to be signed
 
@@ -39,6 +39,7 @@ fn put_octets(
     put(&mut *out, p, part(s, c.body, c.tail))
 }
 
+// Kept: it measures, and then lays, as write_sealed does; one function for both would take what they lay as a closure over a lent buffer, whose clauses are longer than these lines.
 fn write_octets(
     s: &[u8],
     v: Service,
@@ -46,7 +47,7 @@ fn write_octets(
     reference: &[u8],
     filter: u64,
     out: &mut [u8],
-) -> Written
+) -> Result<usize, Refusal>
     requires { (length s.now ≤ 65535) × (length reference.now ≤ 14) }
     ensures { Writes (text (together (octets_pieces v s.now c reference.now filter))) out.old result out.new }
 {
@@ -56,25 +57,28 @@ fn write_octets(
         return refused(15);
     }
     put_octets(&mut *out, s, v, c, reference, filter);
-    Written::Length(m)
+    Ok(m)
 }
 
 fn octets_in(
     s: &[u8],
-    t: &[u8; 256],
-    y: Syntax,
-    c: Layout,
-    rows: &[usize; 18],
+    x: &Opened,
     reference: &[u8],
     filter: u64,
     out: &mut [u8],
-) -> Written
-    requires table { Table y t.now }
-    requires s_len_bound { (length s.now ≤ 65535) × (c.headers ≤ 9) × (length rows.now ≡ 18) }
-    ensures { (m : List ℕ) (h : Holds s.now m y c rows.now) → Writes (octets_at h.i (placed (message h.o h.t) h.q) reference.now filter) out.old result out.new }
+) -> Result<usize, Refusal>
+    requires s_len_bound { (length s.now ≤ 65535) × (x.now.layout.headers ≤ 9) }
+    ensures { (m : List ℕ) (h : Holds s.now m x.now.classes.syntax x.now.layout x.now.rows) → Writes (octets_at h.i (placed (message h.o h.t) h.q) reference.now filter) out.old result out.new }
 {
-    if may_seal(s, t, y, c, rows, reference, filter) {
-        return write_octets(s, y.service, c, reference, filter, out);
+    if may_seal(s, x, reference, filter) {
+        return write_octets(
+            s,
+            x.classes.syntax.service,
+            x.layout,
+            reference,
+            filter,
+            out,
+        );
     }
     refused(16)
 }
@@ -86,119 +90,102 @@ pub fn seal_octets(
     reference: &[u8],
     filter: u64,
     out: &mut [u8],
-) -> Written
+) -> Result<usize, Refusal>
     ensures { Writes (seal_octets_of s.now message.now reference.now filter) out.old result out.new }
 {
-    let mut t = [0u8; 256];
-    let mut rows = [0usize; 18];
-    match message_named(s, message, &mut t, &mut rows) {
-        Named::Message(x) => octets_in(s, &t, x.syntax, x.layout, &rows, reference, filter, out),
-        Named::Missing => refused(13),
-        Named::Refused(f) => Written::Refused(f),
-    }
+    let Some(found) = message_named(s, message)? else {
+        return refused(13);
+    };
+    octets_in(s, &found, reference, filter, out)
 }
 
 // ---- the sealed interchange
 
 // 0074, grown by 4.
-fn grown(s: &[u8], t: &[u8; 256], y: Syntax, unt: usize) -> u64
-    requires { Table y t.now }
-    ensures { result ≡ count_at y.service s.now unt }
+fn grown(s: &[u8], t: &Classes, unt: usize) -> u64
+    ensures { result ≡ count_at t.now.syntax.service s.now unt }
 {
-    let v = y.service;
-    match digits_value(component_part(s, unt, t, y, 1, 0), v.release) {
-        Number::Is(n) => n + 4,
-        Number::Not => 4,
+    match digits_value(component_part(s, unt, t, 1, 0), t.syntax.service.release) {
+        Some(n) => n + 4,
+        None => 4,
     }
 }
 
 // Where 0074 ends.
-fn count_end(s: &[u8], t: &[u8; 256], y: Syntax, unt: usize) -> usize
-    requires table { Table y t.now }
+fn count_end(s: &[u8], t: &Classes, unt: usize) -> usize
     requires unt_bound { unt ≤ 65535 }
-    ensures { result ≡ count_end y.service s.now unt }
+    ensures { result ≡ count_end t.now.syntax.service s.now unt }
 {
-    match stop(s, unt + 4, t, y, 4) {
-        Found::At(e) => e,
-        Found::Nothing => s.len(),
-    }
+    stop(s, unt + 4, t, 4).unwrap_or(s.len())
 }
 
 // UNT with 0074 grown by 4, and all behind it.
-fn put_rest(out: &mut [u8], at: usize, s: &[u8], t: &[u8; 256], y: Syntax, unt: usize) -> usize
-    requires table { Table y t.now }
+fn put_rest(out: &mut [u8], at: usize, s: &[u8], t: &Classes, unt: usize) -> usize
     requires at_bound { (at < 1073741824) × (length s.now ≤ 65535) × (unt ≤ 65535) }
-    ensures { Laid out.old at (together (rest_pieces y.service s.now unt)) result out.new }
+    ensures { Laid out.old at (together (rest_pieces t.now.syntax.service s.now unt)) result out.new }
 {
     let p1 = put(&mut *out, at, part(s, unt, unt + 4));
-    let p2 = put_number(&mut *out, p1, grown(s, t, y, unt));
-    put(&mut *out, p2, part(s, count_end(s, t, y, unt), s.len()))
+    let p2 = put_number(&mut *out, p1, grown(s, t, unt));
+    put(&mut *out, p2, part(s, count_end(s, t, unt), s.len()))
 }
 
 fn put_sealed(
     out: &mut [u8],
     s: &[u8],
-    t: &[u8; 256],
-    y: Syntax,
-    c: Layout,
+    x: &Opened,
     reference: &[u8],
     filter: u64,
     letters: &[u8],
 ) -> usize
-    requires table { Table y t.now }
-    requires s_len_bound { (length s.now ≤ 65535) × (c.unt ≤ 65535) × (length reference.now ≤ 14) × (length letters.now ≤ 512) }
-    ensures { Laid out.old 0 (together (sealed_pieces y.version y.service s.now c reference.now filter letters.now)) result out.new }
+    requires s_len_bound { (length s.now ≤ 65535) × (x.now.layout.unt ≤ 65535) × (length reference.now ≤ 14) × (length letters.now ≤ 512) }
+    ensures { Laid out.old 0 (together (sealed_pieces x.now.classes.syntax.version x.now.classes.syntax.service s.now x.now.layout reference.now filter letters.now)) result out.new }
 {
+    let t = &x.classes;
+    let c = x.layout;
     let p1 = put(&mut *out, 0, part(s, 0, c.heads));
-    let p2 = put_header(&mut *out, p1, y.service, reference, filter);
+    let p2 = put_header(&mut *out, p1, t.syntax.service, reference, filter);
     let p3 = put(&mut *out, p2, part(s, c.heads, c.unt));
-    let p4 = put_trailer(&mut *out, p3, t, y, reference, letters);
-    put_rest(&mut *out, p4, s, t, y, c.unt)
+    let p4 = put_trailer(&mut *out, p3, t, reference, letters);
+    put_rest(&mut *out, p4, s, t, c.unt)
 }
 
 fn write_sealed(
     s: &[u8],
-    t: &[u8; 256],
-    y: Syntax,
-    c: Layout,
+    x: &Opened,
     reference: &[u8],
     filter: u64,
     letters: &[u8],
     out: &mut [u8],
-) -> Written
-    requires table { Table y t.now }
-    requires s_len_bound { (length s.now ≤ 65535) × (c.unt ≤ 65535) × (length reference.now ≤ 14) × (length letters.now ≤ 512) }
-    ensures { Writes (text (together (sealed_pieces y.version y.service s.now c reference.now filter letters.now))) out.old result out.new }
+) -> Result<usize, Refusal>
+    requires s_len_bound { (length s.now ≤ 65535) × (x.now.layout.unt ≤ 65535) × (length reference.now ≤ 14) × (length letters.now ≤ 512) }
+    ensures { Writes (text (together (sealed_pieces x.now.classes.syntax.version x.now.classes.syntax.service s.now x.now.layout reference.now filter letters.now))) out.old result out.new }
 {
     let mut none = [0u8; 1];
-    let m = put_sealed(&mut none, s, t, y, c, reference, filter, letters);
+    let m = put_sealed(&mut none, s, x, reference, filter, letters);
     if too_long(out.len(), m) {
         return refused(15);
     }
-    put_sealed(&mut *out, s, t, y, c, reference, filter, letters);
-    Written::Length(m)
+    put_sealed(&mut *out, s, x, reference, filter, letters);
+    Ok(m)
 }
 
 // With a value of a length that is allowed: 14 where its text can't be written.
 fn seal_text(
     s: &[u8],
-    t: &[u8; 256],
-    y: Syntax,
-    c: Layout,
+    x: &Opened,
     reference: &[u8],
     filter: u64,
     value: &[u8],
     out: &mut [u8],
-) -> Written
-    requires table { Table y t.now }
-    requires s_len_bound { (length s.now ≤ 65535) × (c.unt ≤ 65535) × (length reference.now ≤ 14) × (length_right y.version filter value.now ≡ true) }
-    ensures { Writes (woven_or y s.now c reference.now filter (text_by filter value.now)) out.old result out.new }
+) -> Result<usize, Refusal>
+    requires s_len_bound { (length s.now ≤ 65535) × (x.now.layout.unt ≤ 65535) × (length reference.now ≤ 14) × (length_right x.now.classes.syntax.version filter value.now ≡ true) }
+    ensures { Writes (woven_or x.now.classes.syntax s.now x.now.layout reference.now filter (text_by filter value.now)) out.old result out.new }
 {
     let mut room = [0u8; 512];
     let n = filter_text(&mut room, filter, value);
     let letters = part(&room, 0, n);
-    if is_writable(t, y, letters) {
-        return write_sealed(s, t, y, c, reference, filter, letters, out);
+    if is_writable(&x.classes, letters) {
+        return write_sealed(s, x, reference, filter, letters, out);
     }
     refused(14)
 }
@@ -206,42 +193,34 @@ fn seal_text(
 // In a message that may be sealed: 16 where the value's length is not allowed.
 fn seal_value(
     s: &[u8],
-    t: &[u8; 256],
-    y: Syntax,
-    c: Layout,
+    x: &Opened,
     reference: &[u8],
     filter: u64,
     value: &[u8],
     out: &mut [u8],
-) -> Written
-    requires table { Table y t.now }
-    requires s_len_bound { (length s.now ≤ 65535) × (c.unt ≤ 65535) × (length reference.now ≤ 14) }
-    ensures { Writes (sized_or y s.now c reference.now filter value.now) out.old result out.new }
+) -> Result<usize, Refusal>
+    requires s_len_bound { (length s.now ≤ 65535) × (x.now.layout.unt ≤ 65535) × (length reference.now ≤ 14) }
+    ensures { Writes (sized_or x.now.classes.syntax s.now x.now.layout reference.now filter value.now) out.old result out.new }
 {
-    let edition = y.version;
-    if is_value_length(edition, filter, value.len()) {
-        return seal_text(s, t, y, c, reference, filter, value, out);
+    if is_value_length(x.classes.syntax.version, filter, value.len()) {
+        return seal_text(s, x, reference, filter, value, out);
     }
     refused(16)
 }
 
 fn seal_in(
     s: &[u8],
-    t: &[u8; 256],
-    y: Syntax,
-    c: Layout,
-    rows: &[usize; 18],
+    x: &Opened,
     reference: &[u8],
     filter: u64,
     value: &[u8],
     out: &mut [u8],
-) -> Written
-    requires table { Table y t.now }
-    requires s_len_bound { (length s.now ≤ 65535) × (c.unt ≤ 65535) × (c.headers ≤ 9) × (length rows.now ≡ 18) }
-    ensures { (m : List ℕ) (h : Holds s.now m y c rows.now) → Writes (seal_at h.i (placed (message h.o h.t) h.q) m reference.now filter value.now) out.old result out.new }
+) -> Result<usize, Refusal>
+    requires s_len_bound { (length s.now ≤ 65535) × (x.now.layout.unt ≤ 65535) × (x.now.layout.headers ≤ 9) }
+    ensures { (m : List ℕ) (h : Holds s.now m x.now.classes.syntax x.now.layout x.now.rows) → Writes (seal_at h.i (placed (message h.o h.t) h.q) m reference.now filter value.now) out.old result out.new }
 {
-    if may_seal(s, t, y, c, rows, reference, filter) {
-        return seal_value(s, t, y, c, reference, filter, value, out);
+    if may_seal(s, x, reference, filter) {
+        return seal_value(s, x, reference, filter, value, out);
     }
     refused(16)
 }
@@ -254,16 +233,11 @@ pub fn seal(
     filter: u64,
     value: &[u8],
     out: &mut [u8],
-) -> Written
+) -> Result<usize, Refusal>
     ensures { Writes (seal_of s.now message.now reference.now filter value.now) out.old result out.new }
 {
-    let mut t = [0u8; 256];
-    let mut rows = [0usize; 18];
-    match message_named(s, message, &mut t, &mut rows) {
-        Named::Message(x) => seal_in(
-            s, &t, x.syntax, x.layout, &rows, reference, filter, value, out,
-        ),
-        Named::Missing => refused(13),
-        Named::Refused(f) => Written::Refused(f),
-    }
+    let Some(found) = message_named(s, message)? else {
+        return refused(13);
+    };
+    seal_in(s, &found, reference, filter, value, out)
 }

@@ -2,20 +2,20 @@
 
 // For an interchange on standard input: each segment's place and tag, and its components as content, or the refusal that the
 // syntax alone can tell (1, 2, 4, 5, 6, and 3 after them).
-ghost use Rattle.std.specs.Prelude.{◌≡◌};
-ghost use Rattle.syntax.specs.Classes.{Table};
+ghost use Rattle.std.specs.Prelude.{◌≡◌, Some, Err};
 ghost use Rattle.segments.specs.Checked.{CheckedIn};
+ghost use Rattle.segments.specs.Places.{place_text};
 
 use beginning::begin;
 use input::read_full;
-use printing::{flush, number, print_refusal_at, put, text};
+use printing::{Output, Told};
 use refusals::refusal;
-use syntax::content::{Next, next_octet, part};
-use syntax::cutting::{Cut, Tag, scan, tag_at};
-use syntax::opening::Begun;
-use syntax::reading::{Edge, piece_end};
-use syntax::repertoire::table;
-use syntax::{Breach, Service, Syntax};
+use std::fmt::{self, Write};
+use syntax::classes::Classes;
+use syntax::content::{next_octet, part};
+use syntax::cutting::{Cut, scan, tag_at};
+use syntax::reading::piece_end;
+use syntax::{Breach, Service};
 
 // Where a piece stands in its segment, each counted from 1.
 #[derive(Clone, Copy)]
@@ -25,249 +25,153 @@ struct Place {
     component: u64,
 }
 
-// A segment's end, or why it is refused.
-#[derive(Clone, Copy)]
-enum Checked {
-    Good(usize),
-    Refused(Breach),
-}
-
-fn print_content(rt: &impl Print, out: &mut [u8; 4096], n: usize, x: &[u8], release: u8) -> usize {
-    let mut k = n;
-    let mut i: usize = 0;
-    loop {
-        match next_octet(x, i, release) {
-            Next::Octet(b, j) => {
-                k = put(rt, out, k, b);
-                i = j;
-            }
-            Next::Over => {
-                return k;
-            }
+impl Place {
+    // The place of the piece after one that ends in `k`. An interchange has at most 65535 octets, so no count comes near its bound.
+    fn next(self, k: u8) -> Self {
+        match k {
+            4 => Place {
+                element: self.element.saturating_add(1),
+                repetition: 1,
+                component: 1,
+            },
+            3 => Place {
+                repetition: self.repetition.saturating_add(1),
+                component: 1,
+                ..self
+            },
+            _ => Place {
+                component: self.component.saturating_add(1),
+                ..self
+            },
         }
     }
 }
 
-fn print_place(rt: &impl Print, out: &mut [u8; 4096], n: usize, w: Place) -> usize {
-    let mut k = text(rt, out, n, b"  ");
-    k = number(rt, out, k, w.element);
-    if 1 < w.repetition {
-        k = put(rt, out, k, 42);
-        k = number(rt, out, k, w.repetition);
+impl fmt::Display for Place {
+    ghost output = { λ p. Some (place_text p) };
+
+    fn fmt<W: fmt::Write>(&self, f: &mut fmt::Formatter<W>) -> fmt::Result {
+        write!(f, "{}", self.element)?;
+        if 1 < self.repetition {
+            write!(f, "*{}", self.repetition)?;
+        }
+        write!(f, ".{}", self.component)
     }
-    k = put(rt, out, k, 46);
-    k = number(rt, out, k, w.component);
-    put(rt, out, k, 32)
 }
 
-fn print_piece(
-    rt: &impl Print,
-    out: &mut [u8; 4096],
-    n: usize,
-    x: &[u8],
-    release: u8,
-    w: Place,
-) -> usize {
-    let mut k = print_place(rt, out, n, w);
-    k = print_content(rt, out, k, x, release);
-    put(rt, out, k, 10)
+fn print_content(out: &mut Output<impl Print>, x: &[u8], release: u8) {
+    let mut i: usize = 0;
+    while let Some((b, j)) = next_octet(x, i, release) {
+        out.put(b);
+        i = j;
+    }
 }
 
-// An interchange has at most 65535 octets, so no count passes the bound.
-fn one_more(n: u64) -> u64 {
-    if n < 65535 { n + 1 } else { n }
-}
-
-// The place of the piece after one that ends in `k`.
-fn next_place(w: Place, k: u8) -> Place {
-    if k == 4 {
-        return Place {
-            element: one_more(w.element),
-            repetition: 1,
-            component: 1,
-        };
-    }
-    if k == 3 {
-        return Place {
-            element: w.element,
-            repetition: one_more(w.repetition),
-            component: 1,
-        };
-    }
-    Place {
-        element: w.element,
-        repetition: w.repetition,
-        component: one_more(w.component),
-    }
+fn print_piece(out: &mut Output<impl Print>, x: &[u8], release: u8, w: Place) {
+    let _ = write!(out, "  {w} ");
+    print_content(out, x, release);
+    out.put(b'\n');
 }
 
 // The elements of the segment at `at`. Its tag is the first piece, element 0, and is not printed here.
-fn print_elements(
-    rt: &impl Print,
-    out: &mut [u8; 4096],
-    n: usize,
-    s: &[u8],
-    at: usize,
-    t: &[u8; 256],
-    y: Syntax,
-) -> usize
-    requires { Table y t.now }
-{
-    let v = y.service;
+fn print_elements(out: &mut Output<impl Print>, s: &[u8], at: usize, t: &Classes) {
     let mut w = Place {
         element: 0,
         repetition: 1,
         component: 1,
     };
-    let mut k = n;
     let mut i = at;
-    loop {
-        match piece_end(s, i, t, y) {
-            Edge::On(q, c) => {
-                if 0 < w.element {
-                    k = print_piece(rt, out, k, part(s, i, q), v.release, w);
-                }
-                if c == 5 {
-                    return k;
-                }
-                w = next_place(w, c);
-                i = q + 1;
-            }
-            Edge::Off => {
-                return k;
-            }
+    while let Some((q, k)) = piece_end(s, i, t) {
+        if 0 < w.element {
+            print_piece(out, part(s, i, q), t.syntax.service.release, w);
         }
+        if k == 5 {
+            return;
+        }
+        w = w.next(k);
+        i = q + 1;
     }
 }
 
-fn refused(number: u8, place: usize) -> Checked
-    ensures { result ≡ Checked.Refused (record { number = number; place = place }) }
+fn refused(number: u8, place: usize) -> Result<usize, Breach>
+    ensures { result ≡ Err (record { number = number; place = place }) }
 {
-    Checked::Refused(Breach { number, place })
+    Err(Breach { number, place })
 }
 
-// A bad tag is told before what else was found of the segment.
-fn tagged(s: &[u8], at: usize, v: Service, found: Checked) -> Checked
+// A bad tag is told before what else was found of the segment: its end, or why it is refused.
+fn tagged(s: &[u8], at: usize, v: Service, found: Result<usize, Breach>) -> Result<usize, Breach>
     requires { CheckedIn s.now at found }
     ensures { CheckedIn s.now at result }
 {
     match tag_at(s, at, v) {
-        Tag::Bad => refused(4, at),
-        Tag::Is(_, _, _) => found,
+        None => refused(4, at),
+        Some(_) => found,
     }
 }
 
-fn segment_at(s: &[u8], at: usize, t: &[u8; 256], y: Syntax) -> Checked
-    requires { Table y t.now }
+// The end of the segment at `at`, or why it is refused.
+fn segment_at(s: &[u8], at: usize, t: &Classes) -> Result<usize, Breach>
     ensures { CheckedIn s.now at result }
 {
-    match scan(s, at, t, y) {
+    match scan(s, at, t) {
         Cut::Open => refused(4, at),
-        Cut::Ends(e) => tagged(s, at, y.service, Checked::Good(e)),
-        Cut::Spoilt(_, b) => tagged(s, at, y.service, refused(3, b)),
+        Cut::Ends(e) => tagged(s, at, t.syntax.service, Ok(e)),
+        Cut::Spoilt(_, b) => tagged(s, at, t.syntax.service, refused(3, b)),
     }
 }
 
-fn print_tag(rt: &impl Print, out: &mut [u8; 4096], n: usize, g: Tag) -> usize {
-    match g {
-        Tag::Is(a, b, c) => {
-            let mut k = put(rt, out, n, a);
-            k = put(rt, out, k, b);
-            put(rt, out, k, c)
-        }
-        Tag::Bad => n,
+fn print_segment(out: &mut Output<impl Print>, s: &[u8], at: usize, t: &Classes) {
+    let _ = write!(out, "{at} ");
+    if let Some((a, b, c)) = tag_at(s, at, t.syntax.service) {
+        out.put_all(&[a, b, c]);
     }
+    out.put(b'\n');
+    print_elements(out, s, at, t);
 }
 
-fn print_segment(
-    rt: &impl Print,
-    out: &mut [u8; 4096],
-    n: usize,
-    s: &[u8],
-    at: usize,
-    t: &[u8; 256],
-    y: Syntax,
-) -> usize
-    requires { Table y t.now }
-{
-    let mut k = number(rt, out, n, at as u64);
-    k = put(rt, out, k, 32);
-    k = print_tag(rt, out, k, tag_at(s, at, y.service));
-    k = put(rt, out, k, 10);
-    print_elements(rt, out, k, s, at, t, y)
-}
-
-// The first refusal of the segments from `at` on. Where there is none, the place after the last.
-fn first_bad(s: &[u8], at: usize, t: &[u8; 256], y: Syntax) -> Checked
-    requires { Table y t.now }
-{
+// The first refusal of the segments from `at` on, or none.
+fn checked(s: &[u8], at: usize, t: &Classes) -> Result<(), Breach> {
     let mut i = at;
     while i < s.len() {
-        match segment_at(s, i, t, y) {
-            Checked::Good(e) => {
-                i = e + 1;
-            }
-            Checked::Refused(f) => {
-                return Checked::Refused(f);
-            }
-        }
+        i = segment_at(s, i, t)? + 1;
     }
-    Checked::Good(i)
+    Ok(())
 }
 
 // Called where none is bad, so the loop ends by its test.
-fn print_segments(
-    rt: &impl Print,
-    out: &mut [u8; 4096],
-    n: usize,
-    s: &[u8],
-    at: usize,
-    t: &[u8; 256],
-    y: Syntax,
-) -> usize
-    requires { Table y t.now }
-{
-    let mut k = n;
+fn print_segments(out: &mut Output<impl Print>, s: &[u8], at: usize, t: &Classes) {
     let mut i = at;
     while i < s.len() {
-        match segment_at(s, i, t, y) {
-            Checked::Good(e) => {
-                k = print_segment(rt, out, k, s, i, t, y);
-                i = e + 1;
-            }
-            Checked::Refused(_) => {
-                return k;
-            }
-        }
+        let Ok(e) = segment_at(s, i, t) else {
+            return;
+        };
+        print_segment(out, s, i, t);
+        i = e + 1;
     }
-    k
 }
 
 // Nothing is printed of an interchange that is refused but the refusal, so the segments are read twice.
-fn list(rt: &impl Print, out: &mut [u8; 4096], s: &[u8]) -> usize {
-    match begin(s) {
-        Begun::Ready(b) => {
-            let y = b.syntax;
-            let at = b.at;
-            let t = table(y);
-            match first_bad(s, at, &t, y) {
-                Checked::Good(_) => print_segments(rt, out, 0, s, at, &t, y),
-                Checked::Refused(f) => print_refusal_at(rt, out, 0, refusal(s, f)),
-            }
-        }
-        Begun::Refused(f) => print_refusal_at(rt, out, 0, refusal(s, f)),
-    }
+fn list(out: &mut Output<impl Print>, s: &[u8]) -> Result<(), Breach> {
+    let b = begin(s)?;
+    let y = b.syntax;
+    let t = Classes::of(y);
+    checked(s, b.at, &t)?;
+    print_segments(out, s, b.at, &t);
+    Ok(())
 }
 
-fn list_all(rt: &impl Print, out: &mut [u8; 4096], s: &[u8]) {
-    let n = list(rt, out, s);
-    flush(rt, out, n);
+fn list_all(rt: &impl Print, s: &[u8]) {
+    let mut out = Output::new(rt);
+    if let Err(breach) = list(&mut out, s) {
+        let _ = writeln!(out, "{}", Told(refusal(s, breach)));
+    }
+    out.end();
 }
 
 // The buffer has one octet more than an interchange may have, so one that is too long is told.
 fn main(rt: HostRuntime) {
     let mut space = [0u8; 65536];
     let n = read_full(&mut rt.reader(), &mut space);
-    let mut out = [0u8; 4096];
-    list_all(&rt, &mut out, &space[..n]);
+    list_all(&rt, &space[..n]);
 }

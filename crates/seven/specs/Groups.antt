@@ -1,7 +1,5 @@
 -- "Each number goes in groups of seven bits, lowest group first, the high bit set on all but the last, in the shortest form only"
-use Rattle.std.specs.Prelude.{ℕ, zero, suc, ◌+◌, ◌-◌, ◌*◌, ◌/◌, ◌%◌, cond, List, [], ◌∷◌, leb, ltb, eqb}
-use Rattle.seven.specs.declared.Number.{Number}
-use Rattle.seven.specs.declared.Number.TheVariants.{Value, Bad}
+use Rattle.std.specs.Prelude.{ℕ, zero, suc, ◌+◌, ◌-◌, ◌*◌, ◌/◌, ◌%◌, cond, List, [], ◌∷◌, leb, ltb, eqb, Option, Some, None}
 
 -- ---- written
 
@@ -21,16 +19,16 @@ value_of (b ∷ s) = b % 128 + 128 * value_of s
 
 -- ---- read, from place i on: the number and the place after it; Bad where it is cut, overlong or above the most
 
-abbrev pub last : ℕ → ℕ → ℕ → Number
-last most b i = cond (leb b most) (Value b (suc i)) Bad
+abbrev pub last : ℕ → ℕ → ℕ → Option (ℕ × ℕ)
+last most b i = cond (leb b most) (Some (b, suc i)) None
 
 -- the group g before a number: where that is zero, its group would be one too many
-abbrev pub joined : ℕ → ℕ → Number → Number
-joined most g Bad = Bad
-joined most g (Value v q) = cond (eqb v 0) Bad (cond (leb (v * 128 + g) most) (Value (v * 128 + g) q) Bad)
+abbrev pub joined : ℕ → ℕ → Option (ℕ × ℕ) → Option (ℕ × ℕ)
+joined most g None = None
+joined most g (Some (v, q)) = cond (eqb v 0) None (cond (leb (v * 128 + g) most) (Some (v * 128 + g, q)) None)
 
 -- at most k groups
-unfoldable pub read_from : ℕ → ℕ → List ℕ → ℕ → Number
-read_from zero most s i = Bad
-read_from (suc k) most [] i = Bad
+unfoldable pub read_from : ℕ → ℕ → List ℕ → ℕ → Option (ℕ × ℕ)
+read_from zero most s i = None
+read_from (suc k) most [] i = None
 read_from (suc k) most (b ∷ s) i = cond (ltb b 128) (last most b i) (joined most (b - 128) (read_from k most s (suc i)))

@@ -1,6 +1,6 @@
 -- The loop of `write`: what is left of n is x, whose groups go from i on.
-use Rattle.std.specs.Prelude.{ℕ, zero, suc, ◌+◌, ◌-◌, ◌/◌, ◌%◌, ◌≤◌, ◌<◌, Bool, true, false, cond, List, [], ◌∷◌, ◌≡◌, refl, ltb, length, set}
-use Rattle.std.proofs.Common.{arith, ap, ◌∙◌, subst, length-set}
+use Rattle.std.specs.Prelude.{ℕ, zero, suc, ◌+◌, ◌/◌, ◌%◌, ◌≤◌, ◌<◌, Bool, true, false, cond, List, [], ◌∷◌, ◌≡◌, refl, ltb, length, set}
+use Rattle.std.proofs.Common.{arith, ap, sym, ◌∙◌, subst, length-set}
 use Rattle.writing.specs.Laid.{Laid}
 use Rattle.writing.specs.LaidLaws.{Rest, rest-start, rest-same, rest_put, rest_end}
 use Rattle.seven.specs.Groups.{groups, shortest}
@@ -76,9 +76,10 @@ module _ {out₀ out : List ℕ} {at n end x i : ℕ} (g : Writing out₀ at n e
   pub writing-last : end ≤ i → (i ≡ end) × (x < 128)
   writing-last k = (omega (arith, left, k, groups-some g.fuel x), one_left g.fuel x (omega (arith, left, k)) g.below)
 
-  pub writing-end : {out' : List ℕ} → end ≤ i → out' ≡ set out i x → (length out' ≡ length out₀) × Laid out₀ at (shortest n) (end + 1) out' × (end + 1 ≤ at + 10)
-  writing-end {out'} k q =
+  pub writing-end : {out' : List ℕ} → end ≤ i → out' ≡ set out end x → (length out' ≡ length out₀) × Laid out₀ at (shortest n) (end + 1) out' × (end + 1 ≤ at + 10)
+  writing-end {out'} k p =
       let w = writing-last k in
+      let q : out' ≡ set out i x = p ∙ ap (λ (j : ℕ). set out j x) (sym w.0) in
       let m : groups (suc g.fuel) x ≡ x ∷ [] = groups-last g.fuel x w.1 in
       let l : Laid out₀ at (shortest n) (i + 1) out' = rest_end (rest_put (rest-same g.going m) refl q) in
       (ap length q ∙ length-set out i x ∙ g.same, subst (λ (j : ℕ). Laid out₀ at (shortest n) (j + 1) out') w.0 l, omega (arith, g.ends, shortest-few n))

@@ -1,9 +1,8 @@
 -- A message that is fed by parts: what `start`, `feed` and `finish` make of a state, any state. `FeedingLaws.cut`: "However the octets are cut, the digest is that of
 -- the joined octets".
-use Rattle.std.specs.Prelude.{ℕ, ◌+◌, ◌*◌, ◌/◌, ◌%◌, true, false, cond, List, [], ◌∷◌, ◌++◌, length, take, drop, replicate, nat_le}
+use Rattle.std.specs.Prelude.{ℕ, ◌+◌, ◌*◌, ◌/◌, ◌%◌, cond, Option, Some, None, unwrap_or, List, [], ◌∷◌, ◌++◌, length, take, drop, replicate, nat_le}
 use Rattle.sha.specs.declared.Chain.{Chain}
 use Rattle.sha.specs.declared.Sha.{Sha}
-use Rattle.sha.specs.declared.Fed.{Fed}
 use Rattle.sha.specs.Sha.{initial, zeros, padding, blocks, output}
 
 -- the hash value h after the whole blocks of the octets w, and the octets behind these
@@ -39,9 +38,12 @@ absorbed st part = record {
 abbrev pub most_octets : ℕ
 most_octets = 4294967295
 
-abbrev pub fed_of : Sha → List ℕ → Fed
-fed_of st part =
-    cond (nat_le (st.count + length part) most_octets) (record { taken = true; state = absorbed st part }) (record { taken = false; state = st })
+abbrev pub fed_of : Sha → List ℕ → Option Sha
+fed_of st part = cond (nat_le (st.count + length part) most_octets) (Some (absorbed st part)) None
+
+-- the state then: as it was, where nothing was taken
+abbrev pub fed_from : Sha → List ℕ → Sha
+fed_from st part = unwrap_or (fed_of st part) st
 
 -- the digest: what is pending is padded as the octets that were counted are, and hashed
 abbrev pub finished_of : Sha → List ℕ
@@ -56,7 +58,7 @@ state_of m = record { chain = poured initial m; buffer = kept (left m); count = 
 -- parts, fed one after the other; and joined
 abbrev pub fed_all : Sha → List (List ℕ) → Sha
 fed_all st [] = st
-fed_all st (p ∷ ps) = fed_all (fed_of st p).state ps
+fed_all st (p ∷ ps) = fed_all (fed_from st p) ps
 
 abbrev pub join : List (List ℕ) → List ℕ
 join [] = []

@@ -1,7 +1,7 @@
 -- The code's side of a block: one round by what the loops hold, and what each loop keeps.
-use Rattle.std.specs.Prelude.{◌≡◌, ℕ, ◌-◌, ◌/◌, ◌≤◌, List, length, take, drop}
+use Rattle.std.specs.Prelude.{◌≡◌, ℕ, ◌+◌, ◌-◌, ◌<◌, ◌≤◌, List, length, take}
 use Rattle.sha.specs.declared.Chain.{Chain}
-use Rattle.sha.specs.Sha.{plus, rotl, words, schedule, rounds, blocks}
+use Rattle.sha.specs.Sha.{mixed, constant, plus, rotl, words, schedule}
 
 -- a round whose function gives f, with the constant k and the word w
 unfoldable pub round_by : ℕ → ℕ → ℕ → Chain → Chain
@@ -26,21 +26,7 @@ pub record Spreading (m w : List ℕ) (t : ℕ) : Type 0 where
   pub least : 16 ≤ t
   pub most : t ≤ 80
 
--- from the working variables h the rounds from a on came to s at t
-pub record Rounding (w : List ℕ) (a e : ℕ) (h s : Chain) (t : ℕ) : Type 0 where
-  pub size : length w ≡ 80
-  pub least : a ≤ t
-  pub most : t ≤ e
-  pub within : e ≤ 80
-  pub ends : rounds a (drop a w) h ≡ rounds t (drop t w) s
-
--- the whole blocks of the part came from h to c at i
-pub record Pouring (h : Chain) (part : List ℕ) (c : Chain) (i : ℕ) : Type 0 where
-  pub most : i ≤ length part
-  pub ends : blocks (length part / 64) h part ≡ blocks ((length part - i) / 64) c (drop i part)
-
--- of the 64 octets that are wanted the first i stand in r
-pub record Filling (wanted r : List ℕ) (i : ℕ) : Type 0 where
-  pub size : length r ≡ 64
-  pub most : i ≤ 64
-  pub filled : take i r ≡ take i wanted
+-- for n rounds from t on the page's function is what `gives` says, and its constant is k
+pub record IsStretch (gives : ℕ → ℕ → ℕ → ℕ → Type 0) (k t n : ℕ) : Type 0 where
+  pub mixes : (i x y z r : ℕ) → t ≤ i → i < t + n → gives x y z r → r ≡ mixed i x y z
+  pub constants : (i : ℕ) → t ≤ i → i < t + n → k ≡ constant i

@@ -1,14 +1,14 @@
 -- What the loops keep, from their start to their end.
-use Rattle.std.specs.Prelude.{◌≡◌, ℕ, zero, suc, ◌+◌, ◌-◌, ◌*◌, ◌/◌, ◌<◌, ◌≤◌, ◌⊎◌, List, [], ◌∷◌, ◌++◌, length, take, drop, replicate, slice_index, slice_index_or, slice_set, refl}
-use Rattle.std.proofs.Common.{add-one, ◌∙◌, inl, inr, le-leb, length-set, length-append, drop_of_length-le, drop-cons, take-suc-set, take-suc, get_or-take, get_or-append-add, take_all, take-take, length-take-le, drop-drop}
+use Rattle.std.specs.Prelude.{◌≡◌, ℕ, zero, suc, ◌+◌, ◌-◌, ◌*◌, ◌/◌, ◌<◌, ◌≤◌, List, [], ◌∷◌, ◌++◌, length, take, drop, replicate, slice_index, slice_set, refl}
+use Rattle.std.proofs.Common.{add-one, ◌∙◌, le-leb, length-set, length-append, drop_of_length-le, drop-cons, take-suc-set, get_or-take, take_all, take-take, length-take-le, drop-drop, length-drop}
 use native.Mathlib.Omega.{arith}
 use Rattle.std.proofs.Math.Path.{sym, ap}
 use Rattle.std.proofs.lemmas.Bool.{lt-leb}
-use Rattle.std.proofs.lemmas.List.{length-replicate, take-append-le}
+use Rattle.std.proofs.lemmas.List.{length-replicate, length-take, take-append-le}
 use Rattle.sha.specs.declared.Chain.{Chain}
 use Rattle.sha.specs.Sha.{word, ch, parity, maj, mixed, constant, zeros, words, schedule, next_of, next, rounds, step, block, blocks}
-use Rattle.sha.specs.Feeding.{poured, kept}
-use Rattle.sha.specs.Loops.{round_by, Loading, Spreading, Rounding, Pouring, Filling}
+use Rattle.sha.specs.Feeding.{poured, left, kept}
+use Rattle.sha.specs.Loops.{round_by, Loading, Spreading, IsStretch}
 
 -- ---- the words of a block
 
@@ -109,60 +109,68 @@ round-step : (t f k w : ℕ) (s : Chain) → f ≡ mixed t s.b s.c s.d → k ≡
 unfolding round_by step
 round-step t f k w s e d = rw (e, d)
 
-pub rounding-start : (w : List ℕ) (a e : ℕ) (h : Chain) → length w ≡ 80 → a ≤ e → e ≤ 80 → Rounding w a e h h a
-rounding-start w a e h l m n = record { size = l; least = omega arith; most = m; within = n; ends = refl }
+module _ {gives : ℕ → ℕ → ℕ → ℕ → Type 0} {k t : ℕ} (w : List ℕ) (h s : Chain) (i : ℕ) (d : IsStretch gives k t (length w)) (g : rounds t w h ≡ rounds (t + i) (drop i w) s) where
+  pub stretch-on : {f : ℕ} {r : Chain} → i < length w → gives s.b s.c s.d f → r ≡ round_by f k (slice_index w i) s → rounds t w h ≡ rounds (t + (i + 1)) (drop (i + 1) w) r
+  stretch-on {f} {r} l p q =
+      let n : suc (t + i) ≡ t + (i + 1) = omega arith in
+      g ∙ ap (λ (u : List ℕ). rounds (t + i) u s) (drop-cons w i 0 l) ∙ rounds-more (t + i) (slice_index w i) (drop (suc i) w) s
+      ∙ ap (rounds (suc (t + i)) (drop (suc i) w)) (sym (q ∙ round-step (t + i) f k (slice_index w i) s (d.mixes (t + i) s.b s.c s.d f (omega arith) (omega arith) p) (d.constants (t + i) (omega arith) (omega arith))))
+      ∙ ap (λ (j : ℕ). rounds j (drop (suc i) w) r) n ∙ ap (λ (j : ℕ). rounds (t + (i + 1)) (drop j w) r) (sym (add-one i))
 
-module _ {w : List ℕ} {a e : ℕ} {h s : Chain} {t : ℕ} (g : Rounding w a e h s t) where
-  rounding-on : (f k : ℕ) (r : Chain) → t < e → f ≡ mixed t s.b s.c s.d → k ≡ constant t → r ≡ round_by f k (slice_index w t) s → Rounding w a e h r (t + 1)
-  rounding-on f k r l p q d = record {
-    size = g.size;
-    least = omega (arith, g.least);
-    most = omega arith;
-    within = g.within;
-    ends =
-        g.ends ∙ ap (λ (u : List ℕ). rounds t u s) (drop-cons w t 0 (omega (arith, g.size, g.within))) ∙ rounds-more t (slice_index w t) (drop (suc t) w) s
-        ∙ ap (rounds (suc t) (drop (suc t) w)) (sym (d ∙ round-step t f k (slice_index w t) s p q)) ∙ ap (λ (n : ℕ). rounds n (drop n w) r) (sym (add-one t));
+  pub stretch-end : length w ≤ i → s ≡ rounds t w h
+  stretch-end l = sym (g ∙ ap (λ (u : List ℕ). rounds (t + i) u s) (drop_of_length-le w {i = i} l) ∙ rounds-none (t + i) s)
+
+-- the four stretches, of twenty rounds each
+module _ {gives : ℕ → ℕ → ℕ → ℕ → Type 0} (n : ℕ) (most : n ≤ 20) where
+  pub stretch-choice : ((x y z r : ℕ) → gives x y z r → r ≡ ch x y z) → IsStretch gives 0x5a827999 0 n
+  stretch-choice f = record {
+    mixes = λ i x y z r g l p. f x y z r p ∙ sym (mixed-ch i x y z (omega arith));
+    constants = λ i g l. sym (constant-first i (omega arith));
   }
 
-  pub rounding-end : e ≤ t → rounds a (drop a w) h ≡ rounds e (drop e w) s
-  rounding-end l = let d : t ≡ e = omega (arith, g.most) in g.ends ∙ ap (λ (n : ℕ). rounds n (drop n w) s) d
+  pub stretch-low : ((x y z r : ℕ) → gives x y z r → r ≡ parity x y z) → IsStretch gives 0x6ed9eba1 20 n
+  stretch-low f = record {
+    mixes = λ i x y z r g l p. f x y z r p ∙ sym (mixed-low i x y z g (omega arith));
+    constants = λ i g l. sym (constant-second i g (omega arith));
+  }
 
-pub rounding-choice : {w : List ℕ} {h s : Chain} {t f : ℕ} (r : Chain) → Rounding w 0 20 h s t → t < 20 → f ≡ ch s.b s.c s.d → r ≡ round_by f 0x5a827999 (slice_index w t) s
-    → Rounding w 0 20 h r (t + 1)
-rounding-choice {w} {h} {s} {t} {f} r g l p d =
-    rounding-on g f 0x5a827999 r l (p ∙ sym (mixed-ch t s.b s.c s.d l)) (sym (constant-first t l)) d
+  pub stretch-majority : ((x y z r : ℕ) → gives x y z r → r ≡ maj x y z) → IsStretch gives 0x8f1bbcdc 40 n
+  stretch-majority f = record {
+    mixes = λ i x y z r g l p. f x y z r p ∙ sym (mixed-maj i x y z g (omega arith));
+    constants = λ i g l. sym (constant-third i g (omega arith));
+  }
 
-pub rounding-majority : {w : List ℕ} {h s : Chain} {t f : ℕ} (r : Chain) → Rounding w 40 60 h s t → t < 60 → f ≡ maj s.b s.c s.d → r ≡ round_by f 0x8f1bbcdc (slice_index w t) s
-    → Rounding w 40 60 h r (t + 1)
-rounding-majority {w} {h} {s} {t} {f} r g l p d =
-    rounding-on g f 0x8f1bbcdc r l (p ∙ sym (mixed-maj t s.b s.c s.d g.least l)) (sym (constant-third t g.least l)) d
+  pub stretch-high : ((x y z r : ℕ) → gives x y z r → r ≡ parity x y z) → IsStretch gives 0xca62c1d6 60 n
+  stretch-high f = record {
+    mixes = λ i x y z r g l p. f x y z r p ∙ sym (mixed-high i x y z g);
+    constants = λ i g l. sym (constant-fourth i g);
+  }
 
--- the two loops of Parity: from 20 on, and from 60 on
-abbrev pub Parities : ℕ → ℕ → Type 0
-Parities from k = ((from ≡ 20) × (k ≡ 0x6ed9eba1)) ⊎ ((from ≡ 60) × (k ≡ 0xca62c1d6))
-
-parity-mixed : {from k : ℕ} (t x y z : ℕ) → Parities from k → from ≤ t → t < from + 20 → mixed t x y z ≡ parity x y z
-parity-mixed t x y z (inl q) g l = let e = q.0 in mixed-low t x y z (omega (arith, e)) (omega (arith, e))
-parity-mixed t x y z (inr q) g l = let e = q.0 in mixed-high t x y z (omega (arith, e))
-
-parity-constant : {from k : ℕ} (t : ℕ) → Parities from k → from ≤ t → t < from + 20 → k ≡ constant t
-parity-constant t (inl q) g l = let e = q.0 in q.1 ∙ sym (constant-second t (omega (arith, e)) (omega (arith, e)))
-parity-constant t (inr q) g l = let e = q.0 in q.1 ∙ sym (constant-fourth t (omega (arith, e)))
-
-pub rounding-parity : {w : List ℕ} {from k : ℕ} {h s : Chain} {t f : ℕ} (r : Chain) → Parities from k → Rounding w from (from + 20) h s t → t < from + 20
-    → f ≡ parity s.b s.c s.d → r ≡ round_by f k (slice_index w t) s → Rounding w from (from + 20) h r (t + 1)
-rounding-parity {w} {from} {k} {h} {s} {t} {f} r c g l p d =
-    rounding-on g f k r l (p ∙ sym (parity-mixed t s.b s.c s.d c g.least l)) (parity-constant t c g.least l) d
-
-pub parities-room : (from k : ℕ) → Parities from k → from + 20 ≤ 80
-parities-room from k (inl q) = let e = q.0 in omega (arith, e)
-parities-room from k (inr q) = let e = q.0 in omega (arith, e)
+pub taken-most : (n : ℕ) (w : List ℕ) → length (take n w) ≤ n
+taken-most n w = let e = length-take n w in omega (arith, e)
 
 -- all eighty
-pub rounds-all : (w : List ℕ) (h a b c d : Chain) → length w ≡ 80 → rounds 0 w h ≡ rounds 20 (drop 20 w) a → rounds 20 (drop 20 w) a ≡ rounds 40 (drop 40 w) b
-    → rounds 40 (drop 40 w) b ≡ rounds 60 (drop 60 w) c → rounds 60 (drop 60 w) c ≡ rounds 80 (drop 80 w) d → d ≡ rounds 0 w h
+rounds-split : (j t : ℕ) (w : List ℕ) (h : Chain) → j ≤ length w → rounds t w h ≡ rounds (t + j) (drop j w) (rounds t (take j w) h)
+rounds-split zero t w h l = let e : t ≡ t + zero = omega arith in ap (λ (i : ℕ). rounds i w h) e ∙ ap (rounds (t + zero) w) (sym (rounds-none t h))
+rounds-split (suc j) t [] h l = absurd (omega arith)
+rounds-split (suc j) t (x ∷ w) h l =
+    let e : suc t + j ≡ t + suc j = omega arith in
+    rounds-more t x w h ∙ rounds-split j (suc t) w (step t x h) (omega arith)
+    ∙ ap (λ (i : ℕ). rounds i (drop j w) (rounds (suc t) (take j w) (step t x h))) e
+    ∙ ap (rounds (t + suc j) (drop j w)) (sym (rounds-more t x (take j w) h))
+
+twenty-on : (t : ℕ) (w : List ℕ) (h a : Chain) → length w ≡ 80 → t + 20 ≤ 80 → a ≡ rounds t (take 20 (drop t w)) h → rounds t (drop t w) h ≡ rounds (t + 20) (drop (t + 20) w) a
+twenty-on t w h a l m e =
+    let n : length (drop t w) ≡ length w - t = length-drop t w in
+    let k : 20 + t ≡ t + 20 = omega arith in
+    rounds-split 20 t (drop t w) h (omega (arith, n, l)) ∙ ap (λ (u : List ℕ). rounds (t + 20) u (rounds t (take 20 (drop t w)) h)) (drop-drop 20 t w)
+    ∙ ap (rounds (t + 20) (drop (t + 20) w)) (sym e)
+
+pub rounds-all : (w : List ℕ) (h a b c d : Chain) → length w ≡ 80 → a ≡ rounds 0 (take 20 w) h → b ≡ rounds 20 (take 20 (drop 20 w)) a
+    → c ≡ rounds 40 (take 20 (drop 40 w)) b → d ≡ rounds 60 (take 20 (drop 60 w)) c → d ≡ rounds 0 w h
 rounds-all w h a b c d l e f g k =
-    sym (e ∙ f ∙ g ∙ k ∙ ap (λ (u : List ℕ). rounds 80 u d) (drop_of_length-le w {i = 80} (omega (arith, l))) ∙ rounds-none 80 d)
+    sym (twenty-on 0 w h a l (omega arith) e ∙ twenty-on 20 w a b l (omega arith) f ∙ twenty-on 40 w b c l (omega arith) g ∙ twenty-on 60 w c d l (omega arith) k
+    ∙ ap (λ (u : List ℕ). rounds 80 u d) (drop_of_length-le w {i = 80} (omega (arith, l))) ∙ rounds-none 80 d)
 
 -- ---- block after block
 
@@ -174,27 +182,25 @@ pub blocks-none : (h : Chain) (s : List ℕ) → blocks 0 h s ≡ h
 unfolding blocks
 blocks-none h s = refl
 
-pub pouring-start : (h : Chain) (part : List ℕ) → Pouring h part h 0
-pouring-start h part = record { most = omega arith; ends = let e : length part ≡ length part - 0 = omega arith in ap (λ (n : ℕ). blocks (n / 64) h part) e }
-
-module _ {h c : Chain} {part : List ℕ} {i : ℕ} (g : Pouring h part c i) where
-  pub pouring-on : (r : Chain) → 64 ≤ length part - i → r ≡ block c (take (i + 64 - i) (drop i part)) → Pouring h part r (i + 64)
+-- the whole blocks of the part came from h to c, with the octets `rest` to come
+module _ (h c : Chain) (part rest : List ℕ) (g : poured h part ≡ poured c rest) (e : left part ≡ left rest) where
+  pub pouring-on : (r : Chain) → 64 ≤ length rest → r ≡ block c (take 64 rest) → (poured h part ≡ poured r (drop 64 rest)) × (left part ≡ left (drop 64 rest))
+  unfolding poured
   pouring-on r l d =
-      let w : i + 64 - i ≡ 64 = omega arith in
-      let n : (length part - i) / 64 ≡ suc ((length part - (i + 64)) / 64) = omega arith in
-      record {
-        most = omega arith;
-        ends =
-            g.ends ∙ ap (λ (k : ℕ). blocks k c (drop i part)) n ∙ blocks_more ((length part - (i + 64)) / 64) c (drop i part)
-            ∙ ap (λ (q : Chain). blocks ((length part - (i + 64)) / 64) q (drop 64 (drop i part))) (sym (d ∙ ap (λ (k : ℕ). block c (take k (drop i part))) w))
-            ∙ ap (blocks ((length part - (i + 64)) / 64) r) (drop-drop 64 i part);
-      }
+      let o : length (drop 64 rest) ≡ length rest - 64 = length-drop 64 rest in
+      let n : length rest / 64 ≡ suc (length (drop 64 rest) / 64) = omega (arith, o) in
+      let m : length rest / 64 * 64 ≡ 64 + length (drop 64 rest) / 64 * 64 = omega (arith, o) in (
+        g ∙ ap (λ (k : ℕ). blocks k c rest) n ∙ blocks_more (length (drop 64 rest) / 64) c rest
+            ∙ ap (λ (q : Chain). blocks (length (drop 64 rest) / 64) q (drop 64 rest)) (sym d),
+        e ∙ ap (λ (k : ℕ). drop k rest) m ∙ sym (drop-drop (length (drop 64 rest) / 64 * 64) 64 rest),
+      )
 
-  pub pouring-end : length part - i < 64 → c ≡ poured h part
+  pub pouring-end : length rest < 64 → (c ≡ poured h part) × (rest ≡ left part)
   unfolding poured
   pouring-end l =
-      let n : (length part - i) / 64 ≡ 0 = omega arith in
-      sym (g.ends ∙ ap (λ (k : ℕ). blocks k c (drop i part)) n ∙ blocks-none c (drop i part))
+      let n : length rest / 64 ≡ 0 = omega arith in
+      let m : length rest / 64 * 64 ≡ 0 = omega arith in
+      (sym (g ∙ ap (λ (k : ℕ). blocks k c rest) n ∙ blocks-none c rest), sym (e ∙ ap (λ (k : ℕ). drop k rest) m))
 
 -- ---- the buffer
 
@@ -219,33 +225,3 @@ get_d_kept w i l = get_or-take 64 (w ++ replicate 64 0) i 0 l ∙ getD-behind w 
 pub take-kept : (k : ℕ) (w : List ℕ) → k ≤ 64 → k ≤ length w → take k (kept w) ≡ take k w
 unfolding kept
 take-kept k w l m = take-take k 64 (w ++ zeros 64) l ∙ take-append-le k w (zeros 64) m
-
-module _ (b part : List ℕ) (k : ℕ) (full : length b ≡ 64) (l : k < 64) where
-  front : length (take k b) ≡ k
-  front = length-take-le k b (omega (arith, full))
-
-  pub filling-start : Filling (kept (take k b ++ part)) b k
-  filling-start =
-      let n = length-append (take k b) part in
-      record {
-        size = full;
-        most = omega arith;
-        filled = sym (take-kept k (take k b ++ part) (omega arith) (omega (arith, n, front)) ∙ take-append-le k (take k b) part (omega (arith, front)) ∙ take-take k k b (omega arith));
-      }
-
-  pub filling-on : {r : List ℕ} {i : ℕ} (x : ℕ) → Filling (kept (take k b ++ part)) r i → k ≤ i → i < 64 → x ≡ slice_index part (i - k) → Filling (kept (take k b ++ part)) (slice_set r i x) (i + 1)
-  filling-on {r} {i} x g m n d =
-      let p : length (take k b) + (i - k) ≡ i = omega (arith, front) in
-      let q : slice_index_or part (i - k) 0 ≡ slice_index_or (kept (take k b ++ part)) i 0 =
-      sym (get_d_kept (take k b ++ part) i n ∙ ap (λ (j : ℕ). slice_index (take k b ++ part) j) (sym p) ∙ get_or-append-add (take k b) part (i - k) 0) in
-      record {
-        size = length-set r i x ∙ g.size;
-        most = omega arith;
-        filled =
-            ap (λ (j : ℕ). take j (slice_set r i x)) (add-one i) ∙ take-suc-set r i x (omega (arith, g.size)) ∙ ap (λ (y : ℕ). take i r ++ y ∷ []) (d ∙ q)
-            ∙ ap (λ (u : List ℕ). u ++ slice_index (kept (take k b ++ part)) i ∷ []) g.filled
-            ∙ sym (take-suc (kept (take k b ++ part)) i 0 (omega (arith, length-kept (take k b ++ part)))) ∙ ap (λ (j : ℕ). take j (kept (take k b ++ part))) (sym (add-one i));
-      }
-
-pub filling-end : (w : List ℕ) {r : List ℕ} {i : ℕ} → Filling (kept w) r i → 64 ≤ i → r ≡ kept w
-filling-end w {r} {i} g l = sym (take_all i r (omega (arith, g.size))) ∙ g.filled ∙ take_all i (kept w) (omega (arith, length-kept w))

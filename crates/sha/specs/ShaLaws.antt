@@ -1,10 +1,11 @@
 -- On the padding and on blocks that follow one another.
-use Rattle.std.specs.Prelude.{◌≡◌, ℕ, zero, suc, ◌+◌, ◌-◌, ◌*◌, ◌/◌, ◌%◌, ◌^◌, ◌≤◌, List, [], ◌∷◌, ◌++◌, length, take, drop, replicate, refl}
+use Rattle.std.specs.Prelude.{◌≡◌, ℕ, zero, suc, ◌+◌, ◌-◌, ◌*◌, ◌/◌, ◌%◌, ◌^◌, ◌≤◌, List, ◌∷◌, ◌++◌, length, take, drop, replicate, refl}
 use Rattle.std.proofs.Common.{arith, sym, ◌∙◌, length-append, length-drop, drop-drop}
 use Rattle.std.proofs.Math.Path.{ap}
 use Rattle.std.proofs.lemmas.List.{length-replicate, take-append-le, drop-append-le}
+use Rattle.std.specs.Int.{w64, to_be_bytes}
 use Rattle.sha.specs.declared.Chain.{Chain}
-use Rattle.sha.specs.Sha.{gap, zeros, eight, block, blocks, four, output}
+use Rattle.sha.specs.Sha.{gap, zeros, eight, block, blocks}
 use Rattle.sha.specs.Feeding.{poured, left}
 
 -- ---- "k is the smallest, non-negative solution to the equation l + 1 + k ≡ 448 mod 512": l is 8 n, and k is 7 + 8 (gap n)
@@ -56,28 +57,12 @@ octet-16 n l e = omega arith
 octet-8 : (n l : ℕ) → l ≡ (n * 2 ^ 3) % 2 ^ 64 → l / 2 ^ 8 % 256 ≡ 8 * n / 2 ^ 8 % 256
 octet-8 n l e = omega arith
 
-octet-0 : (n l : ℕ) → l ≡ (n * 2 ^ 3) % 2 ^ 64 → l / 2 ^ 0 % 256 ≡ 8 * n / 2 ^ 0 % 256
+octet-0 : (n l : ℕ) → l ≡ (n * 2 ^ 3) % 2 ^ 64 → l % 256 ≡ 8 * n / 2 ^ 0 % 256
 octet-0 n l e = omega arith
 
-pub eight-of : (n l : ℕ) {x0 x1 x2 x3 x4 x5 x6 x7 : ℕ} → l ≡ (n * 2 ^ 3) % 2 ^ 64
-    → x0 ≡ l / 2 ^ 56 % 256 → x1 ≡ l / 2 ^ 48 % 256 → x2 ≡ l / 2 ^ 40 % 256 → x3 ≡ l / 2 ^ 32 % 256
-    → x4 ≡ l / 2 ^ 24 % 256 → x5 ≡ l / 2 ^ 16 % 256 → x6 ≡ l / 2 ^ 8 % 256 → x7 ≡ l / 2 ^ 0 % 256
-    → x0 ∷ x1 ∷ x2 ∷ x3 ∷ x4 ∷ x5 ∷ x6 ∷ x7 ∷ [] ≡ eight (8 * n)
+pub eight-of : (n l : ℕ) → l ≡ (n * 2 ^ 3) % 2 ^ 64 → to_be_bytes w64 l ≡ eight (8 * n)
 unfolding eight
-eight-of n l e e0 e1 e2 e3 e4 e5 e6 e7 =
-    rw (e0, e1, e2, e3, e4, e5, e6, e7, octet-56 n l e, octet-48 n l e, octet-40 n l e, octet-32 n l e, octet-24 n l e, octet-16 n l e, octet-8 n l e, octet-0 n l e)
-
--- ---- the digest, octet by octet
-
-pub output-of : (h : Chain) {x0 x1 x2 x3 x4 x5 x6 x7 x8 x9 x10 x11 x12 x13 x14 x15 x16 x17 x18 x19 : ℕ}
-    → x0 ≡ h.a / 2 ^ 24 % 256 → x1 ≡ h.a / 2 ^ 16 % 256 → x2 ≡ h.a / 2 ^ 8 % 256 → x3 ≡ h.a / 2 ^ 0 % 256
-    → x4 ≡ h.b / 2 ^ 24 % 256 → x5 ≡ h.b / 2 ^ 16 % 256 → x6 ≡ h.b / 2 ^ 8 % 256 → x7 ≡ h.b / 2 ^ 0 % 256
-    → x8 ≡ h.c / 2 ^ 24 % 256 → x9 ≡ h.c / 2 ^ 16 % 256 → x10 ≡ h.c / 2 ^ 8 % 256 → x11 ≡ h.c / 2 ^ 0 % 256
-    → x12 ≡ h.d / 2 ^ 24 % 256 → x13 ≡ h.d / 2 ^ 16 % 256 → x14 ≡ h.d / 2 ^ 8 % 256 → x15 ≡ h.d / 2 ^ 0 % 256
-    → x16 ≡ h.e / 2 ^ 24 % 256 → x17 ≡ h.e / 2 ^ 16 % 256 → x18 ≡ h.e / 2 ^ 8 % 256 → x19 ≡ h.e / 2 ^ 0 % 256
-    → x0 ∷ x1 ∷ x2 ∷ x3 ∷ x4 ∷ x5 ∷ x6 ∷ x7 ∷ x8 ∷ x9 ∷ x10 ∷ x11 ∷ x12 ∷ x13 ∷ x14 ∷ x15 ∷ x16 ∷ x17 ∷ x18 ∷ x19 ∷ [] ≡ output h
-unfolding output four
-output-of h e0 e1 e2 e3 e4 e5 e6 e7 e8 e9 e10 e11 e12 e13 e14 e15 e16 e17 e18 e19 = rw (e0, e1, e2, e3, e4, e5, e6, e7, e8, e9, e10, e11, e12, e13, e14, e15, e16, e17, e18, e19)
+eight-of n l e = rw (octet-56 n l e, octet-48 n l e, octet-40 n l e, octet-32 n l e, octet-24 n l e, octet-16 n l e, octet-8 n l e, octet-0 n l e)
 
 -- ---- blocks behind blocks
 

@@ -22,6 +22,7 @@ pub struct Chain {
 }
 
 // A message under way: the hash value after its whole blocks, the octets since, and how many octets there were in all.
+// Kept: `count` says how far `buffer` is filled, since the C interface hands this state around and the library has no heap.
 #[derive(Clone, Copy)]
 pub struct Sha {
     pub chain: Chain,
@@ -29,34 +30,16 @@ pub struct Sha {
     pub count: u64,
 }
 
-// What feeding gives: the state with the part; or, where there would be more than 2^32 - 1 octets in all, the state as it was.
-#[derive(Clone, Copy)]
-pub struct Fed {
-    pub taken: bool,
-    pub state: Sha,
-}
+// "more than 2^32 - 1 octets" are refused.
+const MOST_OCTETS: u64 = 4294967295;
 
 // "PAD" of 5.1.1, in octets: the bit 1, then zero bits, as many as ever come.
-const PAD: [u8; 64] = [
-    128, 0, 0, 0, 0, 0, 0, 0, 0, 0, 0, 0, 0, 0, 0, 0, 0, 0, 0, 0, 0, 0, 0, 0, 0, 0, 0, 0, 0, 0, 0,
-    0, 0, 0, 0, 0, 0, 0, 0, 0, 0, 0, 0, 0, 0, 0, 0, 0, 0, 0, 0, 0, 0, 0, 0, 0, 0, 0, 0, 0, 0, 0, 0,
-    0,
-];
-
 fn pad() -> [u8; 64]
     ensures { result ≡ 128 ∷ zeros 63 }
 {
-    PAD
-}
-
-// The octet of a part, and 0 behind its end.
-fn octet_at(part: &[u8], i: usize) -> u8
-    ensures { result ≡ slice_index part.now i }
-{
-    if i < part.len() {
-        return part[i];
-    }
-    0
+    let mut p = [0u8; 64];
+    p[0] = 128;
+    p
 }
 
 // The first `k` octets of a buffer, then those of the part as far as there is room, then zeros.
@@ -64,59 +47,43 @@ fn filled(b: [u8; 64], k: usize, part: &[u8]) -> [u8; 64]
     requires { k < 64 }
     ensures { result ≡ kept (take k b ++ part.now) }
 {
-    let mut r = b;
-    let mut i = k;
-    while i < 64 {
-        r[i] = octet_at(part, i - k);
-        i += 1;
-    }
+    let n = part.len().min(64 - k);
+    let mut r = [0u8; 64];
+    r[..k].copy_from_slice(&b[..k]);
+    r[k..k + n].copy_from_slice(&part[..n]);
     r
 }
 
-// The hash value after the whole blocks of `part`, which are taken from it where they stand.
-fn blocks_of(h: Chain, part: &[u8]) -> Chain
-    ensures { result ≡ poured h part.now }
+// The hash value after the whole blocks of `part`, which are taken from it where they stand, and the octets behind them.
+fn blocks_of<'a>(h: Chain, part: &'a [u8], w: &mut [u32; 80]) -> (Chain, &'a [u8])
+    ensures chain { result.0 ≡ poured h part.now }
+    ensures rest { result.1.now ≡ left part.now }
 {
-    let mut w = [0u32; 80];
     let mut c = h;
-    let mut i = 0;
-    while 64 <= part.len() - i {
-        let e = i + 64;
-        c = compress(c, &part[i..e], &mut w);
-        i = e;
+    let mut rest = part;
+    while let Some((block, behind)) = rest.split_first_chunk::<64>() {
+        c = compress(c, block, &mut *w);
+        rest = behind;
     }
-    c
+    (c, rest)
 }
 
-// The hash value after the first `k` octets of the buffer and those of the part: a block that the buffer begins, then the part's own.
-fn hashed(h: Chain, b: [u8; 64], k: usize, part: &[u8]) -> Chain
+// The hash value after the first `k` octets of the buffer and those of the part: a block that the buffer begins, then the part's own. And what stays in the
+// buffer then: the octets behind the last whole block, and zeros.
+fn absorb(h: Chain, b: [u8; 64], k: usize, part: &[u8]) -> (Chain, [u8; 64])
     requires { k < 64 }
-    ensures { result ≡ poured h (take k b ++ part.now) }
+    ensures chain { result.0 ≡ poured h (take k b ++ part.now) }
+    ensures buffer { result.1 ≡ kept (left (take k b ++ part.now)) }
 {
-    if k == 0 {
-        return blocks_of(h, part);
-    }
     let room = 64 - k;
+    let f = filled(b, k, part);
     if part.len() < room {
-        return h;
+        return (h, f);
     }
     let mut w = [0u32; 80];
-    let f = filled(b, k, part);
     let c = compress(h, &f, &mut w);
-    blocks_of(c, &part[room..])
-}
-
-// What stays in the buffer then: the octets behind the last whole block, and zeros.
-fn buffered(b: [u8; 64], k: usize, part: &[u8]) -> [u8; 64]
-    requires { k < 64 }
-    ensures { result ≡ kept (left (take k b ++ part.now)) }
-{
-    let n = part.len();
-    if n < 64 - k {
-        return filled(b, k, part);
-    }
-    let from = n - (k + n) % 64;
-    filled(b, 0, &part[from..])
+    let (d, rest) = blocks_of(c, &part[room..], &mut w);
+    (d, filled(b, 0, rest))
 }
 
 // No octets yet.
@@ -136,44 +103,20 @@ pub fn start() -> Sha
     }
 }
 
-// The state with the octets of `part` behind those that were there; "15 where more than 2^32 - 1 octets are fed, which changes nothing".
-pub fn feed(st: Sha, part: &[u8]) -> Fed
+// The state with the octets of `part` behind those that were there; none where more than 2^32 - 1 octets would be fed.
+pub fn feed(st: Sha, part: &[u8]) -> Option<Sha>
     ensures { result ≡ fed_of st part.now }
 {
-    let n = st.count;
-    if 4294967295 < n {
-        return Fed {
-            taken: false,
-            state: st,
-        };
+    let count = st.count.checked_add(part.len() as u64)?;
+    if MOST_OCTETS < count {
+        return None;
     }
-    let room = (4294967295 - n) as usize;
-    if room < part.len() {
-        return Fed {
-            taken: false,
-            state: st,
-        };
-    }
-    let k = (n % 64) as usize;
-    let b = st.buffer;
-    let c = hashed(st.chain, b, k, part);
-    let d = buffered(b, k, part);
-    Fed {
-        taken: true,
-        state: Sha {
-            chain: c,
-            buffer: d,
-            count: n + part.len() as u64,
-        },
-    }
-}
-
-// The octet of x at the weight d.
-fn octet(x: u64, d: u64) -> u8
-    requires { 0 < d }
-    ensures { result ≡ x / d % 256 }
-{
-    (x / d % 256) as u8
+    let (chain, buffer) = absorb(st.chain, st.buffer, (st.count % 64) as usize, part);
+    Some(Sha {
+        chain,
+        buffer,
+        count,
+    })
 }
 
 // The length of n octets in bits, as 64 bits.
@@ -181,55 +124,19 @@ fn length_octets(n: u64) -> [u8; 8]
     ensures { result ≡ eight (8 * n) }
 {
     let l = n << 3;
-    [
-        octet(l, 0x100000000000000),
-        octet(l, 0x1000000000000),
-        octet(l, 0x10000000000),
-        octet(l, 0x100000000),
-        octet(l, 0x1000000),
-        octet(l, 0x10000),
-        octet(l, 0x100),
-        octet(l, 1),
-    ]
-}
-
-fn put(x: u32, d: u64) -> u8
-    requires { 0 < d }
-    ensures { result ≡ x / d % 256 }
-{
-    octet(x as u64, d)
+    l.to_be_bytes()
 }
 
 fn digest_octets(h: Chain) -> [u8; 20]
     ensures { result ≡ output h }
 {
-    let a = h.a;
-    let b = h.b;
-    let c = h.c;
-    let d = h.d;
-    let e = h.e;
-    [
-        put(a, 0x1000000),
-        put(a, 0x10000),
-        put(a, 0x100),
-        put(a, 1),
-        put(b, 0x1000000),
-        put(b, 0x10000),
-        put(b, 0x100),
-        put(b, 1),
-        put(c, 0x1000000),
-        put(c, 0x10000),
-        put(c, 0x100),
-        put(c, 1),
-        put(d, 0x1000000),
-        put(d, 0x10000),
-        put(d, 0x100),
-        put(d, 1),
-        put(e, 0x1000000),
-        put(e, 0x10000),
-        put(e, 0x100),
-        put(e, 1),
-    ]
+    let mut out = [0u8; 20];
+    out[..4].copy_from_slice(&h.a.to_be_bytes());
+    out[4..8].copy_from_slice(&h.b.to_be_bytes());
+    out[8..12].copy_from_slice(&h.c.to_be_bytes());
+    out[12..16].copy_from_slice(&h.d.to_be_bytes());
+    out[16..].copy_from_slice(&h.e.to_be_bytes());
+    out
 }
 
 // The digest of the octets fed: they are padded, and the padding is hashed behind them.
@@ -239,10 +146,7 @@ pub fn finish(st: Sha) -> [u8; 20]
     let n = st.count;
     let k = (n % 64) as usize;
     let e = (119 - k) % 64 + 1;
-    let p = pad();
-    let b = st.buffer;
-    let c = hashed(st.chain, b, k, &p[..e]);
-    let d = buffered(b, k, &p[..e]);
-    let l = length_octets(n);
-    digest_octets(hashed(c, d, 56, &l))
+    let (c, d) = absorb(st.chain, st.buffer, k, &pad()[..e]);
+    let (h, _) = absorb(c, d, 56, &length_octets(n));
+    digest_octets(h)
 }

@@ -3,6 +3,7 @@ ghost use Rattle.std.specs.Prelude.{◌≡◌, ◌<◌};
 ghost use Rattle.sha.specs.Sha.{rotl, plus, ch, parity, maj, word};
 
 // ROTL: x turned left by n places.
+// Kept: document 01 names the form for this place, "rotation a helper of the program's own"; so it is no `rotate_left`.
 pub fn turned(x: u32, n: u32) -> u32
     requires { (0 < n) × (n < 32) }
     ensures { result ≡ rotl n x }
@@ -14,7 +15,7 @@ pub fn turned(x: u32, n: u32) -> u32
 pub fn add(x: u32, y: u32) -> u32
     ensures { result ≡ plus x y }
 {
-    std::num::wrapping_add_u32(x, y)
+    x.wrapping_add(y)
 }
 
 // Ch
@@ -38,15 +39,9 @@ pub fn most(x: u32, y: u32, z: u32) -> u32
     (x & y) ^ (x & z) ^ (y & z)
 }
 
-fn wide(x: u8) -> u32
-    ensures { (result ≡ x) × (result < 256) }
-{
-    x as u32
-}
-
 // Four octets as a word, the first the highest.
 pub fn joined(a: u8, b: u8, c: u8, d: u8) -> u32
     ensures { result ≡ word a b c d }
 {
-    wide(a) * 16777216 + wide(b) * 65536 + wide(c) * 256 + wide(d)
+    u32::from_be_bytes([a, b, c, d])
 }

@@ -1,6 +1,7 @@
 -- What the walk keeps of the F01 run, message by message; and what it tells at the end.
-use Rattle.std.specs.Prelude.{ℕ, ◌+◌, ◌≤◌, Bool, true, false, cond, List, ◌≡◌, length}
-use Rattle.std.proofs.Math.Option.{Option, none, some}
+use Rattle.syntax.specs.declared.Breach.{Breach}
+use Rattle.std.specs.Prelude.{ℕ, ◌+◌, ◌≤◌, Bool, true, false, cond, List, ◌≡◌, length, Result, Ok, Some, None, Err, Option}
+use Rattle.std.proofs.Math.Option.{Option as Maybe, none, some}
 use Rattle.syntax.specs.declared.Service.{Service}
 use Rattle.syntax.specs.declared.Syntax.{Syntax}
 use Rattle.grammar.specs.Lists.{Snoc, nil, ◌▷◌, ◌+++◌}
@@ -13,8 +14,6 @@ use Rattle.spans.specs.Span.{Parted, parted, parted_of, run_right, Span, span, s
 use Rattle.spans.specs.declared.span.Run.{Run}
 use Rattle.spans.specs.declared.span.Sofar.{Sofar}
 use Rattle.spans.specs.declared.span.Sofar.TheVariants.{Before, Inside, Behind, Broken}
-use Rattle.spans.specs.declared.span.Spanned.{Spanned}
-use Rattle.spans.specs.declared.span.Spanned.TheVariants.{Run as Spans, Missing, Refused}
 
 -- ---- of messages behind the UNB u, which stands at p
 
@@ -65,18 +64,18 @@ end_of (Inside x) = x.end
 end_of (Behind x) = x.end
 end_of Broken = 0
 
-abbrev pub told_as : Sofar → Spanned
-told_as Before = Missing
-told_as (Inside x) = Spans x
-told_as (Behind x) = Spans x
-told_as Broken = Missing
+abbrev pub told_as : Sofar → Result (Option Run) Breach
+told_as Before = (Ok None)
+told_as (Inside x) = Ok (Some x)
+told_as (Behind x) = Ok (Some x)
+told_as Broken = (Ok None)
 
 -- the whole interchange was read from p on, and this is its run
-abbrev pub WholeBy : Syntax → List ℕ → ℕ → Option Span → Type 0
+abbrev pub WholeBy : Syntax → List ℕ → ℕ → Maybe Span → Type 0
 WholeBy y s p q = (u : Leaf) × (ms : Snoc Message) × (z : Leaf) × ((answer_from y s p ≡ read (done u ms z)) × (span_at y.service p u ms ≡ q))
 
 -- the run, within the octets; that there is none; or why the interchange is refused
-abbrev pub SpanIs : Syntax → List ℕ → ℕ → Spanned → Type 0
-SpanIs y s p (Spans x) = WholeBy y s p (some (span x.start x.end)) × (x.start ≤ x.end) × (x.end ≤ length s)
-SpanIs y s p Missing = WholeBy y s p none
-SpanIs y s p (Refused f) = answer_from y s p ≡ refused f.number f.place
+abbrev pub SpanIs : Syntax → List ℕ → ℕ → Result (Option Run) Breach → Type 0
+SpanIs y s p (Ok (Some x)) = WholeBy y s p (some (span x.start x.end)) × (x.start ≤ x.end) × (x.end ≤ length s)
+SpanIs y s p (Ok None) = WholeBy y s p none
+SpanIs y s p (Err f) = answer_from y s p ≡ refused f.number f.place

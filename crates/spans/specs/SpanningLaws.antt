@@ -1,14 +1,15 @@
 -- Laws of the walk for the F01 run: a message more, a section more, and the end.
-use Rattle.std.specs.Prelude.{ℕ, ◌+◌, ◌≤◌, Bool, true, false, cond, not, ◌&&◌, List, ◌≡◌, refl, T, length}
+use Rattle.syntax.specs.declared.Breach.{Breach}
+use Rattle.std.specs.Prelude.{ℕ, ◌+◌, ◌≤◌, Bool, true, false, cond, not, ◌&&◌, List, ◌≡◌, refl, T, length, Result, Option}
 use Rattle.std.proofs.Common.{arith, ap, sym, ◌∙◌, subst}
 use Rattle.std.proofs.Math.Bool.{and-true, and-false}
-use Rattle.std.proofs.Math.Option.{Option, none, some}
+use Rattle.std.proofs.Math.Option.{Option as Maybe, none, some}
 use Rattle.syntax.specs.Tree.{print_s}
 use Rattle.syntax.specs.declared.Service.{Service}
 use Rattle.syntax.specs.declared.Syntax.{Syntax}
 use Rattle.grammar.specs.Lists.{Snoc, nil, ◌▷◌, ◌+++◌, joined, check, every}
 use Rattle.grammar.specs.Segments.{Unb, Unt, seg}
-use Rattle.grammar.specs.Interchange.{Leaf, Open, msg, Message, message, Reading, start, idle, done, shown, show_open, show_message}
+use Rattle.grammar.specs.Interchange.{Leaf, Open, msg, Message, message, Reading, idle, done, shown, show_open, show_message}
 use Rattle.grammar.specs.Places.{wide}
 use Rattle.grammar.proofs.PlacesLaws.{wide-join}
 use Rattle.grammar.specs.TestLaws.{is_true}
@@ -25,7 +26,6 @@ use Rattle.turns.specs.declared.state.State.{State}
 use Rattle.spans.specs.declared.span.Run.{Run}
 use Rattle.spans.specs.declared.span.Sofar.{Sofar}
 use Rattle.spans.specs.declared.span.Sofar.TheVariants.{Before, Inside, Behind, Broken}
-use Rattle.spans.specs.declared.span.Spanned.{Spanned}
 
 -- ---- whether a run is right, with a message more
 
@@ -57,7 +57,7 @@ module _ (x : Run) (p e : ℕ) where
   kept-broken false = refl
 
 -- what it tells of the run
-abbrev span_of : Sofar → Option Span
+abbrev span_of : Sofar → Maybe Span
 span_of Before = none
 span_of (Inside x) = some (span x.start x.end)
 span_of (Behind x) = some (span x.start x.end)
@@ -242,8 +242,8 @@ module _ (y : Syntax) (s : List ℕ) (p : ℕ) (u : Leaf) (ms : Snoc Message) (z
 
 -- all was read
 pub span-told : {y : Syntax} {s : List ℕ} {from : ℕ} {x : State} {h l b : List ℕ} {i : ℕ} {m rows l₀ b₀ : List ℕ} {k : Sofar} (g : Spanning y s from x h l b i m rows l₀ b₀ k)
-    → ReadAll g.looping.walks → {f : Spanned} → f ≡ told_as k → SpanIs y s from f
+    → ReadAll g.looping.walks → {f : Result (Option Run) Breach} → f ≡ told_as k → SpanIs y s from f
 span-told {y} {s} {from} {k = k} g a e =
     let t = a.1 in
-    subst (λ (f : Spanned). SpanIs y s from f) (sym e)
+    subst (λ (f : Result (Option Run) Breach). SpanIs y s from f) (sym e)
     (span-of y s from t.0 t.1 t.2 (a.0 ∙ ap read t.3) k (g.keeps ∙ ap (sofar_at y.service from) t.3) g.within)

@@ -1,14 +1,12 @@
 -- A reference without the spaces at its end: what it is compared by, the two loops that look for its end, and the one that compares two.
-use Rattle.std.specs.Prelude.{ℕ, zero, suc, ◌+◌, ◌-◌, ◌≤◌, ◌<◌, List, [], ◌∷◌, ◌++◌, ◌≡◌, refl, Bool, true, false, cond, ◌&&◌, eqb, length, get_or, take, drop, replicate}
+use Rattle.std.specs.Prelude.{ℕ, zero, suc, ◌+◌, ◌-◌, ◌≤◌, ◌<◌, List, [], ◌∷◌, ◌++◌, ◌≡◌, refl, Bool, true, false, cond, ◌&&◌, eqb, length, get_or, take, drop, replicate, Option, Some, None}
 use Rattle.std.proofs.Common.{arith, append_assoc, append-nil, ap, sym, ◌∙◌, eq-eqb, ne_eqb, eqb-true, take-add, take-suc}
 use Rattle.std.proofs.Math.Bool.{and-false}
 use Rattle.std.proofs.Math.Seq.{take-append_seam, take-length}
 use Rattle.syntax.specs.Octets.{same}
 use Rattle.syntax.specs.Content.{releases, content_from, content, leading, bare_of, compared, blank}
 use Rattle.syntax.specs.Scanning.{released, next_of}
-use Rattle.syntax.proofs.ContentLaws.{next-steps, next-over, not-over, plain-content, same_self}
-use Rattle.syntax.specs.declared.content.Next.{Next}
-use Rattle.syntax.specs.declared.content.Next.TheVariants.{Octet, Over}
+use Rattle.syntax.proofs.ContentLaws.{next-steps, next-over, not-over, found-first, found-second, plain-content, same_self}
 
 -- ---- what a reference is compared by
 
@@ -97,25 +95,25 @@ pub record Mid (ρ : ℕ) (l : List ℕ) (i b j : ℕ) : Type 0 where
   pub far : j ≡ i + length mid
   pub gives : (y : List ℕ) → content ρ (mid ++ y) ≡ b ∷ content ρ y
 
-over-octet : {A : Type 0} {b j : ℕ} → Over ≡ Octet b j → A
+over-octet : {A : Type 0} {b j : ℕ} → ◌≡◌ {A = Option (ℕ × ℕ)} None (Some (b, j)) → A
 over-octet e = absurd (not-over e)
 
-mid-of : (ρ : ℕ) (l : List ℕ) (i b j : ℕ) → next_of ρ l i ≡ Octet b j → Mid ρ l i b j
+mid-of : (ρ : ℕ) (l : List ℕ) (i b j : ℕ) → next_of ρ l i ≡ Some (b, j) → Mid ρ l i b j
 mid-of ρ [] i b j e = over-octet e
 mid-of ρ (a ∷ l) i b j e = pick (releases ρ a) refl e
   where
-    freed : (l : List ℕ) → releases ρ a ≡ true → released l (i + 1) ≡ Octet b j → Mid ρ (a ∷ l) i b j
+    freed : (l : List ℕ) → releases ρ a ≡ true → released l (i + 1) ≡ Some (b, j) → Mid ρ (a ∷ l) i b j
     freed [] t e = over-octet e
     freed (c ∷ l) t e =
-        let p : c ≡ b = cc in
-        let q : i + 1 + 1 ≡ j = cc in
+        let p : c ≡ b = found-first e in
+        let q : i + 1 + 1 ≡ j = found-second e in
         record { mid = a ∷ c ∷ []; rest = l; cut = refl; far = omega arith; gives = λ y. rw (t, p) }
 
-    pick : (t : Bool) → releases ρ a ≡ t → cond t (released l (i + 1)) (Octet a (i + 1)) ≡ Octet b j → Mid ρ (a ∷ l) i b j
+    pick : (t : Bool) → releases ρ a ≡ t → cond t (released l (i + 1)) (Some (a, i + 1)) ≡ Some (b, j) → Mid ρ (a ∷ l) i b j
     pick true t e = freed l t e
     pick false t e =
-        let p : a ≡ b = cc in
-        let q : i + 1 ≡ j = cc in
+        let p : a ≡ b = found-first e in
+        let q : i + 1 ≡ j = found-second e in
         record { mid = a ∷ []; rest = l; cut = refl; far = omega arith; gives = λ y. rw (t, p) }
 
 -- ---- content up to a place where an octet of content ends
@@ -186,16 +184,16 @@ baring-start {ρ} {x} = record {
   hard = sym (pend-none (bare_of (content ρ x)));
 }
 
-module _ {ρ : ℕ} {x : List ℕ} {i end : ℕ} (g : Baring ρ x i end) {r : Next} (e : r ≡ next_of ρ (drop i x) i) where
-  pub baring-end : r ≡ Over → content ρ (take end x) ≡ bare_of (content ρ x)
+module _ {ρ : ℕ} {x : List ℕ} {i end : ℕ} (g : Baring ρ x i end) {r : Option (ℕ × ℕ)} (e : r ≡ next_of ρ (drop i x) i) where
+  pub baring-end : r ≡ None → content ρ (take end x) ≡ bare_of (content ρ x)
   baring-end d =
       sym (g.hard ∙ ap (λ (l : List ℕ). content ρ (take end x) ++ pend g.spaces (bare_of l)) (next-over ρ x i e d) ∙ append-nil (content ρ (take end x)))
 
   -- the part from 0 to end
-  pub baring-part : r ≡ Over → content ρ (take (end - 0) (drop 0 x)) ≡ bare_of (content ρ x)
+  pub baring-part : r ≡ None → content ρ (take (end - 0) (drop 0 x)) ≡ bare_of (content ρ x)
   baring-part d = let z : end - 0 ≡ end = omega arith in ap (λ (k : ℕ). content ρ (take k x)) z ∙ baring-end d
 
-  module _ {b j : ℕ} (d : r ≡ Octet b j) where
+  module _ {b j : ℕ} (d : r ≡ Some (b, j)) where
     m : Mid ρ (drop i x) i b j
     m = mid-of ρ (drop i x) i b j (sym e ∙ d)
 
@@ -326,11 +324,11 @@ same_none (b ∷ t) = refl
 pub record Blanking (ρ : ℕ) (answer : Bool) (x : List ℕ) (i : ℕ) : Type 0 where
   pub are : answer ≡ blank (content ρ (drop i x))
 
-module _ {ρ : ℕ} {answer : Bool} {x : List ℕ} {i : ℕ} (g : Blanking ρ answer x i) {r : Next} (e : r ≡ next_of ρ (drop i x) i) where
-  pub blanking-end : r ≡ Over → true ≡ answer
+module _ {ρ : ℕ} {answer : Bool} {x : List ℕ} {i : ℕ} (g : Blanking ρ answer x i) {r : Option (ℕ × ℕ)} (e : r ≡ next_of ρ (drop i x) i) where
+  pub blanking-end : r ≡ None → true ≡ answer
   blanking-end d = sym (g.are ∙ ap blank (next-over ρ x i e d))
 
-  module _ {b j : ℕ} (d : r ≡ Octet b j) where
+  module _ {b j : ℕ} (d : r ≡ Some (b, j)) where
     pub blanking-less : length x - j < length x - i
     blanking-less = let w = next-steps ρ x i e d in omega arith
 
@@ -345,22 +343,22 @@ pub record Comparing (ρ ς : ℕ) (answer : Bool) (x : List ℕ) (i : ℕ) (z :
   pub compares : answer ≡ same (compared (content ρ (drop i x))) (compared (content ς (drop k z)))
 
 module _ {ρ ς : ℕ} {answer : Bool} {x : List ℕ} {i : ℕ} {z : List ℕ} {k : ℕ} (g : Comparing ρ ς answer x i z k)
-    {f h : Next} (e : f ≡ next_of ρ (drop i x) i) (q : h ≡ next_of ς (drop k z) k) where
+    {f h : Option (ℕ × ℕ)} (e : f ≡ next_of ρ (drop i x) i) (q : h ≡ next_of ς (drop k z) k) where
   -- the first is over: of the other only spaces may be left
-  pub comparing-right : {r : Bool} → f ≡ Over → r ≡ blank (content ς (drop k z)) → r ≡ answer
+  pub comparing-right : {r : Bool} → f ≡ None → r ≡ blank (content ς (drop k z)) → r ≡ answer
   comparing-right d u =
       u ∙ sym (g.compares ∙ ap (λ (l : List ℕ). same (compared l) (compared (content ς (drop k z)))) (next-over ρ x i e d)
       ∙ same_none (compared (content ς (drop k z))) ∙ blank-compared (content ς (drop k z)))
 
-  module _ {b j : ℕ} (d : f ≡ Octet b j) where
+  module _ {b j : ℕ} (d : f ≡ Some (b, j)) where
     pub comparing-less : length x - j < length x - i
     comparing-less = let w = next-steps ρ x i e d in omega arith
 
-    pub comparing-left : {r : Bool} → h ≡ Over → r ≡ blank (content ρ (drop i x)) → r ≡ answer
+    pub comparing-left : {r : Bool} → h ≡ None → r ≡ blank (content ρ (drop i x)) → r ≡ answer
     comparing-left u v =
         v ∙ sym (g.compares ∙ ap (λ (l : List ℕ). same (compared (content ρ (drop i x))) (compared l)) (next-over ς z k q u) ∙ blank-compared (content ρ (drop i x)))
 
-    module _ {c l : ℕ} (u : h ≡ Octet c l) where
+    module _ {c l : ℕ} (u : h ≡ Some (c, l)) where
       both : answer ≡ same (leading b (compared (content ρ (drop j x)))) (leading c (compared (content ς (drop l z))))
       both =
           g.compares ∙ ap (λ (t : List ℕ). same (compared t) (compared (content ς (drop k z)))) (next-steps ρ x i e d).gives

@@ -1,8 +1,8 @@
 -- The bridge: on the printing of a tree, each accessor gives what the tree has.
-use Rattle.std.specs.Prelude.{ℕ, zero, suc, ◌+◌, ◌-◌, ◌≤◌, ◌<◌, ◌≡◌, Bool, true, cond, ◌&&◌, T, eqb, get_or, take, drop}
+use Rattle.std.specs.Prelude.{ℕ, zero, suc, ◌+◌, ◌-◌, ◌≤◌, ◌<◌, ◌≡◌, Bool, true, cond, ◌&&◌, T, eqb, get_or, take, drop, Option, Some, None}
 use Rattle.std.proofs.Common.{arith, sym, ◌∙◌, subst, lit<, lit≤, get_or-drop, drop-drop}
 use mathlib.Core.List.{List, [], ◌∷◌, ◌++◌, append_assoc, append-nil}
-use Rattle.std.proofs.Math.Option.{Option, none, some}
+use Rattle.std.proofs.Math.Option.{Option as Maybe, none, some}
 use Rattle.std.proofs.Math.Path.{refl, ap}
 use Rattle.std.proofs.Math.Bool.{false}
 use borrow.Author.Tests.{ne_eqb, le-leb}
@@ -18,12 +18,6 @@ use Rattle.syntax.proofs.SegmentLaws.{after, edge-steps}
 use Rattle.syntax.specs.Tree.{Octet, plain, freed, Ne, ne, Component, Repeat, Element, Segment, segment, Symbol, tok, comp, rep, elem, term, each, separated, flat_c, flat_r, flat_e, tag_element, flat_s, spell, spells, print_s, content_in, ok, ok_tag, well, elements_in, first_repeat, components_in, repeats_in, component_of, component_in, content_of, tag_in, count_elements, count_of, repeats_of, any_repeats_in}
 use Rattle.syntax.proofs.TreeLaws.{and_right, sym_kind, Reads, All, ok-reads, every-reads, spells-append, all_append, all_left, all_right, all_c, pass, segment-end, content-print, tag-print}
 use Rattle.syntax.specs.declared.Service.{Service}
-use Rattle.syntax.specs.declared.Found.{Found}
-use Rattle.syntax.specs.declared.Found.TheVariants.{At, Nothing}
-use Rattle.syntax.specs.declared.reading.Edge.{Edge}
-use Rattle.syntax.specs.declared.reading.Edge.TheVariants.{On, Off}
-use Rattle.syntax.specs.declared.reading.Span.{Span}
-use Rattle.syntax.specs.declared.reading.Span.TheVariants.{Part, Absent}
 
 -- ---- a tree as a row of cells: each component with what ends it
 
@@ -85,14 +79,14 @@ module _ (σ : Service) (s : List ℕ) where
   covers-c : Covers flat_c row_c
   unfolding Covers
   covers-c c a b k r cs h e l d rest =
-      let f : stop_from σ 2 false (drop a s) a ≡ At (a + length (spells σ (flat_c c))) =
+      let f : stop_from σ 2 false (drop a s) a ≡ Some (a + length (spells σ (flat_c c))) =
       ap (λ (o : List ℕ). stop_from σ 2 false o a) d
       ∙ pass σ 2 (lit≤ tt) (flat_c c) (b ∷ r) a h (all_c (λ (y : Symbol). sym_kind y < 2) low c)
       ∙ here (a + length (spells σ (flat_c c))) in
-      let w = edge-steps σ s a refl (ap (edge_of σ s) f ∙ ap (On (a + length (spells σ (flat_c c)))) (ap (kind_of σ) (octet-at s a (spells σ (flat_c c)) b r d) ∙ e)) in
+      let w = edge-steps σ s a refl (ap (edge_of σ s) f ∙ ap (λ q. Some ((a + length (spells σ (flat_c c))), q)) (ap (kind_of σ) (octet-at s a (spells σ (flat_c c)) b r d) ∙ e)) in
       rw w.first (one_more (slice_at s a (spells σ (flat_c c)) (b ∷ r) d) h (rest (a + length (spells σ (flat_c c)) + 1) (drop_past s a (spells σ (flat_c c)) b r d)))
     where
-      here : (q : ℕ) → stop_from σ 2 false (b ∷ r) q ≡ At q
+      here : (q : ℕ) → stop_from σ 2 false (b ∷ r) q ≡ Some q
       here q = rw (e, le-leb 2 k l)
 
   -- one level up, where sep is printed as the octet o, of kind n
@@ -143,7 +137,7 @@ element_at_c zero cs = cs
 element_at_c (suc e) [] = []
 element_at_c (suc e) (cell c k ∷ cs) = cond (eqb k 4) (element_at_c e cs) (element_at_c (suc e) cs)
 
-abbrev component_at_c : ℕ → List Cell → Option Component
+abbrev component_at_c : ℕ → List Cell → Maybe Component
 component_at_c n [] = none
 component_at_c zero (cell c k ∷ cs) = some c
 component_at_c (suc n) (cell c k ∷ cs) = cond (eqb k 2) (component_at_c n cs) none
@@ -165,9 +159,9 @@ any_repeats_c [] = false
 any_repeats_c (cell c k ∷ cs) = cond (eqb k 3) true (any_repeats_c cs)
 
 -- a span has the octets of the component that is there, printed well; or there is none
-pub data SpanIs (σ : Service) (s : List ℕ) : Span → Option Component → Type 0 where
-  no_span : SpanIs σ s Absent none
-  that-span : {x z : ℕ} {c : Component} → slice x z s ≡ spells σ (flat_c c) → All (Reads σ) (flat_c c) → SpanIs σ s (Part x z) (some c)
+pub data SpanIs (σ : Service) (s : List ℕ) : Option (ℕ × ℕ) → Maybe Component → Type 0 where
+  no_span : SpanIs σ s None none
+  that-span : {x z : ℕ} {c : Component} → slice x z s ≡ spells σ (flat_c c) → All (Reads σ) (flat_c c) → SpanIs σ s (Some (x, z)) (some c)
 
 -- ---- pieces that lie on cells answer as these do
 
@@ -188,7 +182,7 @@ module _ (σ : Service) (s : List ℕ) where
   lie-component zero (one_more h w l) = that-span h w
   lie-component (suc n) (one_more {k = k} {ps = ps} {cs = cs} h w l) = by (eqb k 2) (lie-component n l)
     where
-      by : (t : Bool) → SpanIs σ s (at_component n ps) (component_at_c n cs) → SpanIs σ s (cond t (at_component n ps) Absent) (cond t (component_at_c n cs) none)
+      by : (t : Bool) → SpanIs σ s (at_component n ps) (component_at_c n cs) → SpanIs σ s (cond t (at_component n ps) None) (cond t (component_at_c n cs) none)
       by true a = a
       by false a = no_span
 
@@ -241,7 +235,7 @@ element-over e =
     over-e (element_at_c (suc e)) (λ n cs. cond (eqb n 4) (element_at_c e cs) (element_at_c (suc e) cs)) (λ x n cs. refl) (λ cs. refl) (λ cs. refl)
 
 -- an answer that is read off the element that starts here
-module _ {B : Type 0} (ask : List Cell → B) (told : Option Element → B) (empty : ask [] ≡ told none)
+module _ {B : Type 0} (ask : List Cell → B) (told : Maybe Element → B) (empty : ask [] ≡ told none)
     (starts : (x : Element) (n : ℕ) (cs : List Cell) → 4 ≤ n → ask (row_e x n ++ cs) ≡ told (some x)) where
   element-tree : (e : ℕ) (x : Element) (es : List Element) → ask (element_at_c e (rows 4 row_e x es 5)) ≡ told (get_elem? (x ∷ es) e)
   element-tree zero x [] = ap ask (sym (append-nil (row_e x 5))) ∙ starts x 5 [] (lit≤ tt)
@@ -291,7 +285,7 @@ any-tree x (z ∷ es) = any-starts x 4 (rows 4 row_e z es 5) (lit≤ tt) ∙ ap 
 -- ---- (c): where a segment's printing stands at a, everything that is asked of the octets there has the tree's answer
 
 pub record Agrees (σ : Service) (s : List ℕ) (a : ℕ) (g : Segment) : Type 0 where
-  pub end : end_at σ s a ≡ At (a + (length (print_s σ g) - 1))
+  pub end : end_at σ s a ≡ Some (a + (length (print_s σ g) - 1))
   pub tag : tag_of σ (drop a s) ≡ tag_in g
   pub element-count : elements (pieces_at σ s a) ≡ count_elements g
   pub component-count : (e : ℕ) → components (at_element e (pieces_at σ s a)) ≡ count_of (get_elem? (elements_in g) e)
@@ -300,7 +294,7 @@ pub record Agrees (σ : Service) (s : List ℕ) (a : ℕ) (g : Segment) : Type 0
   pub component : (e c : ℕ) → SpanIs σ s (component_at σ s a e c) (component_in g e c)
   pub component-content : (e c : ℕ) → content σ.release (part_of s (component_at σ s a e c)) ≡ content_of (component_in g e c)
 
-span-content : (σ : Service) (s : List ℕ) {x : Span} {o : Option Component} → SpanIs σ s x o → content σ.release (part_of s x) ≡ content_of o
+span-content : (σ : Service) (s : List ℕ) {x : Option (ℕ × ℕ)} {o : Maybe Component} → SpanIs σ s x o → content σ.release (part_of s x) ≡ content_of o
 span-content σ s no_span = ap (content σ.release) (slice_empty 0 s)
 span-content σ s (that-span {c = c} h w) = ap (content σ.release) h ∙ content-print σ c w
 

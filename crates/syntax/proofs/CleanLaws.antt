@@ -1,5 +1,5 @@
 -- How a segment is cut while its pieces are read, and that a tag is passed at once.
-use Rattle.std.specs.Prelude.{ℕ, zero, suc, ◌+◌, ◌-◌, ◌≤◌, ◌<◌, List, ◌∷◌, ◌≡◌, refl, Bool, true, false, ◌&&◌, ◌||◌, T, eqb, leb, length, get_or, drop}
+use Rattle.std.specs.Prelude.{ℕ, zero, suc, ◌+◌, ◌-◌, ◌≤◌, ◌<◌, List, ◌∷◌, ◌≡◌, refl, Bool, true, false, ◌&&◌, ◌||◌, T, eqb, leb, length, get_or, drop, Option, Some, None}
 use Rattle.std.proofs.Common.{arith, ap, sym, subst, ◌∙◌, le→leb, leb→le, length-drop}
 use Rattle.syntax.specs.Octets.{octets, within, digit, capital, small, one_of}
 use Rattle.syntax.specs.Service.{fit, kind_of}
@@ -16,9 +16,6 @@ use Rattle.syntax.specs.Clean.{sound, Clean, TagAt, Stopping, Tidy}
 use Rattle.syntax.specs.declared.Syntax.{Syntax}
 use Rattle.syntax.specs.declared.Level.{Level}
 use Rattle.syntax.specs.declared.Level.TheVariants.{A, B, C, D}
-use Rattle.syntax.specs.declared.Found.{Found}
-use Rattle.syntax.specs.declared.Found.TheVariants.{At, Nothing}
-use Rattle.syntax.specs.declared.cutting.Tag.TheVariants.{Is}
 
 pub tidy-start : (y : Syntax) (s : List ℕ) (a : ℕ) → Tidy y s a a
 tidy-start y s a = record { low = omega arith; going = record { finds = refl }; cutting = cutting-at refl }
@@ -32,9 +29,9 @@ tidy-then g h =
       cutting = cutting-at (cutting-from h.cutting ∙ cutting-from g.cutting);
     }
 
-unsound : (q : Found) (b : ℕ) → sound (cut_by q (At b)) ≡ false
-unsound Nothing b = refl
-unsound (At e) b = refl
+unsound : (q : Option ℕ) (b : ℕ) → sound (cut_by q (Some b)) ≡ false
+unsound None b = refl
+unsound (Some e) b = refl
 
 pub tidy-none : {y : Syntax} {s : List ℕ} {a i : ℕ} → Tidy y s a i → length s ≤ i → sound (cut_at y s a) ≡ false
 tidy-none g h = sym (ap sound (cutting-none g.cutting h))
@@ -78,8 +75,8 @@ module _ {y : Syntax} {s : List ℕ} {a i : ℕ} (g : Tidy y s a i) (h : i < len
 
   pub tidy-bad : c ≡ outside_class → sound (cut_at y s a) ≡ false
   tidy-bad d =
-      let q : Found = stop_from y.service 5 false (drop (i + 1) s) (i + 1) in
-      sym (ap sound (cutting-bad g.cutting h e {q = q} {w = cut_by q (At i)} d refl refl)) ∙ unsound q i
+      let q : Option ℕ = stop_from y.service 5 false (drop (i + 1) s) (i + 1) in
+      sym (ap sound (cutting-bad g.cutting h e {q = q} {w = cut_by q (Some i)} d refl refl)) ∙ unsound q i
 
   module _ (l : end_class ≤ c) (n : c ≡ end_class → ⊥) (o : c ≡ outside_class → ⊥) where
     pub tidy-short : length s ≤ i + 1 → sound (cut_at y s a) ≡ false
@@ -88,8 +85,8 @@ module _ {y : Syntax} {s : List ℕ} {a i : ℕ} (g : Tidy y s a i) (h : i < len
     module _ (h' : i + 1 < length s) {c' : ℕ} (e' : c' ≡ class_of y (get_or s (i + 1) 0)) where
       pub tidy-freed-bad : c' ≡ outside_class → sound (cut_at y s a) ≡ false
       tidy-freed-bad d =
-          let q : Found = stop_from y.service 5 false (drop (i + 1 + 1) s) (i + 1 + 1) in
-          sym (ap sound (cutting-freed-bad g.cutting h e l n o h' e' {q = q} {w = cut_by q (At (i + 1))} d refl refl)) ∙ unsound q (i + 1)
+          let q : Option ℕ = stop_from y.service 5 false (drop (i + 1 + 1) s) (i + 1 + 1) in
+          sym (ap sound (cutting-freed-bad g.cutting h e l n o h' e' {q = q} {w = cut_by q (Some (i + 1))} d refl refl)) ∙ unsound q (i + 1)
 
       pub tidy-freed : (c' ≡ outside_class → ⊥) → Tidy y s a (i + 1 + 1)
       tidy-freed d =
@@ -162,7 +159,7 @@ module _ (y : Syntax) (f : T (fit y.service)) (a b c : ℕ) {p q r : ℕ} (ea : 
       by true false v d e g = refl
       by false u v d e g = refl
 
-pub tag-here : (y : Syntax) → T (fit y.service) → (s : List ℕ) (i a b c : ℕ) → tag_of y.service (drop i s) ≡ Is a b c → TagAt y s i
+pub tag-here : (y : Syntax) → T (fit y.service) → (s : List ℕ) (i a b c : ℕ) → tag_of y.service (drop i s) ≡ Some (a, b, c) → TagAt y s i
 tag-here y f s i a b c e = by (tag_split y.service (drop i s) a b c e)
   where
     by : Tagged y.service (drop i s) a b c → TagAt y s i

@@ -1,18 +1,15 @@
 -- What the loops over content learn at one step, and what they carry along.
-use Rattle.std.specs.Prelude.{ℕ, zero, suc, ◌+◌, ◌*◌, ◌-◌, ◌≤◌, ◌<◌, List, [], ◌∷◌, ◌≡◌, refl, Bool, true, false, cond, ◌&&◌, eqb, length, get_or, take, drop}
+use Rattle.std.specs.Prelude.{ℕ, zero, suc, ◌+◌, ◌*◌, ◌-◌, ◌≤◌, ◌<◌, List, [], ◌∷◌, ◌≡◌, refl, Bool, true, false, cond, ◌&&◌, eqb, length, get_or, take, drop, Option, Some, None}
 use Rattle.std.proofs.Common.{zero-add, add-zero, suc-add, not-suc-le-zero, le_of_suc-le-suc, add-one, arith, ap, sym, ◌∙◌, eq-eqb, ne_eqb, le-leb, length-drop, drop_of_length-le, drop-cons, take_all, length-take-le}
 use Rattle.std.proofs.Math.Bool.{and-false}
 use Rattle.std.proofs.lemmas.Bool.{lt-leb}
+use Rattle.std.proofs.lemmas.Option.{none-some, same_Some}
 use Rattle.std.proofs.Math.Dec.{eqb-zero-suc, eqb-suc-suc}
 use Rattle.std.proofs.Math.Seq.{slice, take-length, take-nil}
 use Rattle.syntax.specs.Octets.{same, within}
 use Rattle.syntax.specs.Content.{releases, content_from, content, all_digits, value_from}
 use Rattle.syntax.specs.Scanning.{released, next_of, number_in}
 use Rattle.syntax.proofs.CuttingLaws.{drop-tail, slice-take}
-use Rattle.syntax.specs.declared.content.Next.{Next}
-use Rattle.syntax.specs.declared.content.Next.TheVariants.{Octet, Over}
-use Rattle.syntax.specs.declared.content.Number.{Number}
-use Rattle.syntax.specs.declared.content.Number.TheVariants.{Is, Not}
 
 -- a part is the octets that the code takes from `a` on
 pub part-inside : (a e : ℕ) (s : List ℕ) → a ≤ e → take (e - a) (drop a s) ≡ slice a e s
@@ -38,27 +35,27 @@ module _ (a e : ℕ) (s : List ℕ) where
 
 -- the next octet, by what the code sees at i of x
 module _ (ρ : ℕ) (x : List ℕ) (i : ℕ) where
-  pub next-none : length x ≤ i → Over ≡ next_of ρ (drop i x) i
+  pub next-none : length x ≤ i → None ≡ next_of ρ (drop i x) i
   next-none h = rw (drop_of_length-le x h)
 
   module _ (h : i < length x) where
-    pub next-other : (get_or x i 0 ≡ ρ → ⊥) → Octet (get_or x i 0) (i + 1) ≡ next_of ρ (drop i x) i
+    pub next-other : (get_or x i 0 ≡ ρ → ⊥) → Some (get_or x i 0, i + 1) ≡ next_of ρ (drop i x) i
     next-other d = by (eqb (get_or x i 0) 32) refl
       where
-        by : (t : Bool) → eqb (get_or x i 0) 32 ≡ t → Octet (get_or x i 0) (i + 1) ≡ next_of ρ (drop i x) i
+        by : (t : Bool) → eqb (get_or x i 0) 32 ≡ t → Some (get_or x i 0, i + 1) ≡ next_of ρ (drop i x) i
         by true e = rw (drop-cons x i 0 h, e)
         by false e = rw (drop-cons x i 0 h, e, ne_eqb _ _ d)
 
-    pub next-space : get_or x i 0 ≡ 32 → Octet (get_or x i 0) (i + 1) ≡ next_of ρ (drop i x) i
+    pub next-space : get_or x i 0 ≡ 32 → Some (get_or x i 0, i + 1) ≡ next_of ρ (drop i x) i
     next-space e = rw (drop-cons x i 0 h, eq-eqb _ _ e)
 
     module _ (w : get_or x i 0 ≡ 32 → ⊥) where
-      pub next-cut : get_or x i 0 ≡ ρ → length x ≤ i + 1 → Over ≡ next_of ρ (drop i x) i
+      pub next-cut : get_or x i 0 ≡ ρ → length x ≤ i + 1 → None ≡ next_of ρ (drop i x) i
       next-cut e l =
           let m : length x ≤ suc i = omega arith in
           rw (drop-cons x i 0 h, ne_eqb _ _ w, eq-eqb _ _ e, drop_of_length-le x m)
 
-      pub next-freed : get_or x i 0 ≡ ρ → i + 1 < length x → Octet (get_or x (i + 1) 0) (i + 1 + 1) ≡ next_of ρ (drop i x) i
+      pub next-freed : get_or x i 0 ≡ ρ → i + 1 < length x → Some (get_or x (i + 1) 0, i + 1 + 1) ≡ next_of ρ (drop i x) i
       next-freed e l =
           let m : suc i < length x = omega arith in
           rw (drop-cons x i 0 h, ne_eqb _ _ w, eq-eqb _ _ e, add-one i, drop-cons x (suc i) 0 m)
@@ -88,56 +85,63 @@ next-tail i s e = rw add-one (drop-tail i s e)
 pub drop-short : (i : ℕ) (s : List ℕ) {b : ℕ} {l : List ℕ} → drop i s ≡ b ∷ l → i < length s
 drop-short i s e = omega (arith, length-drop i s, ap length e)
 
-pub not-over : {b j : ℕ} → Over ≡ Octet b j → ⊥
-not-over e = let z : ◌≡◌ {A = ℕ} 0 1 = cc in omega arith
+-- what a pair that was found says of each half
+pub found-first : {A B : Type 0} {a c : A} {b d : B} → ◌≡◌ {A = Option (A × B)} (Some (a, b)) (Some (c, d)) → a ≡ c
+found-first e = ap (λ z. z.0) (same_Some _ _ e)
 
-not-octet : {b j : ℕ} → Octet b j ≡ Over → ⊥
-not-octet e = let z : ◌≡◌ {A = ℕ} 0 1 = cc in omega arith
+pub found-second : {A B : Type 0} {a c : A} {b d : B} → ◌≡◌ {A = Option (A × B)} (Some (a, b)) (Some (c, d)) → b ≡ d
+found-second e = ap (λ z. z.1) (same_Some _ _ e)
+
+pub not-over : {b j : ℕ} → ◌≡◌ {A = Option (ℕ × ℕ)} None (Some (b, j)) → ⊥
+not-over e = none-some _ e
+
+not-octet : {b j : ℕ} → ◌≡◌ {A = Option (ℕ × ℕ)} (Some (b, j)) None → ⊥
+not-octet e = none-some _ (sym e)
 
 module _ (ρ : ℕ) (x : List ℕ) (b j : ℕ) where
   -- a head that is content
-  kept : (i a : ℕ) (l : List ℕ) → drop i x ≡ a ∷ l → Octet a (i + 1) ≡ Octet b j → (a ∷ content ρ l ≡ b ∷ content ρ (drop j x)) × (i < j) × (j ≤ length x)
+  kept : (i a : ℕ) (l : List ℕ) → drop i x ≡ a ∷ l → ◌≡◌ {A = Option (ℕ × ℕ)} (Some (a, i + 1)) (Some (b, j)) → (a ∷ content ρ l ≡ b ∷ content ρ (drop j x)) × (i < j) × (j ≤ length x)
   kept i a l d e =
-      let p : a ≡ b = cc in
-      let q : i + 1 ≡ j = cc in
+      let p : a ≡ b = found-first e in
+      let q : i + 1 ≡ j = found-second e in
       let h = drop-short i x d in
       (rw (p, ← q, next-tail i x d), omega arith, omega arith)
 
-  freed : (i : ℕ) (l : List ℕ) → drop i x ≡ l → released l i ≡ Octet b j → (content_from ρ true l ≡ b ∷ content ρ (drop j x)) × (i < j) × (j ≤ length x)
+  freed : (i : ℕ) (l : List ℕ) → drop i x ≡ l → released l i ≡ Some (b, j) → (content_from ρ true l ≡ b ∷ content ρ (drop j x)) × (i < j) × (j ≤ length x)
   freed i [] d e = absurd (not-over e)
   freed i (a ∷ l) d e = kept i a l d e
 
-  step : (i : ℕ) (l : List ℕ) → drop i x ≡ l → next_of ρ l i ≡ Octet b j → (content ρ l ≡ b ∷ content ρ (drop j x)) × (i < j) × (j ≤ length x)
+  step : (i : ℕ) (l : List ℕ) → drop i x ≡ l → next_of ρ l i ≡ Some (b, j) → (content ρ l ≡ b ∷ content ρ (drop j x)) × (i < j) × (j ≤ length x)
   step i [] d e = absurd (not-over e)
   step i (a ∷ l) d e = pick (releases ρ a) e
     where
-      pick : (t : Bool) → cond t (released l (i + 1)) (Octet a (i + 1)) ≡ Octet b j →
+      pick : (t : Bool) → cond t (released l (i + 1)) (Some (a, i + 1)) ≡ Some (b, j) →
           (cond t (content_from ρ true l) (a ∷ content ρ l) ≡ b ∷ content ρ (drop j x)) × (i < j) × (j ≤ length x)
       pick true e =
           let w = freed (i + 1) l (next-tail i x d) e in
           (w.0, omega arith, w.2)
       pick false e = kept i a l d e
 
-freed-over : (ρ i : ℕ) (l : List ℕ) → released l i ≡ Over → content_from ρ true l ≡ []
+freed-over : (ρ i : ℕ) (l : List ℕ) → released l i ≡ None → content_from ρ true l ≡ []
 freed-over ρ i [] e = refl
 freed-over ρ i (a ∷ l) e = absurd (not-octet e)
 
-over : (ρ i : ℕ) (l : List ℕ) → next_of ρ l i ≡ Over → content ρ l ≡ []
+over : (ρ i : ℕ) (l : List ℕ) → next_of ρ l i ≡ None → content ρ l ≡ []
 over ρ i [] e = refl
 over ρ i (a ∷ l) e = pick (releases ρ a) e
   where
-    pick : (t : Bool) → cond t (released l (i + 1)) (Octet a (i + 1)) ≡ Over → cond t (content_from ρ true l) (a ∷ content ρ l) ≡ []
+    pick : (t : Bool) → cond t (released l (i + 1)) (Some (a, i + 1)) ≡ None → cond t (content_from ρ true l) (a ∷ content ρ l) ≡ []
     pick true e = freed-over ρ (i + 1) l e
     pick false e = absurd (not-octet e)
 
 -- what a loop learns from `next_octet`
-module _ (ρ : ℕ) (x : List ℕ) (i : ℕ) {r : Next} (e : r ≡ next_of ρ (drop i x) i) where
-  pub next-steps : {b j : ℕ} → r ≡ Octet b j → Stepped ρ x i b j
+module _ (ρ : ℕ) (x : List ℕ) (i : ℕ) {r : Option (ℕ × ℕ)} (e : r ≡ next_of ρ (drop i x) i) where
+  pub next-steps : {b j : ℕ} → r ≡ Some (b, j) → Stepped ρ x i b j
   next-steps {b} {j} d =
       let w = step ρ x b j i (drop i x) refl (sym e ∙ d) in
       record { gives = w.0; forward = w.1; inside = w.2 }
 
-  pub next-over : r ≡ Over → content ρ (drop i x) ≡ []
+  pub next-over : r ≡ None → content ρ (drop i x) ≡ []
   next-over d = over ρ i (drop i x) (sym e ∙ d)
 
 -- a count under way: the answer is n and the length of the content from i
@@ -145,13 +149,13 @@ pub record Lengthening (ρ answer : ℕ) (x : List ℕ) (i n : ℕ) : Type 0 whe
   pub few : n ≤ i
   pub sums : answer ≡ n + length (content ρ (drop i x))
 
-module _ {ρ answer : ℕ} {x : List ℕ} {i n : ℕ} (g : Lengthening ρ answer x i n) {r : Next} (e : r ≡ next_of ρ (drop i x) i) where
-  pub lengthening-end : r ≡ Over → n ≡ answer
+module _ {ρ answer : ℕ} {x : List ℕ} {i n : ℕ} (g : Lengthening ρ answer x i n) {r : Option (ℕ × ℕ)} (e : r ≡ next_of ρ (drop i x) i) where
+  pub lengthening-end : r ≡ None → n ≡ answer
   lengthening-end d =
       let h : length (content ρ (drop i x)) ≡ 0 = ap length (next-over ρ x i e d) in
       let k = g.sums in omega arith
 
-  module _ {b j : ℕ} (d : r ≡ Octet b j) where
+  module _ {b j : ℕ} (d : r ≡ Some (b, j)) where
     lengthening-steps : Stepped ρ x i b j
     lengthening-steps = next-steps ρ x i e d
 
@@ -178,11 +182,11 @@ nil_end zero (b ∷ t) h = sym (eqb-zero-suc (length t))
 nil_end (suc k) [] h = absurd (not-suc-le-zero h)
 nil_end (suc k) (b ∷ t) h = nil_end k t (le_of_suc-le-suc h) ∙ sym (eqb-suc-suc k (length t))
 
-module _ {ρ : ℕ} {answer : Bool} {x : List ℕ} {i : ℕ} {t : List ℕ} {k : ℕ} (g : Spelling ρ answer x i t k) {r : Next} (e : r ≡ next_of ρ (drop i x) i) where
-  pub spelling-end : r ≡ Over → eqb k (length t) ≡ answer
+module _ {ρ : ℕ} {answer : Bool} {x : List ℕ} {i : ℕ} {t : List ℕ} {k : ℕ} (g : Spelling ρ answer x i t k) {r : Option (ℕ × ℕ)} (e : r ≡ next_of ρ (drop i x) i) where
+  pub spelling-end : r ≡ None → eqb k (length t) ≡ answer
   spelling-end d = sym (g.spells ∙ rw (next-over ρ x i e d) (nil_end k t g.in-text))
 
-  module _ {b j : ℕ} (d : r ≡ Octet b j) where
+  module _ {b j : ℕ} (d : r ≡ Some (b, j)) where
     spelling-steps : Stepped ρ x i b j
     spelling-steps = next-steps ρ x i e d
 
@@ -225,11 +229,11 @@ same_self (b ∷ x) = rw (eq-eqb b b refl) (same_self x)
 pub record Digital (ρ : ℕ) (answer : Bool) (x : List ℕ) (i : ℕ) : Type 0 where
   pub are : answer ≡ all_digits (content ρ (drop i x))
 
-module _ {ρ : ℕ} {answer : Bool} {x : List ℕ} {i : ℕ} (g : Digital ρ answer x i) {r : Next} (e : r ≡ next_of ρ (drop i x) i) where
-  pub digital-end : r ≡ Over → true ≡ answer
+module _ {ρ : ℕ} {answer : Bool} {x : List ℕ} {i : ℕ} (g : Digital ρ answer x i) {r : Option (ℕ × ℕ)} (e : r ≡ next_of ρ (drop i x) i) where
+  pub digital-end : r ≡ None → true ≡ answer
   digital-end d = sym (g.are ∙ rw (next-over ρ x i e d))
 
-  module _ {b j : ℕ} (d : r ≡ Octet b j) where
+  module _ {b j : ℕ} (d : r ≡ Some (b, j)) where
     digital-steps : Stepped ρ x i b j
     digital-steps = next-steps ρ x i e d
 
@@ -258,11 +262,11 @@ power-fits : (n : ℕ) → n ≤ 14 → power n ≤ 100000000000000
 power-fits n h = let p : (14 - n) + n ≡ 14 = omega arith in rw p at (power-more n (14 - n))
 
 -- what n digits that give v and the octets of s make
-abbrev pub number_from : ℕ → ℕ → List ℕ → Number
-number_from n v s = cond (all_digits s && within 1 15 (length s + n)) (Is (value_from v s)) Not
+abbrev pub number_from : ℕ → ℕ → List ℕ → Option ℕ
+number_from n v s = cond (all_digits s && within 1 15 (length s + n)) (Some (value_from v s)) None
 
 -- a reading under way: n digits give v, and the answer is what they make with the content from i
-pub record Numbering (ρ : ℕ) (answer : Number) (x : List ℕ) (i n v : ℕ) : Type 0 where
+pub record Numbering (ρ : ℕ) (answer : Option ℕ) (x : List ℕ) (i n v : ℕ) : Type 0 where
   pub few : n ≤ 15
   pub bound : v < power n
   pub makes : answer ≡ number_from n v (content ρ (drop i x))
@@ -273,34 +277,34 @@ power-suc n = rw add-one
 pub numbering-starts : (ρ : ℕ) (x : List ℕ) → Numbering ρ (number_in (content ρ x)) x 0 0 0
 numbering-starts ρ x = record { few = omega arith; bound = omega arith; makes = rw add-zero }
 
-module _ {ρ : ℕ} {answer : Number} {x : List ℕ} {i n v : ℕ} (g : Numbering ρ answer x i n v) where
+module _ {ρ : ℕ} {answer : Option ℕ} {x : List ℕ} {i n v : ℕ} (g : Numbering ρ answer x i n v) where
   -- one more digit fits
   pub numbering-fits : n < 15 → v < 100000000000000
   numbering-fits h = omega (arith, g.bound, power-fits n (omega arith))
 
-  module _ {r : Next} (e : r ≡ next_of ρ (drop i x) i) where
-    pub numbering-none : r ≡ Over → n ≡ 0 → Not ≡ answer
+  module _ {r : Option (ℕ × ℕ)} (e : r ≡ next_of ρ (drop i x) i) where
+    pub numbering-none : r ≡ None → n ≡ 0 → None ≡ answer
     numbering-none d z = sym (g.makes ∙ rw (next-over ρ x i e d, z))
 
-    pub numbering-end : r ≡ Over → (n ≡ 0 → ⊥) → Is v ≡ answer
+    pub numbering-end : r ≡ None → (n ≡ 0 → ⊥) → Some v ≡ answer
     numbering-end d z = sym (g.makes ∙ rw (next-over ρ x i e d, zero-add n, le-leb 1 n (omega arith), le-leb n 15 g.few))
 
-    module _ {b j : ℕ} (d : r ≡ Octet b j) where
+    module _ {b j : ℕ} (d : r ≡ Some (b, j)) where
       numbering-steps : Stepped ρ x i b j
       numbering-steps = next-steps ρ x i e d
 
       pub numbering-less : length x - j < length x - i
       numbering-less = stepped-less numbering-steps
 
-      pub numbering-below : b < 48 → Not ≡ answer
+      pub numbering-below : b < 48 → None ≡ answer
       numbering-below h = sym (g.makes ∙ rw (numbering-steps.gives, lt-leb 48 b h))
 
       module _ (l : 48 ≤ b) where
-        pub numbering-above : 57 < b → Not ≡ answer
+        pub numbering-above : 57 < b → None ≡ answer
         numbering-above h = sym (g.makes ∙ rw (numbering-steps.gives, le-leb 48 b l, lt-leb b 57 h))
 
         module _ (h : b ≤ 57) where
-          pub numbering-long : 15 ≤ n → Not ≡ answer
+          pub numbering-long : 15 ≤ n → None ≡ answer
           numbering-long m =
               let k : 15 < suc (length (content ρ (drop j x))) + n = omega arith in
               sym (g.makes ∙ rw (numbering-steps.gives, le-leb 48 b l, le-leb b 57 h, lt-leb _ 15 k, and-false, and-false))

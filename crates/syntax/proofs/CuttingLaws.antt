@@ -1,5 +1,5 @@
 -- How the scans find a segment's end, its first octet outside the repertoire, and the next separator.
-use Rattle.std.specs.Prelude.{ℕ, zero, suc, ◌+◌, ◌-◌, ◌≤◌, ◌<◌, List, [], ◌∷◌, ◌≡◌, Bool, true, cond, eqb, leb, length, get_or, take, drop}
+use Rattle.std.specs.Prelude.{ℕ, zero, suc, ◌+◌, ◌-◌, ◌≤◌, ◌<◌, List, [], ◌∷◌, ◌≡◌, Bool, true, cond, eqb, leb, length, get_or, take, drop, Option, Some, None}
 use Rattle.std.proofs.Common.{add-one, ap, ◌∙◌, eq-eqb, ne_eqb, le-leb, leb-true, drop_of_length-le, length-drop, drop-cons}
 use native.Mathlib.Omega.{arith}
 use Rattle.std.proofs.Math.Path.{refl, sym}
@@ -15,8 +15,6 @@ use Rattle.syntax.specs.Scanning.{cut_by, stretch, cut_at, Four}
 use Rattle.syntax.specs.Clean.{Going, Cutting, bad_from, cut_from}
 use Rattle.syntax.specs.declared.Service.{Service}
 use Rattle.syntax.specs.declared.Syntax.{Syntax}
-use Rattle.syntax.specs.declared.Found.{Found}
-use Rattle.syntax.specs.declared.Found.TheVariants.{At, Nothing}
 use Rattle.syntax.specs.declared.cutting.Cut.{Cut}
 use Rattle.syntax.specs.declared.cutting.Cut.TheVariants.{Ends, Spoilt, Open}
 
@@ -43,21 +41,21 @@ slice-take (suc a) (suc n) (x ∷ s) = let e : suc n - suc a ≡ n - a = omega a
 -- ---- a stop
 
 module _ (σ : Service) (n : ℕ) (f : Bool) (s : List ℕ) (i : ℕ) where
-  stop-none : length s ≤ i → stop_from σ n f (drop i s) i ≡ Nothing
+  stop-none : length s ≤ i → stop_from σ n f (drop i s) i ≡ None
   stop-none h = rw (drop_of_length-le s h)
 
-  stop-hit : {k : ℕ} → i < length s → k ≡ kind σ f (get_or s i 0) → n ≤ k → stop_from σ n f (drop i s) i ≡ At i
+  stop-hit : {k : ℕ} → i < length s → k ≡ kind σ f (get_or s i 0) → n ≤ k → stop_from σ n f (drop i s) i ≡ Some i
   stop-hit h e hk = rw (drop-cons s i 0 h, ← e, le-leb _ _ hk)
 
   stop-on : {k : ℕ} → i < length s → k ≡ kind σ f (get_or s i 0) → k < n →
       stop_from σ n f (drop i s) i ≡ stop_from σ n (eqb k 0) (drop (i + 1) s) (i + 1)
   stop-on h e hk = rw (add-one, drop-cons s i 0 h, ← e, lt-leb _ _ hk)
 
-pub going-none : {y : Syntax} {n : ℕ} {x : Found} {s : List ℕ} {i : ℕ} → Going y n x s i → length s ≤ i → Nothing ≡ x
+pub going-none : {y : Syntax} {n : ℕ} {x : Option ℕ} {s : List ℕ} {i : ℕ} → Going y n x s i → length s ≤ i → None ≡ x
 going-none {y} {n} {x} {s} {i} g h = sym (g.finds ∙ stop-none y.service n false s i h)
 
 -- a scan by classes for the first octet of kind n or above
-module _ {y : Syntax} {n : ℕ} {x : Found} {s : List ℕ} {i : ℕ} (g : Going y n x s i) (m : 2 ≤ n) (m' : n ≤ 5) (h : i < length s) {c : ℕ}
+module _ {y : Syntax} {n : ℕ} {x : Option ℕ} {s : List ℕ} {i : ℕ} (g : Going y n x s i) (m : 2 ≤ n) (m' : n ≤ 5) (h : i < length s) {c : ℕ}
     (e : c ≡ class_of y (get_or s i 0)) where
   k : ℕ
   k = kind_of y.service (get_or s i 0)
@@ -88,11 +86,11 @@ module _ {y : Syntax} {n : ℕ} {x : Found} {s : List ℕ} {i : ℕ} (g : Going 
       by-class (is-separator p q r) = let z : ⊥ = omega arith in absurd z
       by-class (is-end p r) = let z : ⊥ = omega arith in absurd z
 
-  pub class-hit : n ≤ c → c < release_class → At i ≡ x
+  pub class-hit : n ≤ c → c < release_class → Some i ≡ x
   unfolding k
   class-hit a b = by-class (sorted y (get_or s i 0) e)
     where
-      by-class : Sorted (kind_of y.service (get_or s i 0)) (inside y.level (get_or s i 0)) c → At i ≡ x
+      by-class : Sorted (kind_of y.service (get_or s i 0)) (inside y.level (get_or s i 0)) c → Some i ≡ x
       by-class (is-data p q r) = let z : ⊥ = omega arith in absurd z
       by-class (is-bad p q r) = let z : ⊥ = omega arith in absurd z
       by-class (is-release p r) = let z : ⊥ = omega arith in absurd z
@@ -117,7 +115,7 @@ module _ {y : Syntax} {n : ℕ} {x : Found} {s : List ℕ} {i : ℕ} (g : Going 
   pub class-freed : release_class ≤ c → (c ≡ outside_class → ⊥) → i + 1 < length s → Going y n x s (i + 1 + 1)
   class-freed a b d = record { finds = freeing a b ∙ stop-on y.service n true s (i + 1) d refl (omega arith) }
 
-  pub class-cut : release_class ≤ c → (c ≡ outside_class → ⊥) → length s ≤ i + 1 → Nothing ≡ x
+  pub class-cut : release_class ≤ c → (c ≡ outside_class → ⊥) → length s ≤ i + 1 → None ≡ x
   class-cut a b d = sym (freeing a b ∙ stop-none y.service n true s (i + 1) d)
 
 -- ---- a cut
@@ -135,14 +133,14 @@ module _ (y : Syntax) (s : List ℕ) (i : ℕ) where
     cut_on f p q r = rw (add-one, drop-cons s i 0 h, p, q, r)
 
     cut-bad : leb 5 (kind_of y.service (get_or s i 0)) ≡ false → outside y (get_or s i 0) ≡ true → eqb (kind_of y.service (get_or s i 0)) 0 ≡ false →
-        cut_from y false (drop i s) i ≡ cut_by (stop_from y.service 5 false (drop (i + 1) s) (i + 1)) (At i)
+        cut_from y false (drop i s) i ≡ cut_by (stop_from y.service 5 false (drop (i + 1) s) (i + 1)) (Some i)
     cut-bad p q r = rw (add-one, drop-cons s i 0 h, p, q, r)
 
     freed-on : outside y (get_or s i 0) ≡ false → cut_from y true (drop i s) i ≡ cut_from y false (drop (i + 1) s) (i + 1)
     freed-on q = rw (add-one, drop-cons s i 0 h, q)
 
     freed-bad : outside y (get_or s i 0) ≡ true →
-        cut_from y true (drop i s) i ≡ cut_by (stop_from y.service 5 false (drop (i + 1) s) (i + 1)) (At i)
+        cut_from y true (drop i s) i ≡ cut_by (stop_from y.service 5 false (drop (i + 1) s) (i + 1)) (Some i)
     freed-bad q = rw (add-one, drop-cons s i 0 h, q)
 
 pub cutting-none : {y : Syntax} {x : Cut} {s : List ℕ} {i : ℕ} → Cutting y x s i → length s ≤ i → Open ≡ x
@@ -169,12 +167,12 @@ module _ {y : Syntax} {x : Cut} {s : List ℕ} {i : ℕ} (g : Cutting y x s i) (
       by-class (is-separator p q r) = let z : ⊥ = omega arith in absurd z
       by-class (is-end p r) = sym (g.finds ∙ cut-end y s i h (le-leb 5 (kind_of y.service (get_or s i 0)) (omega arith)))
 
-  pub cutting-bad : {q : Found} {w : Cut} → c ≡ outside_class → q ≡ stop_from y.service 5 false (drop (i + 1) s) (i + 1) → w ≡ cut_by q (At i) → w ≡ x
+  pub cutting-bad : {q : Option ℕ} {w : Cut} → c ≡ outside_class → q ≡ stop_from y.service 5 false (drop (i + 1) s) (i + 1) → w ≡ cut_by q (Some i) → w ≡ x
   cutting-bad {q} {w} a d u = by-class (sorted y (get_or s i 0) e)
     where
       by-class : Sorted (kind_of y.service (get_or s i 0)) (inside y.level (get_or s i 0)) c → w ≡ x
       by-class (is-data p q r) = let z : ⊥ = omega arith in absurd z
-      by-class (is-bad p q r) = u ∙ ap (λ (f : Found). cut_by f (At i)) d ∙ sym (g.finds ∙ cut-bad y s i h (lt-leb 5 (kind_of y.service (get_or s i 0)) (omega arith)) (rw (p, q)) (ne_eqb (kind_of y.service (get_or s i 0)) 0 (λ z. omega arith)))
+      by-class (is-bad p q r) = u ∙ ap (λ (f : Option ℕ). cut_by f (Some i)) d ∙ sym (g.finds ∙ cut-bad y s i h (lt-leb 5 (kind_of y.service (get_or s i 0)) (omega arith)) (rw (p, q)) (ne_eqb (kind_of y.service (get_or s i 0)) 0 (λ z. omega arith)))
       by-class (is-release p r) = let z : ⊥ = omega arith in absurd z
       by-class (is-separator p q r) = let z : ⊥ = omega arith in absurd z
       by-class (is-end p r) = let z : ⊥ = omega arith in absurd z
@@ -203,9 +201,9 @@ module _ {y : Syntax} {x : Cut} {s : List ℕ} {i : ℕ} (g : Cutting y x s i) (
         by-class (is-separator p q r) = rw (ne_eqb (kind_of y.service (get_or s (i + 1) 0)) 1 (λ z. omega arith))
         by-class (is-end p r) = rw (ne_eqb (kind_of y.service (get_or s (i + 1) 0)) 1 (λ z. omega arith))
 
-    pub cutting-freed-bad : {q : Found} {w : Cut} → c' ≡ outside_class → q ≡ stop_from y.service 5 false (drop (i + 1 + 1) s) (i + 1 + 1) → w ≡ cut_by q (At (i + 1)) → w ≡ x
+    pub cutting-freed-bad : {q : Option ℕ} {w : Cut} → c' ≡ outside_class → q ≡ stop_from y.service 5 false (drop (i + 1 + 1) s) (i + 1 + 1) → w ≡ cut_by q (Some (i + 1)) → w ≡ x
     cutting-freed-bad {q} {w} o m u =
-        u ∙ ap (λ (f : Found). cut_by f (At (i + 1))) m ∙ sym (freeing-cut a b d ∙ freed-bad y s (i + 1) h' (by-class (sorted y (get_or s (i + 1) 0) e')))
+        u ∙ ap (λ (f : Option ℕ). cut_by f (Some (i + 1))) m ∙ sym (freeing-cut a b d ∙ freed-bad y s (i + 1) h' (by-class (sorted y (get_or s (i + 1) 0) e')))
       where
         by-class : Sorted (kind_of y.service (get_or s (i + 1) 0)) (inside y.level (get_or s (i + 1) 0)) c' → outside y (get_or s (i + 1) 0) ≡ true
         by-class (is-data p q r) = let z : ⊥ = omega arith in absurd z
@@ -221,11 +219,11 @@ pub record Stopped (σ : Service) (n : ℕ) (s : List ℕ) (i q : ℕ) (m : ℕ)
   pub high : q < i + m
   pub kinds : n ≤ kind_of σ (get_or s q 0)
 
-never : {A : Type 0} {q : ℕ} → Nothing ≡ At q → A
+never : {A : Type 0} {q : ℕ} → None ≡ Some q → A
 never e = let z : ◌≡◌ {A = ℕ} 0 1 = cc in let y : ⊥ = omega arith in absurd y
 
 module _ (σ : Service) (n : ℕ) (s : List ℕ) (m : 2 ≤ n) where
-  stopped-from : (l : List ℕ) (f : Bool) (i q : ℕ) → drop i s ≡ l → stop_from σ n f l i ≡ At q → Stopped σ n s i q (length l)
+  stopped-from : (l : List ℕ) (f : Bool) (i q : ℕ) → drop i s ≡ l → stop_from σ n f l i ≡ Some q → Stopped σ n s i q (length l)
   stopped-from [] f i q d e = never e
   stopped-from (b ∷ l) f i q d e = by-test (leb n (kind σ f b)) refl e (stopped-from l (eqb (kind σ f b) 0) (suc i) q (drop-tail i s d))
     where
@@ -233,14 +231,14 @@ module _ (σ : Service) (n : ℕ) (s : List ℕ) (m : 2 ≤ n) where
       plain true h = let z : ⊥ = omega arith in absurd z
       plain false h = h
 
-      by-test : (t : Bool) → leb n (kind σ f b) ≡ t → cond t (At i) (stop_from σ n (eqb (kind σ f b) 0) l (suc i)) ≡ At q →
-          (stop_from σ n (eqb (kind σ f b) 0) l (suc i) ≡ At q → Stopped σ n s (suc i) q (length l)) → Stopped σ n s i q (suc (length l))
+      by-test : (t : Bool) → leb n (kind σ f b) ≡ t → cond t (Some i) (stop_from σ n (eqb (kind σ f b) 0) l (suc i)) ≡ Some q →
+          (stop_from σ n (eqb (kind σ f b) 0) l (suc i) ≡ Some q → Stopped σ n s (suc i) q (length l)) → Stopped σ n s i q (suc (length l))
       by-test true h e r =
           let p : i ≡ q = cc in
           record { low = omega arith; high = omega arith; kinds = rw (← p, drop_head i s d) (plain f (leb-true n (kind σ f b) h)) }
       by-test false h e r = let w = r e in let a = w.low in let c = w.high in record { low = omega arith; high = omega arith; kinds = w.kinds }
 
-  pub stop-in : (i q : ℕ) → stop_from σ n false (drop i s) i ≡ At q → (i ≤ q) × (q < length s) × (n ≤ kind_of σ (get_or s q 0))
+  pub stop-in : (i q : ℕ) → stop_from σ n false (drop i s) i ≡ Some q → (i ≤ q) × (q < length s) × (n ≤ kind_of σ (get_or s q 0))
   stop-in i q e =
       let w = stopped-from (drop i s) false i q refl e in
       let a = w.low in let b = w.high in let d = length-drop i s in (a, omega arith, w.kinds)
@@ -253,14 +251,14 @@ module _ (y : Syntax) where
   ends-inside true b h = let z : ⊥ = omega arith in absurd z
   ends-inside false b h = rw (ne_eqb (kind_of y.service b) 1 (λ z. omega arith))
 
-  bad-stretch : (l : List ℕ) (f : Bool) (i e : ℕ) → stop_from y.service 5 f l i ≡ At e → bad_from y f l i ≡ first_outside y (take (suc e - i) l) i
+  bad-stretch : (l : List ℕ) (f : Bool) (i e : ℕ) → stop_from y.service 5 f l i ≡ Some e → bad_from y f l i ≡ first_outside y (take (suc e - i) l) i
   bad-stretch [] f i e h = never h
   bad-stretch (b ∷ l) f i e h = by-test (leb 5 (kind y.service f b)) refl h (bad-stretch l (eqb (kind y.service f b) 0) (suc i) e)
     where
-      by-test : (t : Bool) → leb 5 (kind y.service f b) ≡ t → cond t (At i) (stop_from y.service 5 (eqb (kind y.service f b) 0) l (suc i)) ≡ At e →
-          (stop_from y.service 5 (eqb (kind y.service f b) 0) l (suc i) ≡ At e →
+      by-test : (t : Bool) → leb 5 (kind y.service f b) ≡ t → cond t (Some i) (stop_from y.service 5 (eqb (kind y.service f b) 0) l (suc i)) ≡ Some e →
+          (stop_from y.service 5 (eqb (kind y.service f b) 0) l (suc i) ≡ Some e →
           bad_from y (eqb (kind y.service f b) 0) l (suc i) ≡ first_outside y (take (suc e - suc i) l) (suc i)) →
-          cond t Nothing (cond (outside y b) (At i) (bad_from y (eqb (kind y.service f b) 0) l (suc i))) ≡ first_outside y (take (suc e - i) (b ∷ l)) i
+          cond t None (cond (outside y b) (Some i) (bad_from y (eqb (kind y.service f b) 0) l (suc i))) ≡ first_outside y (take (suc e - i) (b ∷ l)) i
       by-test true t h r =
           let p : i ≡ e = cc in
           let n : suc e - i ≡ 1 = omega arith in
@@ -270,21 +268,21 @@ module _ (y : Syntax) where
           let n : suc e - i ≡ suc (suc e - suc i) = omega arith in
           rw (n, r h)
         where
-          low-from : (l : List ℕ) (f : Bool) (i : ℕ) → stop_from y.service 5 f l i ≡ At e → i ≤ e
+          low-from : (l : List ℕ) (f : Bool) (i : ℕ) → stop_from y.service 5 f l i ≡ Some e → i ≤ e
           low-from [] f i h = never h
           low-from (b ∷ l) f i h = go (leb 5 (kind y.service f b)) h (low-from l (eqb (kind y.service f b) 0) (suc i))
             where
-              go : (t : Bool) → cond t (At i) (stop_from y.service 5 (eqb (kind y.service f b) 0) l (suc i)) ≡ At e →
-                  (stop_from y.service 5 (eqb (kind y.service f b) 0) l (suc i) ≡ At e → suc i ≤ e) → i ≤ e
+              go : (t : Bool) → cond t (Some i) (stop_from y.service 5 (eqb (kind y.service f b) 0) l (suc i)) ≡ Some e →
+                  (stop_from y.service 5 (eqb (kind y.service f b) 0) l (suc i) ≡ Some e → suc i ≤ e) → i ≤ e
               go true h r = let p : i ≡ e = cc in omega arith
               go false h r = let w = r h in omega arith
 
   pub cut-runs : (s : List ℕ) (a : ℕ) → cut_from y false (drop a s) a ≡ cut_at y s a
   cut-runs s a = by (end_at y.service s a) refl
     where
-      by : (x : Found) → end_at y.service s a ≡ x → cut_by x (bad_from y false (drop a s) a) ≡ cut_by x (first_outside y (stretch s a x) a)
-      by Nothing h = refl
-      by (At e) h = ap (cut_by (At e)) (bad-stretch (drop a s) false a e h ∙ ap (λ (l : List ℕ). first_outside y l a) (sym (slice-take a (suc e) s)))
+      by : (x : Option ℕ) → end_at y.service s a ≡ x → cut_by x (bad_from y false (drop a s) a) ≡ cut_by x (first_outside y (stretch s a x) a)
+      by None h = refl
+      by (Some e) h = ap (cut_by (Some e)) (bad-stretch (drop a s) false a e h ∙ ap (λ (l : List ℕ). first_outside y l a) (sym (slice-take a (suc e) s)))
 
 -- ---- several octets at once
 
@@ -328,20 +326,20 @@ CutIn s a Open = Unit {0}
 pub cut_in : (y : Syntax) (s : List ℕ) (a : ℕ) → CutIn s a (cut_at y s a)
 cut_in y s a = by (end_at y.service s a) refl (first_outside y (stretch s a (end_at y.service s a)) a)
   where
-    by : (x : Found) → end_at y.service s a ≡ x → (z : Found) → CutIn s a (cut_by x z)
-    by Nothing h z = tt
-    by (At e) h Nothing = let w = stop-in y.service 5 s (omega arith) a e h in (w.0, w.1)
-    by (At e) h (At b) = let w = stop-in y.service 5 s (omega arith) a e h in (w.0, w.1)
+    by : (x : Option ℕ) → end_at y.service s a ≡ x → (z : Option ℕ) → CutIn s a (cut_by x z)
+    by None h z = tt
+    by (Some e) h None = let w = stop-in y.service 5 s (omega arith) a e h in (w.0, w.1)
+    by (Some e) h (Some b) = let w = stop-in y.service 5 s (omega arith) a e h in (w.0, w.1)
 
 -- ---- the ends of an input are the stops one after the other
 
 module _ (σ : Service) (s : List ℕ) where
-  ends-from : (l : List ℕ) (f : Bool) (i q : ℕ) → drop i s ≡ l → stop_from σ 5 f l i ≡ At q → ends σ f l i ≡ q ∷ ends σ false (drop (q + 1) s) (q + 1)
+  ends-from : (l : List ℕ) (f : Bool) (i q : ℕ) → drop i s ≡ l → stop_from σ 5 f l i ≡ Some q → ends σ f l i ≡ q ∷ ends σ false (drop (q + 1) s) (q + 1)
   ends-from [] f i q d e = never e
   ends-from (b ∷ l) f i q d e = pick (leb 5 (kind σ f b)) refl e (ends-from l (eqb (kind σ f b) 0) (suc i) q (drop-tail i s d))
     where
-      pick : (t : Bool) → leb 5 (kind σ f b) ≡ t → cond t (At i) (stop_from σ 5 (eqb (kind σ f b) 0) l (suc i)) ≡ At q →
-          (stop_from σ 5 (eqb (kind σ f b) 0) l (suc i) ≡ At q → ends σ (eqb (kind σ f b) 0) l (suc i) ≡ q ∷ ends σ false (drop (q + 1) s) (q + 1)) →
+      pick : (t : Bool) → leb 5 (kind σ f b) ≡ t → cond t (Some i) (stop_from σ 5 (eqb (kind σ f b) 0) l (suc i)) ≡ Some q →
+          (stop_from σ 5 (eqb (kind σ f b) 0) l (suc i) ≡ Some q → ends σ (eqb (kind σ f b) 0) l (suc i) ≡ q ∷ ends σ false (drop (q + 1) s) (q + 1)) →
           cond t (i ∷ ends σ (eqb (kind σ f b) 0) l (suc i)) (ends σ (eqb (kind σ f b) 0) l (suc i)) ≡ q ∷ ends σ false (drop (q + 1) s) (q + 1)
       pick true h e r =
           let p : i ≡ q = cc in
@@ -349,19 +347,19 @@ module _ (σ : Service) (s : List ℕ) where
           rw (← p, add-one, drop-tail i s d, ne_eqb (kind σ f b) 0 (omega arith))
       pick false h e r = r e
 
-  none_from_lem : (l : List ℕ) (f : Bool) (i : ℕ) → stop_from σ 5 f l i ≡ Nothing → ends σ f l i ≡ []
+  none_from_lem : (l : List ℕ) (f : Bool) (i : ℕ) → stop_from σ 5 f l i ≡ None → ends σ f l i ≡ []
   none_from_lem [] f i e = refl
   none_from_lem (b ∷ l) f i e = pick (leb 5 (kind σ f b)) e (none_from_lem l (eqb (kind σ f b) 0) (suc i))
     where
-      pick : (t : Bool) → cond t (At i) (stop_from σ 5 (eqb (kind σ f b) 0) l (suc i)) ≡ Nothing →
-          (stop_from σ 5 (eqb (kind σ f b) 0) l (suc i) ≡ Nothing → ends σ (eqb (kind σ f b) 0) l (suc i) ≡ []) →
+      pick : (t : Bool) → cond t (Some i) (stop_from σ 5 (eqb (kind σ f b) 0) l (suc i)) ≡ None →
+          (stop_from σ 5 (eqb (kind σ f b) 0) l (suc i) ≡ None → ends σ (eqb (kind σ f b) 0) l (suc i) ≡ []) →
           cond t (i ∷ ends σ (eqb (kind σ f b) 0) l (suc i)) (ends σ (eqb (kind σ f b) 0) l (suc i)) ≡ []
       pick true e r = cc
       pick false e r = r e
 
   -- the first end from a place on is the end of the segment there; the others are those from the next segment on
-  pub ends_next : (a e : ℕ) → end_at σ s a ≡ At e → ends σ false (drop a s) a ≡ e ∷ ends σ false (drop (e + 1) s) (e + 1)
+  pub ends_next : (a e : ℕ) → end_at σ s a ≡ Some e → ends σ false (drop a s) a ≡ e ∷ ends σ false (drop (e + 1) s) (e + 1)
   ends_next a e h = ends-from (drop a s) false a e refl h
 
-  pub ends-none : (a : ℕ) → end_at σ s a ≡ Nothing → ends σ false (drop a s) a ≡ []
+  pub ends-none : (a : ℕ) → end_at σ s a ≡ None → ends σ false (drop a s) a ≡ []
   ends-none a h = none_from_lem (drop a s) false a h

@@ -1,9 +1,10 @@
 -- The reader reads just the printings of well-formed segments; and every stretch that is cut with a good tag is such a printing.
-use Rattle.std.specs.Prelude.{ℕ, zero, suc, ◌+◌, ◌-◌, ◌≤◌, ◌<◌, List, [], ◌∷◌, ◌++◌, ◌↔◌, ◌⊎◌, ◌≡◌, refl, Bool, true, false, cond, not, ◌&&◌, ◌||◌, T, eqb, leb, length, take, drop}
+use Rattle.std.specs.Prelude.{ℕ, zero, suc, ◌+◌, ◌-◌, ◌≤◌, ◌<◌, List, [], ◌∷◌, ◌++◌, ◌↔◌, ◌⊎◌, ◌≡◌, refl, Bool, true, false, cond, not, ◌&&◌, ◌||◌, T, eqb, leb, length, take, drop, Some, None, Option}
 use Rattle.std.proofs.Common.{arith, append_assoc, append-nil, inl, inr, ⊎_elim, ap, sym, ◌∙◌, subst, true≢false, eqb-true, leb-true, leb-false, lit<, take-append-drop, drop_of_length-le}
-use Rattle.std.proofs.Math.Option.{Option, none, some, none-ne-some}
+use Rattle.std.proofs.Math.Option.{Option as Maybe, none, some, none-ne-some}
 use Rattle.std.proofs.lemmas.Bool.{false≢true}
 use Rattle.std.proofs.Math.Dec.{eqb-suc-zero}
+use Rattle.std.proofs.lemmas.Option.{none-some, same_Some}
 use Rattle.syntax.specs.Octets.{within, digit, capital, small, all_pass}
 use Rattle.syntax.specs.Service.{servant, fit, kind_of, kind}
 use Rattle.syntax.specs.Repertoire.{tag_octet}
@@ -12,8 +13,6 @@ use Rattle.syntax.specs.Tree.{plain, freed, ne, Component, Repeat, Element, Segm
 use Rattle.syntax.proofs.TreeLaws.{and_left, and_right, and_both, is_true, sym_kind, Reads, All, ok-reads, well-reads, print-cons, segment-end, tag-print}
 use Rattle.syntax.specs.Reader.{Chain, over, left, open', push, emit, chain, cut, before, gathered, segments_of}
 use Rattle.syntax.specs.declared.Service.{Service}
-use Rattle.syntax.specs.declared.Found.TheVariants.{At, Nothing}
-use Rattle.syntax.specs.declared.cutting.Tag.TheVariants.{Is, Bad}
 
 -- ---- what is printed is read
 
@@ -237,7 +236,7 @@ gather-back over gs e = let h : [] ≡ gs = cc in subst (λ (l : List Segment). 
 gather-back left gs e = absurd (none-ne-some gs e)
 gather-back (open' c cs rs es n) gs e = by (cut c cs rs es) (gathered n) refl e (gather-back n)
   where
-    by : (o : Option Segment) (q : Option (List Segment)) → cut c cs rs es ≡ o → before o q ≡ some gs → ((hs : List Segment) → q ≡ some hs → Gathers n hs)
+    by : (o : Maybe Segment) (q : Maybe (List Segment)) → cut c cs rs es ≡ o → before o q ≡ some gs → ((hs : List Segment) → q ≡ some hs → Gathers n hs)
         → Gathers (open' c cs rs es n) gs
     by none q h e ih = absurd (none-ne-some gs e)
     by (some g) none h e ih = absurd (none-ne-some gs e)
@@ -325,10 +324,10 @@ emit-single false (suc (suc (suc zero))) b x l h = push-single rep x (lit< tt) h
 emit-single false (suc (suc (suc (suc zero)))) b x l h = push-single elem x (lit< tt) h
 emit-single false (suc (suc (suc (suc (suc k))))) b x l h = absurd (omega (arith, l))
 
-pub no_place : (e : ℕ) → Nothing ≡ At e → ⊥
+pub no_place : (e : ℕ) → None ≡ Some e → ⊥
 no_place e h = let z : ◌≡◌ {A = ℕ} 0 1 = cc in omega arith
 
-pub same_place : (i e : ℕ) → At i ≡ At e → i ≡ e
+pub same_place : (i e : ℕ) → Some i ≡ Some e → i ≡ e
 same_place i e h = cc
 
 module _ (σ : Service) where
@@ -347,42 +346,39 @@ module _ (σ : Service) where
   last-single false b [] l k = subst (λ (x : Chain). T (single x)) (sym (ends-here (kind_of σ b) b [] k)) tt
 
   -- octets that end in their first unreleased terminator are one segment
-  stop-single : (f : Bool) (s : List ℕ) (i e : ℕ) → stop_from σ 5 f s i ≡ At e → i + length s ≡ suc e → T (single (chain σ f s))
+  stop-single : (f : Bool) (s : List ℕ) (i e : ℕ) → stop_from σ 5 f s i ≡ Some e → i + length s ≡ suc e → T (single (chain σ f s))
   stop-single f [] i e h l = absurd (no_place e h)
   stop-single f (b ∷ s) i e h l = by (leb 5 (kind σ f b)) refl h (stop-single (eqb (kind σ f b) 0) s (suc i) e)
     where
-      by : (t : Bool) → leb 5 (kind σ f b) ≡ t → cond t (At i) (stop_from σ 5 (eqb (kind σ f b) 0) s (suc i)) ≡ At e
-          → (stop_from σ 5 (eqb (kind σ f b) 0) s (suc i) ≡ At e → suc i + length s ≡ suc e → T (single (chain σ (eqb (kind σ f b) 0) s)))
+      by : (t : Bool) → leb 5 (kind σ f b) ≡ t → cond t (Some i) (stop_from σ 5 (eqb (kind σ f b) 0) s (suc i)) ≡ Some e
+          → (stop_from σ 5 (eqb (kind σ f b) 0) s (suc i) ≡ Some e → suc i + length s ≡ suc e → T (single (chain σ (eqb (kind σ f b) 0) s)))
           → T (single (chain σ f (b ∷ s)))
       by true q h ih = let p : i ≡ e = same_place i e h in last-single f b s (omega (arith, l, p)) (leb-true 5 (kind σ f b) q)
       by false q h ih = emit-single f (kind σ f b) b (chain σ (eqb (kind σ f b) 0) s) (leb-false 5 (kind σ f b) q) (ih h (omega (arith, l)))
 
   -- the scanner stops at its place in the octets up to there as well
-  stop-at : (n : ℕ) (f : Bool) (s : List ℕ) (i e : ℕ) → stop_from σ n f s i ≡ At e
-      → (k : ℕ) × (e ≡ i + k) × (stop_from σ n f (take (suc k) s) i ≡ At e) × (length (take (suc k) s) ≡ suc k)
+  stop-at : (n : ℕ) (f : Bool) (s : List ℕ) (i e : ℕ) → stop_from σ n f s i ≡ Some e
+      → (k : ℕ) × (e ≡ i + k) × (stop_from σ n f (take (suc k) s) i ≡ Some e) × (length (take (suc k) s) ≡ suc k)
   stop-at n f [] i e h = absurd (no_place e h)
   stop-at n f (b ∷ s) i e h = by (leb n (kind σ f b)) refl h (stop-at n (eqb (kind σ f b) 0) s (suc i) e)
     where
-      by : (t : Bool) → leb n (kind σ f b) ≡ t → cond t (At i) (stop_from σ n (eqb (kind σ f b) 0) s (suc i)) ≡ At e
-          → (stop_from σ n (eqb (kind σ f b) 0) s (suc i) ≡ At e
-          → (k : ℕ) × (e ≡ suc i + k) × (stop_from σ n (eqb (kind σ f b) 0) (take (suc k) s) (suc i) ≡ At e) × (length (take (suc k) s) ≡ suc k))
-          → (k : ℕ) × (e ≡ i + k) × (stop_from σ n f (take (suc k) (b ∷ s)) i ≡ At e) × (length (take (suc k) (b ∷ s)) ≡ suc k)
+      by : (t : Bool) → leb n (kind σ f b) ≡ t → cond t (Some i) (stop_from σ n (eqb (kind σ f b) 0) s (suc i)) ≡ Some e
+          → (stop_from σ n (eqb (kind σ f b) 0) s (suc i) ≡ Some e
+          → (k : ℕ) × (e ≡ suc i + k) × (stop_from σ n (eqb (kind σ f b) 0) (take (suc k) s) (suc i) ≡ Some e) × (length (take (suc k) s) ≡ suc k))
+          → (k : ℕ) × (e ≡ i + k) × (stop_from σ n f (take (suc k) (b ∷ s)) i ≡ Some e) × (length (take (suc k) (b ∷ s)) ≡ suc k)
       by true q h ih = let p : i ≡ e = same_place i e h in (0, omega (arith, p), rw q h, refl)
       by false q h ih = let r = ih h in (suc r.0, omega (arith, r.1), rw q r.2, ap suc r.3)
 
 -- a good tag: three letters or digits, then an element separator or the terminator
-tag_is : (t : Bool) (x y z a b c : ℕ) → cond t (Is x y z) Bad ≡ Is a b c → T t × (x ≡ a) × (y ≡ b) × (z ≡ c)
-tag_is true x y z a b c h = (tt, cc, cc, cc)
-tag_is false x y z a b c h = absurd (bad h)
-  where
-    bad : Bad ≡ Is a b c → ⊥
-    bad h = let z : ◌≡◌ {A = ℕ} 0 1 = cc in omega arith
+tag_is : (t : Bool) (x y z a b c : ℕ) → cond {A = Option (ℕ × ℕ × ℕ)} t (Some (x, y, z)) None ≡ Some (a, b, c) → T t × (x ≡ a) × (y ≡ b) × (z ≡ c)
+tag_is true x y z a b c h = let w = same_Some (x, y, z) (a, b, c) h in (tt, ap (λ q. q.0) w, ap (λ q. q.1) w, ap (λ q. q.2) w)
+tag_is false x y z a b c h = absurd (none-some _ h)
 
 abbrev pub Tagged : Service → List ℕ → ℕ → ℕ → ℕ → Type 0
 Tagged σ s a b c =
     (d : ℕ) × (r : List ℕ) × (a ∷ b ∷ c ∷ d ∷ r ≡ s) × T (tag_octet a && tag_octet b && tag_octet c && (eqb d σ.element || eqb d σ.terminator))
 
-pub tag_split : (σ : Service) (s : List ℕ) (a b c : ℕ) → tag_of σ s ≡ Is a b c → Tagged σ s a b c
+pub tag_split : (σ : Service) (s : List ℕ) (a b c : ℕ) → tag_of σ s ≡ Some (a, b, c) → Tagged σ s a b c
 tag_split σ [] a b c h = absurd (tag_is false 0 0 0 a b c h).0
 tag_split σ (x ∷ []) a b c h = absurd (tag_is false 0 0 0 a b c h).0
 tag_split σ (x ∷ y ∷ []) a b c h = absurd (tag_is false 0 0 0 a b c h).0
@@ -431,14 +427,14 @@ module _ (σ : Service) (fits : T (fit σ)) where
       rw (ka, kb, kc)
 
   -- from the octet after the tag
-  from-tag : (d : ℕ) (r : List ℕ) (i e : ℕ) → stop_from σ 5 false (d ∷ r) i ≡ At e → i + length (d ∷ r) ≡ suc e → T (eqb d σ.element || eqb d σ.terminator)
+  from-tag : (d : ℕ) (r : List ℕ) (i e : ℕ) → stop_from σ 5 false (d ∷ r) i ≡ Some e → i + length (d ∷ r) ≡ suc e → T (eqb d σ.element || eqb d σ.terminator)
       → (es : List Element) × (chain σ false (d ∷ r) ≡ open' [] [] [] es over)
   from-tag d r i e h l t = ⊎_elim separated ended (either (eqb d σ.element) (eqb d σ.terminator) t)
     where
       separated : eqb d σ.element ≡ true → (es : List Element) × (chain σ false (d ∷ r) ≡ open' [] [] [] es over)
       separated q =
           let k : kind_of σ d ≡ 4 = ap (kind_of σ) (eqb-true d σ.element q) ∙ ok-reads σ fits elem tt in
-          let g : stop_from σ 5 false r (suc i) ≡ At e = rw k at h in
+          let g : stop_from σ 5 false r (suc i) ≡ Some e = rw k at h in
           let x = elem-single (chain σ false r) (stop-single σ false r (suc i) e g (omega (arith, l))) in
           let n : chain σ false (d ∷ r) ≡ push elem (chain σ false r) = rw k in
           (x.0, n ∙ x.1)
@@ -449,16 +445,16 @@ module _ (σ : Service) (fits : T (fit σ)) where
           k : kind_of σ d ≡ 5
           k = ap (kind_of σ) (eqb-true d σ.terminator q) ∙ ok-reads σ fits term tt
 
-          by : (r : List ℕ) → stop_from σ 5 false (d ∷ r) i ≡ At e → i + length (d ∷ r) ≡ suc e → (es : List Element) × (chain σ false (d ∷ r) ≡ open' [] [] [] es over)
+          by : (r : List ℕ) → stop_from σ 5 false (d ∷ r) i ≡ Some e → i + length (d ∷ r) ≡ suc e → (es : List Element) × (chain σ false (d ∷ r) ≡ open' [] [] [] es over)
           by [] h l = ([], rw k refl)
           by (x ∷ r) h l = let p : i ≡ e = same_place i e (rw k at h) in absurd (omega (arith, l, p))
 
   -- the octets up to the first unreleased terminator, where the tag is good, are a printed segment
-  pub first-there : (s : List ℕ) (e a b c : ℕ) → end_at σ s 0 ≡ At e → tag_of σ s ≡ Is a b c → Printed σ a b c (take (suc e) s)
+  pub first-there : (s : List ℕ) (e a b c : ℕ) → end_at σ s 0 ≡ Some e → tag_of σ s ≡ Some (a, b, c) → Printed σ a b c (take (suc e) s)
   first-there s e a b c h t = split (tag_split σ s a b c t)
     where
       upto : (d : ℕ) (r : List ℕ) → T (tag_octet a && tag_octet b && tag_octet c) → T (eqb d σ.element || eqb d σ.terminator)
-          → (k : ℕ) × (e ≡ 3 + k) × (stop_from σ 5 false (take (suc k) (d ∷ r)) 3 ≡ At e) × (length (take (suc k) (d ∷ r)) ≡ suc k)
+          → (k : ℕ) × (e ≡ 3 + k) × (stop_from σ 5 false (take (suc k) (d ∷ r)) 3 ≡ Some e) × (length (take (suc k) (d ∷ r)) ≡ suc k)
           → Printed σ a b c (take (suc e) (a ∷ b ∷ c ∷ d ∷ r))
       upto d r t u (k, p, h, l) =
           let q : suc (suc (suc k)) ≡ e = omega (arith, p) in
@@ -471,7 +467,7 @@ module _ (σ : Service) (fits : T (fit σ)) where
           = and_left (tag_octet a && tag_octet b && tag_octet c) (eqb d σ.element || eqb d σ.terminator) t in
           let u : T (eqb d σ.element || eqb d σ.terminator)
           = and_right (tag_octet a && tag_octet b && tag_octet c) (eqb d σ.element || eqb d σ.terminator) t in
-          let stops : stop_from σ 5 false (d ∷ r) 3 ≡ At e
+          let stops : stop_from σ 5 false (d ∷ r) 3 ≡ Some e
           = sym (tag-passed a b c (d ∷ r) 0 good) ∙ ap (λ (s : List ℕ). stop_from σ 5 false s 0) p ∙ h in
           subst (λ (s : List ℕ). Printed σ a b c (take (suc e) s)) p (upto d r good u (stop-at σ 5 false (d ∷ r) 3 e stops))
 
@@ -479,7 +475,7 @@ take_all : (i : ℕ) (s : List ℕ) → length s ≤ i → take i s ≡ s
 take_all i s l = sym (append-nil (take i s)) ∙ ap (λ (r : List ℕ). take i s ++ r) (sym (drop_of_length-le s l)) ∙ take-append-drop i s
 
 -- every stretch of octets that ends in its first unreleased terminator and has a good tag is the printing of a well-formed segment
-pub segment-there : (σ : Service) → T (fit σ) → (s : List ℕ) (e a b c : ℕ) → end_at σ s 0 ≡ At e → length s ≡ suc e → tag_of σ s ≡ Is a b c
+pub segment-there : (σ : Service) → T (fit σ) → (s : List ℕ) (e a b c : ℕ) → end_at σ s 0 ≡ Some e → length s ≡ suc e → tag_of σ s ≡ Some (a, b, c)
     → (es : List Element) × T (well σ (segment a b c es ∷ [])) × (print_s σ (segment a b c es) ≡ s)
 segment-there σ fits s e a b c h l t =
     let k = first-there σ fits s e a b c h t in
@@ -488,7 +484,7 @@ segment-there σ fits s e a b c h l t =
 -- an input is cut: it is over, or its first segment ends and has a good tag, and what is behind it is cut
 pub data Cuts (σ : Service) : List ℕ → Type 0 where
   cut-over : Cuts σ []
-  cut_on : {s : List ℕ} {e a b c : ℕ} → end_at σ s 0 ≡ At e → tag_of σ s ≡ Is a b c → Cuts σ (drop (suc e) s) → Cuts σ s
+  cut_on : {s : List ℕ} {e a b c : ℕ} → end_at σ s 0 ≡ Some e → tag_of σ s ≡ Some (a, b, c) → Cuts σ (drop (suc e) s) → Cuts σ s
 
 every_append : (σ : Service) (xs ys : List Symbol) → T (all_pass (ok σ) xs) → T (all_pass (ok σ) ys) → T (all_pass (ok σ) (xs ++ ys))
 every_append σ [] ys h k = k

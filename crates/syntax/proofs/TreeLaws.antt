@@ -1,5 +1,5 @@
 -- Laws of printed trees: a well-formed symbol reads as itself; the scanner, the content and the tag of what is printed.
-use Rattle.std.specs.Prelude.{ℕ, ◌+◌, ◌-◌, ◌≤◌, ◌<◌, List, [], ◌∷◌, ◌++◌, ◌≡◌, refl, Bool, true, false, cond, not, ◌&&◌, ◌||◌, T, eqb, leb, length}
+use Rattle.std.specs.Prelude.{ℕ, ◌+◌, ◌-◌, ◌≤◌, ◌<◌, List, [], ◌∷◌, ◌++◌, ◌≡◌, refl, Bool, true, false, cond, not, ◌&&◌, ◌||◌, T, eqb, leb, length, Some}
 use Rattle.std.proofs.Common.{add-one, arith, append_assoc, ap, sym, ◌∙◌, eq-eqb, ne_eqb, leb→le, eqb→eq, lit<, lit≤, length-append}
 use Rattle.std.proofs.Math.Numerals.{add-two}
 use Rattle.std.proofs.lemmas.Bool.{false≢true, lt-leb}
@@ -10,8 +10,6 @@ use Rattle.syntax.specs.Cutting.{stop_from, tag_of}
 use Rattle.syntax.specs.Content.{releases, content}
 use Rattle.syntax.specs.Tree.{Octet, plain, freed, ne, Component, Repeat, Element, Segment, segment, Symbol, tok, comp, rep, elem, term, each, separated, flat_c, flat_r, flat_e, tag_element, flat_s, flat, spell, spells, print_s, print, octet_in, content_in, ok, ok_tag, well}
 use Rattle.syntax.specs.declared.Service.{Service}
-use Rattle.syntax.specs.declared.Found.TheVariants.{At}
-use Rattle.syntax.specs.declared.cutting.Tag.TheVariants.{Is}
 
 -- ---- tests
 
@@ -199,7 +197,7 @@ body-low (segment a b c es) = (lit< tt, (lit< tt, (lit< tt, all_es (λ y. sym_ki
 
 -- the first unreleased terminator in a printed segment, whatever follows, is its last octet
 pub segment-end : (σ : Service) → T (fit σ) → (g : Segment) → T (all_pass (ok σ) (flat_s g)) → (s : List ℕ) (i : ℕ) →
-    stop_from σ 5 false (print_s σ g ++ s) i ≡ At (i + (length (print_s σ g) - 1))
+    stop_from σ 5 false (print_s σ g ++ s) i ≡ Some (i + (length (print_s σ g) - 1))
 segment-end σ d g w s i =
     let k : All (Reads σ) (body g ++ term ∷ []) = every-reads σ d (body g ++ term ∷ []) (rw body-flat at w) in
     let b : All (Reads σ) (body g) = all_left (Reads σ) (body g) (term ∷ []) k in
@@ -209,9 +207,9 @@ segment-end σ d g w s i =
     ∙ ap (λ (o : List ℕ). stop_from σ 5 false o i) (append_assoc (spells σ (body g)) (σ.terminator ∷ []) s)
     ∙ pass σ 5 (lit≤ tt) (body g) (σ.terminator ∷ s) i b (body-low g)
     ∙ stop-term (i + length (spells σ (body g)))
-    ∙ ap At (omega arith)
+    ∙ ap Some (omega arith)
   where
-    stop-term : (j : ℕ) → stop_from σ 5 false (σ.terminator ∷ s) j ≡ At j
+    stop-term : (j : ℕ) → stop_from σ 5 false (σ.terminator ∷ s) j ≡ Some j
     stop-term j = rw (ok-reads σ d term tt)
 
 -- ---- the content of a printed component
@@ -259,13 +257,13 @@ or_right false false e = absurd (false≢true e)
 
 -- the tag of a printed segment, whatever follows, is its tag
 pub tag-print : (σ : Service) → T (fit σ) → (a b c : ℕ) (es : List Element) → T (well σ (segment a b c es ∷ [])) → (s : List ℕ) →
-    tag_of σ (print_s σ (segment a b c es) ++ s) ≡ Is a b c
+    tag_of σ (print_s σ (segment a b c es) ++ s) ≡ Some (a, b, c)
 tag-print σ d a b c es w s = by es
   where
     good : T (tag_octet a && tag_octet b && tag_octet c)
     good = and_left (ok_tag (segment a b c es)) true (and_left (ok_tag (segment a b c es) && true) (all_pass (ok σ) (flat (segment a b c es ∷ []))) w)
 
-    by : (es : List Element) → tag_of σ (print_s σ (segment a b c es) ++ s) ≡ Is a b c
+    by : (es : List Element) → tag_of σ (print_s σ (segment a b c es) ++ s) ≡ Some (a, b, c)
     by [] =
         rw (tag-good (tag_octet a) (tag_octet b) (tag_octet c) (eqb σ.terminator σ.element || eqb σ.terminator σ.terminator) good
         (or_right (eqb σ.terminator σ.element) (eqb σ.terminator σ.terminator) (self σ.terminator)))

@@ -1,29 +1,25 @@
 -- A segment that is cut while its pieces are read.
-use Rattle.std.specs.Prelude.{ℕ, ◌+◌, ◌≤◌, ◌-◌, ◌<◌, ◌≡◌, List, Bool, true, false, cond, eqb, leb, suc, [], ◌∷◌, length, drop, get_or}
+use Rattle.std.specs.Prelude.{ℕ, ◌+◌, ◌≤◌, ◌-◌, ◌<◌, ◌≡◌, List, Bool, true, false, cond, eqb, leb, suc, [], ◌∷◌, length, drop, get_or, Option, Some, None}
 use Rattle.syntax.specs.Service.{kind}
 use Rattle.syntax.specs.Repertoire.{outside}
 use Rattle.syntax.specs.Cutting.{stop_from}
 use Rattle.syntax.specs.Scanning.{cut_by, cut_at}
 use Rattle.syntax.specs.Segment.{edge_at}
 use Rattle.syntax.specs.declared.Syntax.{Syntax}
-use Rattle.syntax.specs.declared.Found.{Found}
-use Rattle.syntax.specs.declared.Found.TheVariants.{At, Nothing}
 use Rattle.syntax.specs.declared.cutting.Cut.{Cut}
 use Rattle.syntax.specs.declared.cutting.Cut.TheVariants.{Ends, Spoilt, Open}
-use Rattle.syntax.specs.declared.reading.Edge.{Edge}
-use Rattle.syntax.specs.declared.reading.Edge.TheVariants.{On, Off}
 use Rattle.syntax.specs.Octets.{octets}
 use Rattle.syntax.specs.Classes.{class_of}
 
 -- a scan under way: x, the stop to be found, is the first at or after i
-pub record Going (y : Syntax) (n : ℕ) (x : Found) (s : List ℕ) (i : ℕ) : Type 0 where
+pub record Going (y : Syntax) (n : ℕ) (x : Option ℕ) (s : List ℕ) (i : ℕ) : Type 0 where
   pub finds : x ≡ stop_from y.service n false (drop i s) i
 
 -- the first octet outside the repertoire that stands before the terminator
-abbrev pub bad_from : Syntax → Bool → List ℕ → ℕ → Found
-bad_from y f [] i = Nothing
+abbrev pub bad_from : Syntax → Bool → List ℕ → ℕ → Option ℕ
+bad_from y f [] i = None
 bad_from y f (b ∷ s) i =
-    cond (leb 5 (kind y.service f b)) Nothing (cond (outside y b) (At i) (bad_from y (eqb (kind y.service f b) 0) s (suc i)))
+    cond (leb 5 (kind y.service f b)) None (cond (outside y b) (Some i) (bad_from y (eqb (kind y.service f b) 0) s (suc i)))
 
 abbrev pub cut_from : Syntax → Bool → List ℕ → ℕ → Cut
 cut_from y f s i = cut_by (stop_from y.service 5 f s i) (bad_from y f s i)
@@ -40,13 +36,13 @@ sound Open = false
 
 -- the piece at a ends at q, and nothing before is outside: the cut is the one from behind it, or it is the segment's last
 pub record Clean (y : Syntax) (s : List ℕ) (a q k : ℕ) : Type 0 where
-  pub edge : On q k ≡ edge_at y.service s a
+  pub edge : Some (q, k) ≡ edge_at y.service s a
   pub next : (k ≡ 5 → ⊥) → cut_at y s (q + 1) ≡ cut_at y s a
   pub last : k ≡ 5 → cut_at y s a ≡ Ends q
 
-abbrev pub CleanEdge : Syntax → List ℕ → ℕ → Edge → Type 0
-CleanEdge y s a (On q k) = Clean y s a q k
-CleanEdge y s a Off = sound (cut_at y s a) ≡ false
+abbrev pub CleanEdge : Syntax → List ℕ → ℕ → Option (ℕ × ℕ) → Type 0
+CleanEdge y s a (Some (q, k)) = Clean y s a q k
+CleanEdge y s a None = sound (cut_at y s a) ≡ false
 
 -- a tag stands at a: stops and cuts are those from behind its three octets
 pub record TagAt (y : Syntax) (s : List ℕ) (a : ℕ) : Type 0 where

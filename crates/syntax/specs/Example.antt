@@ -1,5 +1,5 @@
 -- Example P and the traps of document 01, cut and read by computation: one table under one proof.
-use Rattle.std.specs.Prelude.{ℕ, List, [], ◌∷◌, Bool, true, false, not, ◌&&◌, T, eqb, length, drop, take}
+use Rattle.std.specs.Prelude.{ℕ, List, [], ◌∷◌, Bool, true, false, not, ◌&&◌, T, eqb, length, drop, take, Option, Result, Some, None, Ok, Err}
 use Rattle.syntax.specs.Octets.{octets, same}
 use Rattle.syntax.specs.Service.{standard, without_repetition}
 use Rattle.syntax.specs.Cutting.{ends, tag_of}
@@ -9,15 +9,7 @@ use Rattle.syntax.specs.Scanning.{number_in}
 use Rattle.syntax.specs.Opening.{begun_of}
 use Rattle.syntax.specs.declared.Breach.{Breach}
 use Rattle.syntax.specs.declared.Service.{Service}
-use Rattle.syntax.specs.declared.cutting.Tag.{Tag}
-use Rattle.syntax.specs.declared.cutting.Tag.TheVariants.{Is as Tagged, Bad}
-use Rattle.syntax.specs.declared.reading.Span.{Span}
-use Rattle.syntax.specs.declared.reading.Span.TheVariants.{Part, Absent}
-use Rattle.syntax.specs.declared.content.Number.{Number}
-use Rattle.syntax.specs.declared.content.Number.TheVariants.{Is, Not}
 use Rattle.syntax.specs.declared.opening.Start.{Start}
-use Rattle.syntax.specs.declared.opening.Begun.{Begun}
-use Rattle.syntax.specs.declared.opening.Begun.TheVariants.{Ready, Refused}
 
 -- "One line, no breaks", "(131 octets)"
 abbrev pub P : List ℕ
@@ -35,27 +27,27 @@ unreleased = record { component = 58; element = 43; release = 32; repetition = 4
 abbrev content_at : Service → List ℕ → ℕ → ℕ → ℕ → List ℕ
 content_at σ s a e c = content σ.release (part_of s (component_at σ s a e c))
 
-abbrev is_absent : Span → Bool
-is_absent (Part x z) = false
-is_absent Absent = true
+abbrev is_absent : Option (ℕ × ℕ) → Bool
+is_absent (Some (x, z)) = false
+is_absent None = true
 
-abbrev tagged : Tag → List ℕ
-tagged (Tagged a b c) = a ∷ b ∷ c ∷ []
-tagged Bad = []
+abbrev tagged : Option (ℕ × ℕ × ℕ) → List ℕ
+tagged (Some (a, b, c)) = a ∷ b ∷ c ∷ []
+tagged None = []
 
-abbrev numbered : Number → List ℕ
-numbered (Is n) = n ∷ []
-numbered Not = []
+abbrev numbered : Option ℕ → List ℕ
+numbered (Some n) = n ∷ []
+numbered None = []
 
 -- the refusal as number and place; none where the start is good
-abbrev told_begun : Begun → List ℕ
-told_begun (Ready x) = []
-told_begun (Refused f) = f.number ∷ f.place ∷ []
+abbrev told_begun : Result Start Breach → List ℕ
+told_begun (Ok x) = []
+told_begun (Err f) = f.number ∷ f.place ∷ []
 
 -- the repetition in force, where the start is good
-abbrev repetition_of : Begun → List ℕ
-repetition_of (Ready x) = x.syntax.service.repetition ∷ []
-repetition_of (Refused f) = []
+abbrev repetition_of : Result Start Breach → List ℕ
+repetition_of (Ok x) = x.syntax.service.repetition ∷ []
+repetition_of (Err f) = []
 
 -- Q: `??'` ends the segment, `?'` does not; a released separator is data; empty components and elements at the end count
 abbrev Q : List ℕ

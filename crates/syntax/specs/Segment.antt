@@ -1,15 +1,9 @@
 -- Reading a segment: its pieces, and its elements and components by them. Elements and components are counted from 0; the tag is element 0.
-use Rattle.std.specs.Prelude.{ℕ, zero, suc, ◌≡◌, List, [], ◌∷◌, Bool, true, false, cond, ◌||◌, eqb, ltb, drop, get_or}
+use Rattle.std.specs.Prelude.{ℕ, zero, suc, ◌≡◌, List, [], ◌∷◌, Bool, true, false, cond, ◌||◌, eqb, ltb, drop, get_or, Option, Some, None}
 use Rattle.std.proofs.Math.Seq.{slice}
 use Rattle.syntax.specs.Service.{kind_of, kind}
 use Rattle.syntax.specs.Cutting.{stop_from}
 use Rattle.syntax.specs.declared.Service.{Service}
-use Rattle.syntax.specs.declared.Found.{Found}
-use Rattle.syntax.specs.declared.Found.TheVariants.{At, Nothing}
-use Rattle.syntax.specs.declared.reading.Edge.{Edge}
-use Rattle.syntax.specs.declared.reading.Edge.TheVariants.{On, Off}
-use Rattle.syntax.specs.declared.reading.Span.{Span}
-use Rattle.syntax.specs.declared.reading.Span.TheVariants.{Part, Absent}
 
 -- a piece: its start, its end, and what ends it: 2 a component, 3 a repeat, 4 an element, 5 the segment
 pub data Piece : Type 0 where
@@ -27,11 +21,11 @@ abbrev pub pieces_at : Service → List ℕ → ℕ → List Piece
 pieces_at σ s a = pieces σ false a (drop a s) a
 
 -- the end of the piece that starts at a place, and what ends it
-abbrev pub edge_of : Service → List ℕ → Found → Edge
-edge_of σ s (At q) = On q (kind_of σ (get_or s q 0))
-edge_of σ s Nothing = Off
+abbrev pub edge_of : Service → List ℕ → Option ℕ → Option (ℕ × ℕ)
+edge_of σ s (Some q) = Some (q, kind_of σ (get_or s q 0))
+edge_of σ s None = None
 
-abbrev pub edge_at : Service → List ℕ → ℕ → Edge
+abbrev pub edge_at : Service → List ℕ → ℕ → Option (ℕ × ℕ)
 edge_at σ s p = edge_of σ s (stop_from σ 2 false (drop p s) p)
 
 -- the pieces from element e on
@@ -41,19 +35,19 @@ at_element (suc e) [] = []
 at_element (suc e) (piece x z k ∷ ps) = cond (eqb k 4) (at_element e ps) (at_element (suc e) ps)
 
 -- component c of the repeat that starts here
-abbrev pub at_component : ℕ → List Piece → Span
-at_component c [] = Absent
-at_component zero (piece x z k ∷ ps) = Part x z
-at_component (suc c) (piece x z k ∷ ps) = cond (eqb k 2) (at_component c ps) Absent
+abbrev pub at_component : ℕ → List Piece → Option (ℕ × ℕ)
+at_component c [] = None
+at_component zero (piece x z k ∷ ps) = Some (x, z)
+at_component (suc c) (piece x z k ∷ ps) = cond (eqb k 2) (at_component c ps) None
 
 -- is component c of element e there, where does it start and end
-abbrev pub component_at : Service → List ℕ → ℕ → ℕ → ℕ → Span
+abbrev pub component_at : Service → List ℕ → ℕ → ℕ → ℕ → Option (ℕ × ℕ)
 component_at σ s a e c = at_component c (at_element e (pieces_at σ s a))
 
 -- its octets; absent is empty
-abbrev pub part_of : List ℕ → Span → List ℕ
-part_of s (Part x z) = slice x z s
-part_of s Absent = slice 0 0 s
+abbrev pub part_of : List ℕ → Option (ℕ × ℕ) → List ℕ
+part_of s (Some (x, z)) = slice x z s
+part_of s None = slice 0 0 s
 
 -- how many components has the repeat that starts here
 abbrev pub components : List Piece → ℕ
@@ -76,6 +70,6 @@ any_repeats [] = false
 any_repeats (piece x z k ∷ ps) = cond (eqb k 3) true (any_repeats ps)
 
 -- a place from which just these pieces are read; Nothing: there are none
-abbrev pub Reaches : Service → List ℕ → Found → List Piece → Type 0
-Reaches σ s (At p) ps = pieces_at σ s p ≡ ps
-Reaches σ s Nothing ps = [] ≡ ps
+abbrev pub Reaches : Service → List ℕ → Option ℕ → List Piece → Type 0
+Reaches σ s (Some p) ps = pieces_at σ s p ≡ ps
+Reaches σ s None ps = [] ≡ ps

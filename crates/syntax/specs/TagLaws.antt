@@ -1,12 +1,11 @@
 -- Laws for the proofs of the tags of `cutting`: one for each way through a function's tests.
-use Rattle.std.specs.Prelude.{ℕ, suc, ◌<◌, ◌≤◌, ◌+◌, ◌≡◌, refl, List, [], ◌∷◌, Bool, true, false, not, leb, length, get_or, drop}
+use Rattle.std.specs.Prelude.{ℕ, suc, ◌<◌, ◌≤◌, ◌+◌, ◌≡◌, refl, List, [], ◌∷◌, Bool, true, false, not, leb, length, get_or, drop, None}
 use Rattle.std.proofs.Common.{sym, ◌∙◌, arith, le-leb, le_of_suc-le-suc, not-suc-le-zero, length-drop, drop-cons}
 use Rattle.std.proofs.lemmas.Bool.{lt-leb, not-true, not-false}
 use Rattle.syntax.specs.Service.{without_repetition}
 use Rattle.syntax.specs.Repertoire.{tag_octet}
 use Rattle.syntax.specs.Cutting.{tag_of}
 use Rattle.syntax.specs.declared.Service.{Service}
-use Rattle.syntax.specs.declared.cutting.Tag.TheVariants.{Bad}
 
 -- what `if !f(x)` tells of the test that `f` answers
 pub refused : {r x : Bool} → r ≡ x → not r ≡ true → x ≡ false
@@ -38,7 +37,7 @@ module _ {b : ℕ} where
   tag-65 g = rw (le-leb 48 b (omega arith), lt-leb b 57 (omega arith), le-leb 65 b g)
 
 -- a tag needs four octets, and reads no more
-short : (σ : Service) (l : List ℕ) → length l < 4 → Bad ≡ tag_of σ l
+short : (σ : Service) (l : List ℕ) → length l < 4 → None ≡ tag_of σ l
 short σ [] h = refl
 short σ (a ∷ []) h = refl
 short σ (a ∷ b ∷ []) h = refl
@@ -46,7 +45,7 @@ short σ (a ∷ b ∷ c ∷ []) h = refl
 short σ (a ∷ b ∷ c ∷ d ∷ s) h =
     absurd (not-suc-le-zero (le_of_suc-le-suc (le_of_suc-le-suc (le_of_suc-le-suc (le_of_suc-le-suc h)))))
 
-pub tag-short : (σ : Service) (s : List ℕ) (i : ℕ) → length s < i + 4 → Bad ≡ tag_of σ (drop i s)
+pub tag-short : (σ : Service) (s : List ℕ) (i : ℕ) → length s < i + 4 → None ≡ tag_of σ (drop i s)
 tag-short σ s i h = short σ (drop i s) (omega (arith, length-drop i s))
 
 next : (s : List ℕ) (i j : ℕ) → j ≡ suc i → i < length s → drop i s ≡ get_or s i 0 ∷ drop j s

@@ -1,13 +1,11 @@
 -- The grammar of segments, without a reader: trees, and how they are printed.
-use Rattle.std.specs.Prelude.{ℕ, List, [], ◌∷◌, ◌++◌, Bool, true, false, cond, not, ◌&&◌, eqb, length}
-use Rattle.std.proofs.Math.Option.{Option, none, some}
+use Rattle.std.specs.Prelude.{ℕ, List, [], ◌∷◌, ◌++◌, Bool, true, false, cond, not, ◌&&◌, eqb, length, Option, Some}
+use Rattle.std.proofs.Math.Option.{Option as Maybe, none, some}
 use Rattle.std.proofs.Math.ListN.{get_elem?}
 use Rattle.syntax.specs.Octets.{octet, all_pass}
 use Rattle.syntax.specs.Service.{serves}
 use Rattle.syntax.specs.Repertoire.{tag_octet}
 use Rattle.syntax.specs.declared.Service.{Service}
-use Rattle.syntax.specs.declared.cutting.Tag.{Tag}
-use Rattle.syntax.specs.declared.cutting.Tag.TheVariants.{Is}
 
 -- a data octet: as it stands, or freed by a release before it
 pub data Octet : Type 0 where
@@ -131,18 +129,18 @@ repeats_in (ne r []) = false
 repeats_in (ne r (q ∷ rs)) = true
 
 -- component c of element e: is it there, and which is it
-abbrev pub component_of : Option Element → ℕ → Option Component
+abbrev pub component_of : Maybe Element → ℕ → Maybe Component
 component_of none c = none
 component_of (some x) c = get_elem? (components_in (first_repeat x)) c
 
-abbrev pub component_in : Segment → ℕ → ℕ → Option Component
+abbrev pub component_in : Segment → ℕ → ℕ → Maybe Component
 component_in g e c = component_of (get_elem? (elements_in g) e) c
 
-abbrev pub tag_in : Segment → Tag
-tag_in (segment a b c es) = Is a b c
+abbrev pub tag_in : Segment → Option (ℕ × ℕ × ℕ)
+tag_in (segment a b c es) = Some (a, b, c)
 
 -- its content; absent is empty
-abbrev pub content_of : Option Component → List ℕ
+abbrev pub content_of : Maybe Component → List ℕ
 content_of none = []
 content_of (some c) = content_in c
 
@@ -150,11 +148,11 @@ content_of (some c) = content_in c
 abbrev pub count_elements : Segment → ℕ
 count_elements (segment a b c es) = length es
 
-abbrev pub count_of : Option Element → ℕ
+abbrev pub count_of : Maybe Element → ℕ
 count_of none = 0
 count_of (some x) = length (components_in (first_repeat x))
 
-abbrev pub repeats_of : Option Element → Bool
+abbrev pub repeats_of : Maybe Element → Bool
 repeats_of none = false
 repeats_of (some x) = repeats_in x
 

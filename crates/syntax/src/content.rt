@@ -5,20 +5,6 @@ ghost use Rattle.syntax.specs.Octets.{same};
 ghost use Rattle.syntax.specs.Content.{blank, compared, content, all_digits};
 ghost use Rattle.syntax.specs.Scanning.{next_of, number_in};
 
-// The next octet of content, and the place after it.
-#[derive(Clone, Copy)]
-pub enum Next {
-    Octet(u8, usize),
-    Over,
-}
-
-// The number that 1 to 15 digits give.
-#[derive(Clone, Copy)]
-pub enum Number {
-    Is(u64),
-    Not,
-}
-
 // The octets from `a` up to, not including, `e`, as far as `s` has them.
 pub fn part<'a>(s: &'a [u8], a: usize, e: usize) -> &'a [u8]
     ensures { result.now ≡ slice a e s.now }
@@ -36,25 +22,26 @@ pub fn part<'a>(s: &'a [u8], a: usize, e: usize) -> &'a [u8]
     &s[0..0]
 }
 
-// A release frees the octet after it; as the very last octet it frees nothing. A space is no release.
-pub fn next_octet(x: &[u8], i: usize, release: u8) -> Next
+// The next octet of content from `i` on, and the place after it. A release frees the octet after it; as the very last octet it frees nothing. A space is
+// no release.
+pub fn next_octet(x: &[u8], i: usize, release: u8) -> Option<(u8, usize)>
     ensures { result ≡ next_of release (drop i x.now) i }
 {
     if x.len() <= i {
-        return Next::Over;
+        return None;
     }
     let b = x[i];
     if b != release {
-        return Next::Octet(b, i + 1);
+        return Some((b, i + 1));
     }
     if b == 32 {
-        return Next::Octet(b, i + 1);
+        return Some((b, i + 1));
     }
     let j = i + 1;
     if x.len() <= j {
-        return Next::Over;
+        return None;
     }
-    Next::Octet(x[j], j + 1)
+    Some((x[j], j + 1))
 }
 
 pub fn content_length(x: &[u8], release: u8) -> usize
@@ -62,17 +49,11 @@ pub fn content_length(x: &[u8], release: u8) -> usize
 {
     let mut i = 0;
     let mut n: usize = 0;
-    loop {
-        match next_octet(x, i, release) {
-            Next::Octet(_, j) => {
-                n += 1;
-                i = j;
-            }
-            Next::Over => {
-                return n;
-            }
-        }
+    while let Some((_, j)) = next_octet(x, i, release) {
+        n += 1;
+        i = j;
     }
+    n
 }
 
 // Whether the content of `x` is `t`.
@@ -81,40 +62,17 @@ pub fn content_is(x: &[u8], release: u8, t: &[u8]) -> bool
 {
     let mut i = 0;
     let mut k = 0;
-    loop {
-        match next_octet(x, i, release) {
-            Next::Octet(b, j) => {
-                if t.len() <= k {
-                    return false;
-                }
-                if b != t[k] {
-                    return false;
-                }
-                i = j;
-                k += 1;
-            }
-            Next::Over => {
-                return k == t.len();
-            }
-        }
-    }
-}
-
-// Where this says so, `x` and `z` are the same octet for octet.
-fn alike(x: &[u8], z: &[u8]) -> bool
-    ensures { result ≡ true → x.now ≡ z.now }
-{
-    if x.len() != z.len() {
-        return false;
-    }
-    let mut i = 0;
-    while i < x.len() {
-        if x[i] != z[i] {
+    while let Some((b, j)) = next_octet(x, i, release) {
+        if t.len() <= k {
             return false;
         }
-        i += 1;
+        if b != t[k] {
+            return false;
+        }
+        i = j;
+        k += 1;
     }
-    true
+    k == t.len()
 }
 
 // The part of `x` that the spaces at the end of its content are not in, wherever releases stand.
@@ -123,19 +81,13 @@ fn bare_freed<'a>(x: &'a [u8], release: u8) -> &'a [u8]
 {
     let mut i: usize = 0;
     let mut end: usize = 0;
-    loop {
-        match next_octet(x, i, release) {
-            Next::Octet(b, j) => {
-                if b != 32 {
-                    end = j;
-                }
-                i = j;
-            }
-            Next::Over => {
-                return &x[0..end];
-            }
+    while let Some((b, j)) = next_octet(x, i, release) {
+        if b != 32 {
+            end = j;
         }
+        i = j;
     }
+    &x[0..end]
 }
 
 // The same. Mostly the last octet that is no space is no release either: then neither a space behind it nor itself is freed by it, and it is told from
@@ -162,19 +114,13 @@ fn only_spaces(x: &[u8], from: usize, release: u8) -> bool
     ensures { result ≡ blank (content release (drop from x.now)) }
 {
     let mut i = from;
-    loop {
-        match next_octet(x, i, release) {
-            Next::Octet(b, j) => {
-                if b != 32 {
-                    return false;
-                }
-                i = j;
-            }
-            Next::Over => {
-                return true;
-            }
+    while let Some((b, j)) = next_octet(x, i, release) {
+        if b != 32 {
+            return false;
         }
+        i = j;
     }
+    true
 }
 
 // Octet by octet of content: where one ends first, the other may go on with spaces.
@@ -187,19 +133,19 @@ fn same_bare(x: &[u8], release: u8, z: &[u8], other: u8) -> bool
         let f = next_octet(x, i, release);
         let g = next_octet(z, k, other);
         match f {
-            Next::Octet(b, j) => match g {
-                Next::Octet(c, l) => {
+            Some((b, j)) => match g {
+                Some((c, l)) => {
                     if b != c {
                         return false;
                     }
                     i = j;
                     k = l;
                 }
-                Next::Over => {
+                None => {
                     return only_spaces(x, i, release);
                 }
             },
-            Next::Over => {
+            None => {
                 return only_spaces(z, k, other);
             }
         }
@@ -210,10 +156,8 @@ fn same_bare(x: &[u8], release: u8, z: &[u8], other: u8) -> bool
 pub fn same_reference(x: &[u8], release: u8, z: &[u8], other: u8) -> bool
     ensures { result ≡ same (compared (content release x.now)) (compared (content other z.now)) }
 {
-    if release == other {
-        if alike(x, z) {
-            return true;
-        }
+    if release == other && x == z {
+        return true;
     }
     same_bare(x, release, z, other)
 }
@@ -236,59 +180,48 @@ pub fn all_digits(x: &[u8], release: u8) -> bool
     ensures { result ≡ all_digits (content release x.now) }
 {
     let mut i = 0;
-    loop {
-        match next_octet(x, i, release) {
-            Next::Octet(b, j) => {
-                if b < 48 {
-                    return false;
-                }
-                if 57 < b {
-                    return false;
-                }
-                i = j;
-            }
-            Next::Over => {
-                return true;
-            }
+    while let Some((b, j)) = next_octet(x, i, release) {
+        if b < 48 {
+            return false;
         }
+        if 57 < b {
+            return false;
+        }
+        i = j;
     }
+    true
 }
 
+// Kept: `u64::from` says that it is the same number, and not that it is below 256, which every sum over octets needs.
 pub fn wide(b: u8) -> u64
     ensures { (result ≡ b) × (result < 256) }
 {
-    b as u64
+    u64::from(b)
 }
 
 // The number that the content gives, where it is 1 to 15 digits.
-pub fn digits_value(x: &[u8], release: u8) -> Number
+pub fn digits_value(x: &[u8], release: u8) -> Option<u64>
     ensures { result ≡ number_in (content release x.now) }
 {
     let mut i = 0;
     let mut n: usize = 0;
     let mut v: u64 = 0;
-    loop {
-        match next_octet(x, i, release) {
-            Next::Octet(b, j) => {
-                if b < 48 {
-                    return Number::Not;
-                }
-                if 57 < b {
-                    return Number::Not;
-                }
-                if 15 <= n {
-                    return Number::Not;
-                }
-                v = v * 10 + (wide(b) - 48);
-                n += 1;
-                i = j;
-            }
-            Next::Over => {
-                if n == 0 {
-                    return Number::Not;
-                }
-                return Number::Is(v);
-            }
+    while let Some((b, j)) = next_octet(x, i, release) {
+        if b < 48 {
+            return None;
         }
+        if 57 < b {
+            return None;
+        }
+        if 15 <= n {
+            return None;
+        }
+        v = v * 10 + (wide(b) - 48);
+        n += 1;
+        i = j;
     }
+    if n == 0 {
+        return None;
+    }
+    Some(v)
 }

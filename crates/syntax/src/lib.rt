@@ -1,7 +1,8 @@
 // The octets of one EDIFACT interchange: service characters, repertoire, segments, elements, components, content.
-// specs/ says what each call means. No call has a `requires` but those that read by the class table, which `table` makes, and `classes`, which fills one.
+// specs/ says what each call means. No call has a `requires` but `tag_in`, `stop` and what fills a class table.
 #![tactic(auto)]
 
+pub mod classes;
 pub mod content;
 pub mod cutting;
 pub mod opening;
@@ -56,10 +57,4 @@ pub struct Syntax {
     pub version: Version,
     pub level: Level,
     pub service: Service,
-}
-
-#[derive(Clone, Copy)]
-pub enum Found {
-    At(usize),
-    Nothing,
 }

@@ -12,24 +12,6 @@ pub struct Opening {
     pub at: usize,
 }
 
-#[derive(Clone, Copy)]
-pub enum Opened {
-    Known(Opening),
-    Refused(Breach),
-}
-
-#[derive(Clone, Copy)]
-pub enum LevelName {
-    Is(Level),
-    Unknown,
-}
-
-#[derive(Clone, Copy)]
-pub enum VersionName {
-    Is(Version),
-    Unknown,
-}
-
 // The syntax of the interchange, and the place of UNB.
 #[derive(Clone, Copy)]
 pub struct Start {
@@ -37,19 +19,9 @@ pub struct Start {
     pub at: usize,
 }
 
-#[derive(Clone, Copy)]
-pub enum Begun {
-    Ready(Start),
-    Refused(Breach),
-}
-
 // Whether a version is the earlier edition's.
 pub fn is_earlier(v: Version) -> bool
     ensures { result ≡ earlier v }
 {
-    match v {
-        Version::Two => true,
-        Version::Three => false,
-        Version::Four => false,
-    }
+    matches!(v, Version::Two)
 }

@@ -1,7 +1,7 @@
 // The class of each octet, as a table that is made once for each interchange.
 ghost use Rattle.std.specs.Prelude.{◌≡◌, ◌+◌, ◌≤◌, ◌<◌, set};
 ghost use Rattle.syntax.specs.Repertoire.{tag_octet, inside};
-ghost use Rattle.syntax.specs.Classes.{data_class, class_of, Blank, Base, Table};
+ghost use Rattle.syntax.specs.Classes.{data_class, Blank, Base, Table};
 ghost use Rattle.syntax.specs.Classes.{Filled};
 
 use crate::cutting::tag_octet;
@@ -13,12 +13,6 @@ pub const TERMINATOR: u8 = 64;
 pub const RELEASE: u8 = 65;
 
 pub const OUTSIDE: u8 = 66;
-
-pub(crate) fn wide(b: u8) -> usize
-    ensures { (result ≡ b) × (result < 256) }
-{
-    b as usize
-}
 
 // The repertoire test, as document 01 prints it: is the octet inside?
 pub fn is_inside(l: Level, b: u8) -> bool
@@ -76,12 +70,7 @@ fn fill(t: &mut [u8; 256], a: u8, e: u8, c: u8)
     requires { a ≤ e }
     ensures { Filled a (e + 1) c t.old t.new }
 {
-    let last = wide(e);
-    let mut i = wide(a);
-    while i <= last {
-        t[i] = c;
-        i += 1;
-    }
+    t[usize::from(a)..=usize::from(e)].fill(c);
 }
 
 // The same for every octet at once. In each of these stretches all octets are of one class, whatever the repertoire, so its first one is asked.
@@ -107,12 +96,12 @@ fn base(t: &mut [u8; 256], l: Level)
 fn put(t: &mut [u8; 256], b: u8, c: u8)
     ensures { t.new ≡ set t.old b c }
 {
-    t[b as usize] = c;
+    t[usize::from(b)] = c;
 }
 
 // The class of each octet: data, 0 for what a tag may have and 1 for the others, 2 component, 3 repetition, 4 element, and the three at which a scan stops.
 // Later stores win, so what is tested first in `kind_of` is stored last.
-pub fn classes(t: &mut [u8; 256], y: Syntax)
+pub(crate) fn classes(t: &mut [u8; 256], y: Syntax)
     requires { Blank t.old }
     ensures { Table y t.new }
 {
@@ -125,19 +114,4 @@ pub fn classes(t: &mut [u8; 256], y: Syntax)
     put(t, v.terminator, TERMINATOR);
     put(t, v.release, RELEASE);
     put(t, 32, 1);
-}
-
-pub fn table(y: Syntax) -> [u8; 256]
-    ensures { Table y result }
-{
-    let mut t = [OUTSIDE; 256];
-    classes(&mut t, y);
-    t
-}
-
-pub fn class(t: &[u8; 256], y: Syntax, b: u8) -> u8
-    requires { Table y t.now }
-    ensures { result ≡ class_of y b }
-{
-    t[b as usize]
 }

@@ -1,5 +1,6 @@
 -- A segment in an open message: what its kind does (StepsLaws, ItemsLaws), and from that the step's answer and the state after it.
-use Rattle.std.specs.Prelude.{ℕ, suc, ◌+◌, ◌*◌, ◌≤◌, ◌<◌, ◌≡◌, refl, Bool, true, false, cond, not, ◌&&◌, List, length}
+use Rattle.syntax.specs.declared.Breach.{Breach}
+use Rattle.std.specs.Prelude.{ℕ, suc, ◌+◌, ◌*◌, ◌≤◌, ◌<◌, ◌≡◌, refl, Bool, true, false, cond, not, ◌&&◌, List, length, Result, Ok, Err}
 use Rattle.std.proofs.Common.{arith, ap, sym, subst, ◌∙◌}
 use Rattle.std.proofs.lemmas.Bool.{false≢true}
 use Rattle.std.proofs.Math.Option.{Option, none, some}
@@ -33,13 +34,9 @@ use Rattle.message.specs.declared.Group.{Group}
 use Rattle.message.specs.declared.Group.TheVariants.{Opened, Header, Certificate, Body, Ack, Trailer}
 use Rattle.message.specs.declared.Message.{Message}
 use Rattle.elements.specs.declared.fields.Shape.{Shape}
-use Rattle.message.specs.declared.steps.Moved.{Moved}
-use Rattle.message.specs.declared.steps.Moved.TheVariants.{To, Bad}
 use Rattle.turns.specs.declared.state.Phase.{Phase}
 use Rattle.turns.specs.declared.state.Phase.TheVariants.{Start, Idle, Busy, Done}
 use Rattle.turns.specs.declared.state.State.{State}
-use Rattle.turns.specs.declared.state.Step.{Step}
-use Rattle.turns.specs.declared.state.Step.TheVariants.{On, Stop}
 
 -- ---- an arm of a match on the kind
 
@@ -52,13 +49,13 @@ formed-to v a e j f h = ap (λ (x : Kind). formed_by v x a) (sym f ∙ e) ∙ sy
 pub cnt-right : (v : Version) (a : Asked) {k : Kind} → k ≡ tag_kind a.tag → k ≡ Cnt → formed v a ≡ true → control_right a ≡ true
 cnt-right v a e f h = let w = and_r (not a.any_repeated) (control_of a) (formed-to v a e Cnt f h) in rw (cnt-tag a.tag (sym e ∙ f)) w
 
-module _ (σ : Service) (s : List ℕ) (at : ℕ) (m : Message) (h : List ℕ) (r : Moved) (h' : List ℕ) {k : Kind} where
+module _ (σ : Service) (s : List ℕ) (at : ℕ) (m : Message) (h : List ℕ) (r : Result Message ℕ) (h' : List ℕ) {k : Kind} where
   pub step-arm : (j : Kind) → k ≡ j → ((u w : ℕ) → MovedIs (step_m j (summary_in σ.release s m u w h) (asked_at σ s at)) r σ.release s u w h') →
       (u w : ℕ) → MovedIs (step_m k (summary_in σ.release s m u w h) (asked_at σ s at)) r σ.release s u w h'
   step-arm j f g u w = subst (λ (x : Kind). MovedIs (step_m x (summary_in σ.release s m u w h) (asked_at σ s at)) r σ.release s u w h') (sym f) (g u w)
 
 -- USA and USC, by the group after them
-module _ (σ : Service) (s : List ℕ) (at : ℕ) (m : Message) (h : List ℕ) (r : Moved) (h' : List ℕ) {q : Group}
+module _ (σ : Service) (s : List ℕ) (at : ℕ) (m : Message) (h : List ℕ) (r : Result Message ℕ) (h' : List ℕ) {q : Group}
     (g : (ρ : ℕ) (t : List ℕ) (u w : ℕ) → MovedIs (to_m (grown_by (summary_in ρ t m u w h) q (more_in_last (head_sizes h m.headers)))) r ρ t u w h') where
   header-by : (d : Group) → q ≡ d → (u w : ℕ) → MovedIs (to_m (grown_by (summary_in σ.release s m u w h) d (more_in_last (head_sizes h m.headers)))) r σ.release s u w h'
   header-by d e u w =
@@ -72,9 +69,9 @@ module _ (σ : Service) (s : List ℕ) (at : ℕ) (m : Message) (h : List ℕ) (
 
 -- a USX leaves the headers as they are
 pub usx-arm : (σ : Service) (s : List ℕ) (at : ℕ) (m : Message) (h : List ℕ) (n : Message) {k : Kind} → k ≡ Usx → Roomy m h → n ≡ grown m (Ack true false) →
-    (u w : ℕ) → MovedIs (step_m k (summary_in σ.release s m u w h) (asked_at σ s at)) (To n) σ.release s u w h
+    (u w : ℕ) → MovedIs (step_m k (summary_in σ.release s m u w h) (asked_at σ s at)) (Ok n) σ.release s u w h
 usx-arm σ s at m h n f g e =
-    step-arm σ s at m h (To n) h Usx f
+    step-arm σ s at m h (Ok n) h Usx f
     (λ u w. moved_to σ.release s u w h _ e refl (roomy-grown (Ack true false) g (small-more (roomy-small g) (suc m.segments) (omega arith))))
 
 -- ---- 12 is QTY's alone
@@ -225,8 +222,8 @@ decided_at y s st h l p = decided_from y.version (state_in y.service.release s s
 abbrev moved_at : Syntax → List ℕ → State → List ℕ → ℕ → Kind → AnswerM
 moved_at y s st h p k = step_m k (summary_in y.service.release s st.message st.unh.start st.unh.end h) (asked_at y.service s p)
 
-refused-by : (U : List ℕ) (RS : Snoc (List ℕ)) (p : ℕ) (A : AnswerM) (n ρ : ℕ) (s h l b : List ℕ) (i u w : ℕ) → MovedIs A (Bad n) ρ s u w h →
-    StepIs (from_m U RS p A) (Stop (record { number = n; place = p })) ρ s h l b i
+refused-by : (U : List ℕ) (RS : Snoc (List ℕ)) (p : ℕ) (A : AnswerM) (n ρ : ℕ) (s h l b : List ℕ) (i u w : ℕ) → MovedIs A (Err n) ρ s u w h →
+    StepIs (from_m U RS p A) (Err (record { number = n; place = p })) ρ s h l b i
 refused-by U RS p (to_m S) n ρ s h l b i u w g = absurd g
 refused-by U RS p (bad_m k) n ρ s h l b i u w g = (g, refl)
 
@@ -244,9 +241,9 @@ module _ (ρ : ℕ) (s : List ℕ) (st : State) (h l b : List ℕ) (p i q : ℕ)
     offered = λ _ r. g.offered e r;
   }
 
-  read_by : (A : AnswerM) (z : Message) (h' : List ℕ) → length h' ≡ 36 → GrowsM st.message.segments A → MovedIs A (To z) ρ s st.unh.start st.unh.end h' →
+  read_by : (A : AnswerM) (z : Message) (h' : List ℕ) → length h' ≡ 36 → GrowsM st.message.segments A → MovedIs A (Ok z) ρ s st.unh.start st.unh.end h' →
       StepIs (from_m (unb_in ρ s st) (refs_in l st.count) p A)
-      (On (after_other st Busy st.count z)) ρ s h' l b q
+      (Ok (after_other st Busy st.count z)) ρ s h' l b q
   read_by (to_m S) z h' o n f = (
     ap (busy_s (unb_in ρ s st) (refs_in l st.count)) f.0,
     held_on f.1 o (ap (λ (T : Summary). T.m.segments) f.0 ∙ n),
@@ -272,7 +269,7 @@ module _ {y : Syntax} {s : List ℕ} {st : State} {h l b : List ℕ} {p q : ℕ}
     order_is : order_s (state_in y.service.release s st h l) (asked_at y.service s p) ≡ c
     order_is = ap (λ (X : StateS). order_s X (asked_at y.service s p)) busy-state ∙ ap (λ (x : Kind). may_come x st.message) (sym g.kind) ∙ sym may
 
-    pub busy-7 : not c ≡ true → {r : Step} → r ≡ Stop (record { number = 7; place = p }) →
+    pub busy-7 : not c ≡ true → {r : Result State Breach} → r ≡ Err (record { number = 7; place = p }) →
         StepIs (decided_at y s st h l p) r y.service.release s h l b q
     busy-7 o d = stop y.service.release s h l b q (at_7 y.version (state_in y.service.release s st h l) (asked_at y.service s p) p (order_is ∙ not-true c o)) d
 
@@ -282,7 +279,7 @@ module _ {y : Syntax} {s : List ℕ} {st : State} {h l b : List ℕ} {p q : ℕ}
           ap (λ (X : StateS). formed y.version (asked_at y.service s p) && subset_s X (asked_at y.service s p)) busy-state
           ∙ ap (λ (j : Kind). formed y.version (asked_at y.service s p) && subset_by j st.message.autack (asked_at y.service s p)) (sym g.kind) ∙ sym form
 
-      pub busy-8 : not x ≡ true → {r : Step} → r ≡ Stop (record { number = 8; place = p }) →
+      pub busy-8 : not x ≡ true → {r : Result State Breach} → r ≡ Err (record { number = 8; place = p }) →
           StepIs (decided_at y s st h l p) r y.service.release s h l b q
       busy-8 t d =
           stop y.service.release s h l b q (at_8 y.version (state_in y.service.release s st h l) (asked_at y.service s p) p (order_is ∙ not-false c o) (form-is ∙ not-true x t)) d
@@ -299,28 +296,28 @@ module _ {y : Syntax} {s : List ℕ} {st : State} {h l b : List ℕ} {p q : ℕ}
               ap (λ (X : StateS). decided_from y.version X (asked_at y.service s p) p) busy-state
               ∙ busy-by _ _ (open_in y.service.release s st h) (asked_at y.service s p) p y.version g.kind n busy-passed.0 (sym form ∙ not-false x t)
 
-          module _ (x' : Moved) (h' : List ℕ)
+          module _ (x' : Result Message ℕ) (h' : List ℕ)
               (moved : (u w : ℕ) → MovedIs (step_m k (summary_in y.service.release s st.message u w h) (asked_at y.service s p)) x' y.service.release s u w h') where
             moved_here : MovedIs (moved_at y s st h p k) x' y.service.release s st.unh.start st.unh.end h'
             moved_here = moved st.unh.start st.unh.end
 
-            pub busy-bad : {i : ℕ} → x' ≡ Bad i → {r : Step} → r ≡ Stop (record { number = i; place = p }) →
+            pub busy-bad : {i : ℕ} → x' ≡ Err i → {r : Result State Breach} → r ≡ Err (record { number = i; place = p }) →
                 StepIs (decided_at y s st h l p) r y.service.release s h' l b q
             busy-bad {i} e {r} d =
                 subst (λ (A : AnswerS). StepIs A r y.service.release s h' l b q) (sym decided-is)
-                (subst (λ (z : Step). StepIs (from_m (unb_in y.service.release s st) (refs_in l st.count) p (moved_at y s st h p k)) z y.service.release s h' l b q) (sym d)
+                (subst (λ (z : Result State Breach). StepIs (from_m (unb_in y.service.release s st) (refs_in l st.count) p (moved_at y s st h p k)) z y.service.release s h' l b q) (sym d)
                 (refused-by (unb_in y.service.release s st) (refs_in l st.count) p (moved_at y s st h p k) i y.service.release s h' l b q st.unh.start st.unh.end
-                (subst (λ (z : Moved). MovedIs (moved_at y s st h p k) z y.service.release s st.unh.start st.unh.end h') e moved_here)))
+                (subst (λ (z : Result Message ℕ). MovedIs (moved_at y s st h p k) z y.service.release s st.unh.start st.unh.end h') e moved_here)))
 
-            pub busy-on : {z : Message} → x' ≡ To z → length h' ≡ 36 → {v : State} → v ≡ after_other st Busy st.count z →
-                StepIs (decided_at y s st h l p) (On v) y.service.release s h' l b q
+            pub busy-on : {z : Message} → x' ≡ Ok z → length h' ≡ 36 → {v : State} → v ≡ after_other st Busy st.count z →
+                StepIs (decided_at y s st h l p) (Ok v) y.service.release s h' l b q
             busy-on {z} e o {v} d =
-                subst (λ (A : AnswerS). StepIs A (On v) y.service.release s h' l b q) (sym decided-is)
-                (subst (λ (w : State). StepIs (from_m (unb_in y.service.release s st) (refs_in l st.count) p (moved_at y s st h p k)) (On w) y.service.release s h' l b q) (sym d)
+                subst (λ (A : AnswerS). StepIs A (Ok v) y.service.release s h' l b q) (sym decided-is)
+                (subst (λ (w : State). StepIs (from_m (unb_in y.service.release s st) (refs_in l st.count) p (moved_at y s st h p k)) (Ok w) y.service.release s h' l b q) (sym d)
                 (read_by y.service.release s st h l b p g.before q g.held busy g.ends
                 (moved_at y s st h p k) z h' o
                 (step-grows (open_in y.service.release s st h) (asked_at y.service s p) k busy-passed.0)
-                (subst (λ (i : Moved). MovedIs (moved_at y s st h p k) i y.service.release s st.unh.start st.unh.end h') e moved_here)))
+                (subst (λ (i : Result Message ℕ). MovedIs (moved_at y s st h p k) i y.service.release s st.unh.start st.unh.end h') e moved_here)))
 
 -- ---- a segment by its kind; one that has no place outside a message
 
@@ -329,21 +326,21 @@ module _ {y : Syntax} {s : List ℕ} {st : State} {h l b : List ℕ} {p q : ℕ}
   ready_at e = subst (λ (x : Kind). Ready y s st h l b p q x f marks) e g
 
   phase-7 : (x : Phase) → st.phase ≡ x → ((U : List ℕ) (RS : Snoc (List ℕ)) (S : Summary) → order_s (phased x U RS S) (asked_at y.service s p) ≡ false) →
-      {r : Step} → r ≡ Stop (record { number = 7; place = p }) →
+      {r : Result State Breach} → r ≡ Err (record { number = 7; place = p }) →
       StepIs (decided_at y s st h l p) r y.service.release s h l b q
   phase-7 x e o d =
       stop y.service.release s h l b q (at_7 y.version (state_in y.service.release s st h l) (asked_at y.service s p) p
       (ap (λ (z : Phase). order_s (phased z (unb_in y.service.release s st) (refs_in l st.count)
       (open_in y.service.release s st h)) (asked_at y.service s p)) e ∙ o _ _ _)) d
 
-  pub start-7 : st.phase ≡ Start → at_start true false k ≡ false → {r : Step} → r ≡ Stop (record { number = 7; place = p }) →
+  pub start-7 : st.phase ≡ Start → at_start true false k ≡ false → {r : Result State Breach} → r ≡ Err (record { number = 7; place = p }) →
       StepIs (decided_at y s st h l p) r y.service.release s h l b q
   start-7 e o d = phase-7 Start e (λ U RS S. ap (at_start true false) (sym g.kind) ∙ o) d
 
-  pub idle-7 : st.phase ≡ Idle → ((x : Bool) → at_idle true x false k ≡ false) → {r : Step} → r ≡ Stop (record { number = 7; place = p }) →
+  pub idle-7 : st.phase ≡ Idle → ((x : Bool) → at_idle true x false k ≡ false) → {r : Result State Breach} → r ≡ Err (record { number = 7; place = p }) →
       StepIs (decided_at y s st h l p) r y.service.release s h l b q
   idle-7 e o d = phase-7 Idle e (λ U RS S. ap (at_idle true (any RS) false) (sym g.kind) ∙ o (any RS)) d
 
-  pub done-7 : st.phase ≡ Done → {r : Step} → r ≡ Stop (record { number = 7; place = p }) →
+  pub done-7 : st.phase ≡ Done → {r : Result State Breach} → r ≡ Err (record { number = 7; place = p }) →
       StepIs (decided_at y s st h l p) r y.service.release s h l b q
   done-7 e d = phase-7 Done e (λ U RS S. refl) d

@@ -1,5 +1,7 @@
 -- UNB, UNH, UNT and UNZ, a path at a time: the step that the rules ask, and everything still in its room.
-use Rattle.std.specs.Prelude.{ℕ, zero, suc, ◌+◌, ◌*◌, ◌≤◌, ◌<◌, ◌≡◌, refl, Bool, true, false, cond, not, ◌&&◌, List, [], ◌∷◌, T, eqb, leb, length}
+use Rattle.grammar.specs.declared.Subset.{Subset}
+use Rattle.syntax.specs.declared.Breach.{Breach}
+use Rattle.std.specs.Prelude.{ℕ, zero, suc, ◌+◌, ◌*◌, ◌≤◌, ◌<◌, ◌≡◌, refl, Bool, true, false, cond, not, ◌&&◌, List, [], ◌∷◌, T, eqb, leb, length, Option, Result, Some, None, Ok, Err}
 use Rattle.std.proofs.Common.{add-one, arith, ap, sym, ◌∙◌, subst, eq-eqb, ne_eqb, leb-true}
 use Rattle.std.proofs.lemmas.Bool.{false≢true}
 use Rattle.std.proofs.Math.Bool.{and-true}
@@ -9,13 +11,10 @@ use Rattle.syntax.specs.Content.{content, value_from, compared, blank}
 use Rattle.syntax.proofs.BareLaws.{compared-short}
 use Rattle.syntax.specs.RepertoireLaws.{and_l, and_r}
 use Rattle.syntax.specs.Segment.{component_at, part_of}
-use Rattle.syntax.specs.declared.Found.{Found}
-use Rattle.syntax.specs.declared.Found.TheVariants.{At, Nothing}
 use Rattle.syntax.specs.declared.Service.{Service}
 use Rattle.syntax.specs.declared.Syntax.{Syntax}
 use Rattle.syntax.specs.declared.Version.{Version}
-use Rattle.grammar.specs.declared.Subset.{Subset}
-use Rattle.grammar.specs.declared.Subset.TheVariants.{None, F01, Gs1}
+use Rattle.grammar.specs.declared.Subset.TheVariants.{F01, Gs1}
 use Rattle.grammar.specs.Lists.{Snoc, nil, ◌▷◌, size, any, among}
 use Rattle.grammar.specs.Rules.{subset_of}
 use Rattle.grammar.specs.Segments.{Asked}
@@ -42,8 +41,6 @@ use Rattle.turns.specs.declared.state.Phase.{Phase}
 use Rattle.turns.specs.declared.state.Phase.TheVariants.{Start, Idle, Busy, Done}
 use Rattle.turns.specs.declared.state.Stretch.{Stretch}
 use Rattle.turns.specs.declared.state.State.{State}
-use Rattle.turns.specs.declared.state.Step.{Step}
-use Rattle.turns.specs.declared.state.Step.TheVariants.{On, Stop}
 use Rattle.elements.specs.declared.Kind.{Kind}
 use Rattle.elements.specs.declared.Kind.TheVariants.{Unb, Unh, Unt, Unz, Qty}
 
@@ -79,13 +76,13 @@ module _ (σ : Service) (s : List ℕ) (a : ℕ) {x : List ℕ} (e : x ≡ part_
   typed c h = sym (ap (λ (z : List ℕ). same (content σ.release z) (octets "AUTACK")) e) ∙ sym d ∙ h
 
   pub no-subset : b ≡ false → None ≡ subset_of (text_at σ s a 2 0) (text_at σ s a 2 4)
-  no-subset h = sym (ap (λ (z : Bool). cond z (cond (same (text_at σ s a 2 4) (octets "EAN001")) Gs1 F01) None) (typed false h))
+  no-subset h = sym (ap (λ (z : Bool). cond z (cond (same (text_at σ s a 2 4) (octets "EAN001")) (Some Gs1) (Some F01)) None) (typed false h))
 
   pub subset-by : b ≡ true → {z : List ℕ} → z ≡ part_of s (component_at σ s a 2 4) → {q : Bool} → q ≡ same (content σ.release z) (octets "EAN001") → (c : Bool) → q ≡ c →
-      cond c Gs1 F01 ≡ subset_of (text_at σ s a 2 0) (text_at σ s a 2 4)
+      cond c (Some Gs1) (Some F01) ≡ subset_of (text_at σ s a 2 0) (text_at σ s a 2 4)
   subset-by h {z} f k c t =
-      ap (λ (w : Bool). cond w Gs1 F01) (sym t ∙ k ∙ ap (λ (w : List ℕ). same (content σ.release w) (octets "EAN001")) f)
-      ∙ sym (ap (λ (w : Bool). cond w (cond (same (text_at σ s a 2 4) (octets "EAN001")) Gs1 F01) None) (typed true h))
+      ap (λ (w : Bool). cond w (Some Gs1) (Some F01)) (sym t ∙ k ∙ ap (λ (w : List ℕ). same (content σ.release w) (octets "EAN001")) f)
+      ∙ sym (ap (λ (w : Bool). cond w (cond (same (text_at σ s a 2 4) (octets "EAN001")) (Some Gs1) (Some F01)) None) (typed true h))
 
 -- ---- the first test that fails tells the number
 
@@ -126,13 +123,13 @@ module _ (v : Version) (S : StateS) (a : Asked) (p : ℕ) where
   at-end = six-on p (order_s S a) (formed v a && subset_s S a) (refs_s S a) (counts_s v S a) (scope_s S a) (load_right a) (next_s S a)
 
 module _ {A : AnswerS} (ρ : ℕ) (s h l b : List ℕ) (i : ℕ) where
-  pub stop : {r : Step} {n p : ℕ} → A ≡ refused_s n p → r ≡ Stop (record { number = n; place = p }) → StepIs A r ρ s h l b i
+  pub stop : {r : Result State Breach} {n p : ℕ} → A ≡ refused_s n p → r ≡ Err (record { number = n; place = p }) → StepIs A r ρ s h l b i
   stop {r} {n} {p} e d =
-      subst (λ (x : AnswerS). StepIs x r ρ s h l b i) (sym e) (subst (λ (x : Step). StepIs (refused_s n p) x ρ s h l b i) (sym d) (refl, refl))
+      subst (λ (x : AnswerS). StepIs x r ρ s h l b i) (sym e) (subst (λ (x : Result State Breach). StepIs (refused_s n p) x ρ s h l b i) (sym d) (refl, refl))
 
-  go : {S : StateS} {x z : State} → A ≡ read_s S → z ≡ x → state_in ρ s x h l ≡ S → Held ρ s x h l b i → StepIs A (On z) ρ s h l b i
+  go : {S : StateS} {x z : State} → A ≡ read_s S → z ≡ x → state_in ρ s x h l ≡ S → Held ρ s x h l b i → StepIs A (Ok z) ρ s h l b i
   go {S} {x} {z} e d q w =
-      subst (λ (A : AnswerS). StepIs A (On z) ρ s h l b i) (sym e) (subst (λ (x : State). StepIs (read_s S) (On x) ρ s h l b i) (sym d) (q, w))
+      subst (λ (A : AnswerS). StepIs A (Ok z) ρ s h l b i) (sym e) (subst (λ (x : State). StepIs (read_s S) (Ok x) ρ s h l b i) (sym d) (q, w))
 
 -- ---- the references so far
 
@@ -155,8 +152,8 @@ unh-short v a e =
     leb-true (length (a.text 1 0)) 14 (and_r (leb 1 (length (a.text 1 0))) (leb (length (a.text 1 0)) 14) k)
 
 -- a slot was offered
-pub offer-at : {l b t l' : List ℕ} {n : ℕ} (r : Found) → OfferIs l b n t r l' → {i : ℕ} → r ≡ At i → Fitting l b n t i l'
-offer-at {l} {b} {t} {l'} {n} r o e = subst (λ (z : Found). OfferIs l b n t z l') e o
+pub offer-at : {l b t l' : List ℕ} {n : ℕ} (r : Option ℕ) → OfferIs l b n t r l' → {i : ℕ} → r ≡ Some i → Fitting l b n t i l'
+offer-at {l} {b} {t} {l'} {n} r o e = subst (λ (z : Option ℕ). OfferIs l b n t z l') e o
 
 -- nothing is offered outside a message
 abbrev is_open : Phase → Bool
@@ -174,7 +171,7 @@ done-shut e = absurd (false≢true (ap is_open e))
 least : (n : ℕ) → 0 ≤ n
 least n = omega arith
 
-roomy-fresh : (b : Subset) (h : List ℕ) → Roomy (fresh b) h
+roomy-fresh : (b : Option Subset) (h : List ℕ) → Roomy (fresh b) h
 roomy-fresh b h = record {
   headers = least 9;
   loads = least 1;
@@ -186,7 +183,7 @@ roomy-fresh b h = record {
 }
 
 module _ (ρ : ℕ) (s h : List ℕ) where
-  fresh-summary : {m : Message} {b : Subset} (i j : ℕ) (a : Asked) → m ≡ fresh b → b ≡ subset_of (a.text 2 0) (a.text 2 4) → compared (content ρ (slice i j s)) ≡ compared (a.text 1 0) →
+  fresh-summary : {m : Message} {b : Option Subset} (i j : ℕ) (a : Asked) → m ≡ fresh b → b ≡ subset_of (a.text 2 0) (a.text 2 4) → compared (content ρ (slice i j s)) ≡ compared (a.text 1 0) →
       summary_in ρ s m i j h ≡ opened a
   fresh-summary {m} {b} i j a e d q =
       ap (λ (x : Message). summary_in ρ s x i j h) (e ∙ ap fresh d) ∙ named_by q
@@ -213,11 +210,11 @@ module _ (y : Syntax) (s : List ℕ) (st : State) (h l b : List ℕ) (at next : 
   abbrev kept : Summary
   kept = summary_in y.service.release s st.message st.unh.start st.unh.end h
 
-  abbrev Told : Step → Type 0
+  abbrev Told : Result State Breach → Type 0
   Told r = StepIs (decided_from y.version (state_in y.service.release s st h l) (asked_at y.service s at) at) r y.service.release s h l b next
 
   -- with the names as they are left
-  abbrev Left : List ℕ → Step → Type 0
+  abbrev Left : List ℕ → Result State Breach → Type 0
   Left l' r = StepIs (decided_from y.version (state_in y.service.release s st h l) (asked_at y.service s at) at) r y.service.release s h l' b next
 
   -- the octets of a field between two of the marks
@@ -238,7 +235,7 @@ module _ (y : Syntax) (s : List ℕ) (st : State) (h l b : List ℕ) (at next : 
     unb-order : order_s here ask ≡ true
     unb-order = by order_k unb-here g.kind
 
-    pub unb-bad : not q ≡ true → {r : Step} → r ≡ Stop (record { number = 8; place = at }) → Told r
+    pub unb-bad : not q ≡ true → {r : Result State Breach} → r ≡ Err (record { number = 8; place = at }) → Told r
     unb-bad n d = stop y.service.release s h l b next (at_8 y.version here ask at unb-order (alone unb-here g.kind refl e ∙ not-true q n)) d
 
     module _ {z : Stretch} (u : z ≡ stretch_in marks 5) where
@@ -257,7 +254,7 @@ module _ (y : Syntax) (s : List ℕ) (st : State) (h l b : List ℕ) (at next : 
           ap (λ (t : List ℕ). idle_s (compared (content y.service.release t)) nil) (between (g.noted refl).marks 5 (omega arith) (omega arith) u)
           ∙ sym (by (λ (x : StateS) (k : Kind). next_k x k ask) unb-here g.kind)
 
-      pub unb-read : not q ≡ false → {x : State} → x ≡ after_unb st z → Told (On x)
+      pub unb-read : not q ≡ false → {x : State} → x ≡ after_unb st z → Told (Ok x)
       unb-read n d =
           go y.service.release s h l b next
           (at-end y.version here ask at unb-order (alone unb-here g.kind refl e ∙ not-false q n) (by (λ (x : StateS) (k : Kind). refs_k x k ask) unb-here g.kind)
@@ -277,7 +274,7 @@ module _ (y : Syntax) (s : List ℕ) (st : State) (h l b : List ℕ) (at next : 
     unh-order : order_s here ask ≡ true
     unh-order = by order_k (idle-here ph) g.kind
 
-    pub unh-bad : not q ≡ true → {r : Step} → r ≡ Stop (record { number = 8; place = at }) → Told r
+    pub unh-bad : not q ≡ true → {r : Result State Breach} → r ≡ Err (record { number = 8; place = at }) → Told r
     unh-bad n d = stop y.service.release s h l b next (at_8 y.version here ask at unh-order (alone (idle-here ph) g.kind refl e ∙ not-true q n)) d
 
     -- z is the part of the field that is compared
@@ -294,13 +291,13 @@ module _ (y : Syntax) (s : List ℕ) (st : State) (h l b : List ℕ) (at next : 
           by (λ (z : StateS) (k : Kind). refs_k z k ask) (idle-here ph) g.kind
           ∙ ap not (sym (ap (among refs) bared ∙ ap (λ (t : List ℕ). among refs (compared (content y.service.release t))) field) ∙ used)
 
-      pub unh-again : (l' : List ℕ) (a : Found) → OfferIs l b st.count (content y.service.release z) a l' → a ≡ Nothing →
-          {r : Step} → r ≡ Stop (record { number = 9; place = at }) → Left l' r
+      pub unh-again : (l' : List ℕ) (a : Option ℕ) → OfferIs l b st.count (content y.service.release z) a l' → a ≡ None →
+          {r : Result State Breach} → r ≡ Err (record { number = 9; place = at }) → Left l' r
       unh-again l' a o v d =
-          let used = (subst (λ (w : Found). OfferIs l b st.count (content y.service.release z) w l') v o).0 in
+          let used = (subst (λ (w : Option ℕ). OfferIs l b st.count (content y.service.release z) w l') v o).0 in
           stop y.service.release s h l' b next (at_9 y.version here ask at unh-order (alone (idle-here ph) g.kind refl e ∙ not-false q n) (unh-refs used)) d
 
-      module _ {l' : List ℕ} {k : ℕ} (o : Fitting l b st.count (content y.service.release z) k l') {c : Subset} (autack : c ≡ subset_of (text_at y.service s at 2 0) (text_at y.service s at 2 4)) {m : Message} (new : m ≡ fresh c)
+      module _ {l' : List ℕ} {k : ℕ} (o : Fitting l b st.count (content y.service.release z) k l') {c : Option Subset} (autack : c ≡ subset_of (text_at y.service s at 2 0) (text_at y.service s at 2 4)) {m : Message} (new : m ≡ fresh c)
           {w : Stretch} (u : w ≡ stretch_in marks 1) where
         unh-part : slice w.start w.end s ≡ x
         unh-part = between (g.noted refl).marks 1 (omega arith) (omega arith) u ∙ sym field
@@ -328,7 +325,7 @@ module _ (y : Syntax) (s : List ℕ) (st : State) (h l b : List ℕ) (at next : 
             ∙ ap (λ (rs : Snoc (List ℕ)). busy_s unbs rs (opened ask)) o.same
             ∙ sym (by (λ (x : StateS) (k : Kind). next_k x k ask) (idle-here ph) g.kind)
 
-        pub unh-read : {x : State} → x ≡ after_unh st k w m → Left l' (On x)
+        pub unh-read : {x : State} → x ≡ after_unh st k w m → Left l' (Ok x)
         unh-read d =
             go y.service.release s h l' b next
             (at-end y.version here ask at unh-order (alone (idle-here ph) g.kind refl e ∙ not-false q n) (unh-refs o.new)
@@ -339,14 +336,14 @@ module _ (y : Syntax) (s : List ℕ) (st : State) (h l b : List ℕ) (at next : 
     unz-order : order_s here ask ≡ any refs
     unz-order = by order_k (idle-here ph) g.kind
 
-    pub unz-none : st.count ≡ 0 → {r : Step} → r ≡ Stop (record { number = 7; place = at }) → Told r
+    pub unz-none : st.count ≡ 0 → {r : Result State Breach} → r ≡ Err (record { number = 7; place = at }) → Told r
     unz-none z d = stop y.service.release s h l b next (at_7 y.version here ask at (unz-order ∙ ap (λ (n : ℕ). any (refs_in l n)) z)) d
 
     module _ (some : st.count ≡ 0 → ⊥) {q : Bool} (e : q ≡ formed y.version ask) where
       unz-may : order_s here ask ≡ true
       unz-may = unz-order ∙ any-refs l st.count some
 
-      pub unz-bad : not q ≡ true → {r : Step} → r ≡ Stop (record { number = 8; place = at }) → Told r
+      pub unz-bad : not q ≡ true → {r : Result State Breach} → r ≡ Err (record { number = 8; place = at }) → Told r
       unz-bad n d = stop y.service.release s h l b next (at_8 y.version here ask at unz-may (alone (idle-here ph) g.kind refl e ∙ not-true q n)) d
 
       module _ (n : not q ≡ false) where
@@ -357,14 +354,14 @@ module _ (y : Syntax) (s : List ℕ) (st : State) (h l b : List ℕ) (at next : 
           unz-refs : refs_s here ask ≡ a
           unz-refs = by (λ (z : StateS) (k : Kind). refs_k z k ask) (idle-here ph) g.kind ∙ sym is
 
-          pub unz-other : not a ≡ true → {r : Step} → r ≡ Stop (record { number = 9; place = at }) → Told r
+          pub unz-other : not a ≡ true → {r : Result State Breach} → r ≡ Err (record { number = 9; place = at }) → Told r
           unz-other v d = stop y.service.release s h l b next (at_9 y.version here ask at unz-may (alone (idle-here ph) g.kind refl e ∙ not-false q n) (unz-refs ∙ not-true a v)) d
 
           module _ (v : not a ≡ false) {k w : ℕ} (number : k ≡ value_from 0 (text_at y.service s at 1 0)) (count : w ≡ st.count) where
             unz-counts : counts_s y.version here ask ≡ eqb (number_at ask 1) (size refs)
             unz-counts = by (λ (z : StateS) (k : Kind). counts_k y.version z k ask) (idle-here ph) g.kind
 
-            pub unz-wrong : (k ≡ w → ⊥) → {r : Step} → r ≡ Stop (record { number = 10; place = at }) → Told r
+            pub unz-wrong : (k ≡ w → ⊥) → {r : Result State Breach} → r ≡ Err (record { number = 10; place = at }) → Told r
             unz-wrong c d =
                 stop y.service.release s h l b next
                 (at-10 y.version here ask at unz-may (alone (idle-here ph) g.kind refl e ∙ not-false q n) (unz-refs ∙ not-false a v)
@@ -383,7 +380,7 @@ module _ (y : Syntax) (s : List ℕ) (st : State) (h l b : List ℕ) (at next : 
                   offered = λ c. done-shut c;
                 }
 
-            pub unz-read : k ≡ w → {x : State} → x ≡ after_other st Done st.count st.message → Told (On x)
+            pub unz-read : k ≡ w → {x : State} → x ≡ after_other st Done st.count st.message → Told (Ok x)
             unz-read c d =
                 go y.service.release s h l b next
                 (at-end y.version here ask at unz-may (alone (idle-here ph) g.kind refl e ∙ not-false q n) (unz-refs ∙ not-false a v)
@@ -421,14 +418,14 @@ module _ (y : Syntax) (s : List ℕ) (st : State) (h l b : List ℕ) (at next : 
       unt-order : order_s here ask ≡ m
       unt-order = by order_k (busy-here ph) g.kind ∙ sym may
 
-      pub unt-none : not m ≡ true → {r : Step} → r ≡ Stop (record { number = 7; place = at }) → Told r
+      pub unt-none : not m ≡ true → {r : Result State Breach} → r ≡ Err (record { number = 7; place = at }) → Told r
       unt-none z d = stop y.service.release s h l b next (at_7 y.version here ask at (unt-order ∙ not-true m z)) d
 
       module _ (some : not m ≡ false) {q : Bool} (e : q ≡ formed y.version ask) where
         unt-may : order_s here ask ≡ true
         unt-may = unt-order ∙ not-false m some
 
-        pub unt-bad : not q ≡ true → {r : Step} → r ≡ Stop (record { number = 8; place = at }) → Told r
+        pub unt-bad : not q ≡ true → {r : Result State Breach} → r ≡ Err (record { number = 8; place = at }) → Told r
         unt-bad n d = stop y.service.release s h l b next (at_8 y.version here ask at unt-may (alone (busy-here ph) g.kind refl e ∙ not-true q n)) d
 
         module _ (n : not q ≡ false) where
@@ -439,7 +436,7 @@ module _ (y : Syntax) (s : List ℕ) (st : State) (h l b : List ℕ) (at next : 
             unt-refs : refs_s here ask ≡ a
             unt-refs = by (λ (z : StateS) (k : Kind). refs_k z k ask) (busy-here ph) g.kind ∙ sym is
 
-            pub unt-other : not a ≡ true → {r : Step} → r ≡ Stop (record { number = 9; place = at }) → Told r
+            pub unt-other : not a ≡ true → {r : Result State Breach} → r ≡ Err (record { number = 9; place = at }) → Told r
             unt-other v d = stop y.service.release s h l b next (at_9 y.version here ask at unt-may (alone (busy-here ph) g.kind refl e ∙ not-false q n) (unt-refs ∙ not-true a v)) d
 
             module _ (v : not a ≡ false) {c : Bool}
@@ -450,7 +447,7 @@ module _ (y : Syntax) (s : List ℕ) (st : State) (h l b : List ℕ) (at next : 
                   by (λ (z : StateS) (k : Kind). counts_k y.version z k ask) (busy-here ph) g.kind
                   ∙ ap (λ (k : ℕ). eqb (number_at ask 1) k && (pairs_counted y.version st.message.pair && total_right st.message.sums)) i ∙ sym counts
 
-              pub unt-wrong : not c ≡ true → {r : Step} → r ≡ Stop (record { number = 10; place = at }) → Told r
+              pub unt-wrong : not c ≡ true → {r : Result State Breach} → r ≡ Err (record { number = 10; place = at }) → Told r
               unt-wrong w d =
                   stop y.service.release s h l b next
                   (at-10 y.version here ask at unt-may (alone (busy-here ph) g.kind refl e ∙ not-false q n) (unt-refs ∙ not-false a v) (unt-counts ∙ not-true c w)) d
@@ -479,7 +476,7 @@ module _ (y : Syntax) (s : List ℕ) (st : State) (h l b : List ℕ) (at next : 
                 unt-is = ap (λ (x : Snoc (List ℕ)). idle_s unbs x) unt-more ∙ sym (by (λ (x : StateS) (k : Kind). next_k x k ask) (busy-here ph) g.kind)
 
                 pub unt-read : {x : State} → x ≡ after_other st Idle (st.count + 1) st.message →
-                    StepIs (decided_from y.version (state_in y.service.release s st h l) (asked_at y.service s at) at) (On x) y.service.release s h l b' next
+                    StepIs (decided_from y.version (state_in y.service.release s st h l) (asked_at y.service s at) at) (Ok x) y.service.release s h l b' next
                 unt-read d =
                     go y.service.release s h l b' next
                     (at-end y.version here ask at unt-may (alone (busy-here ph) g.kind refl e ∙ not-false q n) (unt-refs ∙ not-false a v) (unt-counts ∙ not-false c w)

@@ -1,7 +1,8 @@
 -- What the code keeps follows the tree: the tests and the step on what is kept answer as the rules and the placing do. A law for each kind of segment.
-use Rattle.std.specs.Prelude.{ℕ, suc, Bool, true, false, cond, not, ◌&&◌, List, [], ◌∷◌, ◌≡◌, refl, T, eqb, ltb}
+use Rattle.grammar.specs.declared.Subset.{Subset}
+use Rattle.std.specs.Prelude.{ℕ, suc, Bool, true, false, cond, not, ◌&&◌, List, [], ◌∷◌, ◌≡◌, refl, T, eqb, ltb, Option, None, Some}
 use Rattle.std.proofs.lemmas.Bool.{false≢true}
-use Rattle.std.proofs.Math.Option.{Option, none, some, none-ne-some}
+use Rattle.std.proofs.Math.Option.{Option as Maybe, none, some, none-ne-some}
 use Rattle.std.proofs.Common.{ap, ◌∙◌, sym, subst}
 use Rattle.syntax.specs.Octets.{octets, same}
 use Rattle.syntax.specs.Cutting.{first_outside}
@@ -9,8 +10,7 @@ use Rattle.syntax.specs.Tree.{Segment, print_s}
 use Rattle.syntax.specs.declared.Syntax.{Syntax}
 use Rattle.syntax.specs.declared.Version.{Version}
 use Rattle.grammar.specs.Lists.{Snoc, nil, ◌▷◌, each, size, any, among, Rule, always, test, ◌and◌, holds, check, every, every_before}
-use Rattle.grammar.specs.declared.Subset.{Subset}
-use Rattle.grammar.specs.declared.Subset.TheVariants.{None, F01, Gs1}
+use Rattle.grammar.specs.declared.Subset.TheVariants.{F01, Gs1}
 use Rattle.grammar.proofs.ListsLaws.{each-size}
 use Rattle.grammar.specs.Segments as segments
 use Rattle.grammar.specs.Segments.{Name, Named, Free, Asked, asked, elements_of, tag_text, unb0020, unh0062, unt0062, unz0020, ush0534, ust0534, usy0534, unt0074, unz0036}
@@ -33,7 +33,7 @@ use Rattle.message.specs.FlagLaws.{alike, any-each, any-size, load-sums, control
 -- ---- what is to be shown of a segment of the kind k whose view is a: where it has no place, 7 is broken; where it has one, each test answers as its
 -- rule does, given the rules before it, and the step gives what is kept of the result
 
-pub data Follow (v : Version) (x : Reading) (k : Kind) (a : Asked) : Option Reading → Type 0 where
+pub data Follow (v : Version) (x : Reading) (k : Kind) (a : Asked) : Maybe Reading → Type 0 where
   nowhere : order_k (state_of x) k ≡ false → Follow v x k a none
   here : (z : Reading) → (check (order z) ≡ order_k (state_of x) k) × (check (subsets z) ≡ subset_k (state_of x) k a)
       → (holds (order z) → check (refs z) ≡ refs_k (state_of x) k a)
@@ -43,7 +43,7 @@ pub data Follow (v : Version) (x : Reading) (k : Kind) (a : Asked) : Option Read
 -- ---- small facts
 
 -- the last header has a USC, if the subset asks for one
-abbrev latest : Subset → Snoc Header → Rule
+abbrev latest : Option Subset → Snoc Header → Rule
 latest a nil = always
 latest a (hs ▷ x) = certified a x
 
@@ -53,29 +53,29 @@ heads h (hs ▷ header c us nil) = refl
 heads h (hs ▷ header c us (cs ▷ certificate d vs r)) = refl
 
 -- the last header and those before it
-latest-too : (a : Subset) (hs : Snoc Header) → holds (every_before (certified a) hs) → holds (latest a hs) → holds (every (certified a) hs)
+latest-too : (a : Option Subset) (hs : Snoc Header) → holds (every_before (certified a) hs) → holds (latest a hs) → holds (every (certified a) hs)
 latest-too a nil b l = tt
 latest-too a (hs ▷ x) b l = (b, l)
 
-latest-of : (a : Subset) (hs : Snoc Header) → holds (every (certified a) hs) → holds (latest a hs)
+latest-of : (a : Option Subset) (hs : Snoc Header) → holds (every (certified a) hs) → holds (latest a hs)
 latest-of a nil h = tt
 latest-of a (hs ▷ x) h = h.1
 
 -- what a subset checks of a segment is its elements, whatever the tag
-usc-row : (a : Subset) (g : Segment) → check (formed_in a segments.Usc (elements_of g)) ≡ subset_by Usc a (asked g)
+usc-row : (a : Option Subset) (g : Segment) → check (formed_in a segments.Usc (elements_of g)) ≡ subset_by Usc a (asked g)
 usc-row None g = refl
-usc-row F01 g = refl
-usc-row Gs1 g = refl
+usc-row (Some F01) g = refl
+usc-row (Some Gs1) g = refl
 
-usb-row : (a : Subset) (g : Segment) → check (formed_in a segments.Usb (elements_of g)) ≡ subset_by Usb a (asked g)
+usb-row : (a : Option Subset) (g : Segment) → check (formed_in a segments.Usb (elements_of g)) ≡ subset_by Usb a (asked g)
 usb-row None g = refl
-usb-row F01 g = refl
-usb-row Gs1 g = refl
+usb-row (Some F01) g = refl
+usb-row (Some Gs1) g = refl
 
-usx-row : (a : Subset) (g : Segment) → check (formed_in a segments.Usx (elements_of g)) ≡ subset_by Usx a (asked g)
+usx-row : (a : Option Subset) (g : Segment) → check (formed_in a segments.Usx (elements_of g)) ≡ subset_by Usx a (asked g)
 usx-row None g = refl
-usx-row F01 g = refl
-usx-row Gs1 g = refl
+usx-row (Some F01) g = refl
+usx-row (Some Gs1) g = refl
 
 items : (h : Leaf) (hs : Snoc Header) → at_items (group_of (msg h hs (plain nil) nil)) ≡ true
 items h nil = refl
@@ -204,12 +204,12 @@ module _ (y : Syntax) (u : Leaf) (ms : Snoc Message) (g : Segment) where
   ends h hs b ts q = as-autack h hs b ts q ∙ ap (λ (a : Bool). closes a (group_of (msg h hs b ts))) (sym (is-autack h))
 
   -- what the search for the header that a UST names finds
-  ust-found : (hs : Snoc Header) (names : Snoc (List ℕ)) (o : Option ℕ) → Spot (ust0534 (elements_of g)) hs names o
+  ust-found : (hs : Snoc Header) (names : Snoc (List ℕ)) (o : Maybe ℕ) → Spot (ust0534 (elements_of g)) hs names o
       → (not (among names (ust0534 (elements_of g))) && among (each ref_h hs) (ust0534 (elements_of g))) ≡ is_found o
   ust-found hs names o (no k) = k
   ust-found hs names o (yes i k l s f) = k
 
-  ust-next : (h : Leaf) (hs : Snoc Header) (b : Body) (ts : Snoc Trailer) (o : Option ℕ) → Spot (ust0534 (elements_of g)) hs (each ref_t ts) o
+  ust-next : (h : Leaf) (hs : Snoc Header) (b : Body) (ts : Snoc Trailer) (o : Maybe ℕ) → Spot (ust0534 (elements_of g)) hs (each ref_t ts) o
       → is_found o ≡ true
       → state_of (busy u ms (msg h hs b (ts ▷ trailer (elements_of g) none))) ≡ busy_s (unb0020 u) (each ref_m ms) (ust_next (summary_of (msg h hs b ts)) (asked g) o)
   ust-next h hs b ts o (no k) e = absurd (false≢true e)
@@ -542,23 +542,23 @@ follows y x g q = kind-follows y x g (segments.segment_kind g) refl q
 -- ---- each test, and the step
 
 module _ {v : Version} {x : Reading} {k : Kind} {a : Asked} where
-  order-of : (o : Option Reading) → Follow v x k a o → on order o ≡ order_k (state_of x) k
+  order-of : (o : Maybe Reading) → Follow v x k a o → on order o ≡ order_k (state_of x) k
   order-of o (nowhere e) = sym e
   order-of o (here z e r c s n) = e.0
 
-  refs-of : (o : Option Reading) → Follow v x k a o → (z : Reading) → o ≡ some z → holds (order z) → check (refs z) ≡ refs_k (state_of x) k a
+  refs-of : (o : Maybe Reading) → Follow v x k a o → (z : Reading) → o ≡ some z → holds (order z) → check (refs z) ≡ refs_k (state_of x) k a
   refs-of o (nowhere e) z p = absurd (none-ne-some _ p)
   refs-of o (here w e r c s n) z p = let h : w ≡ z = cc in subst (λ (v : Reading). holds (order v) → check (refs v) ≡ refs_k (state_of x) k a) h r
 
-  counts_of : (o : Option Reading) → Follow v x k a o → (z : Reading) → o ≡ some z → holds (order z) → holds (refs z) → check (counts v z) ≡ counts_k v (state_of x) k a
+  counts_of : (o : Maybe Reading) → Follow v x k a o → (z : Reading) → o ≡ some z → holds (order z) → holds (refs z) → check (counts v z) ≡ counts_k v (state_of x) k a
   counts_of o (nowhere e) z p = absurd (none-ne-some _ p)
   counts_of o (here w e r c s n) z p = let h : w ≡ z = cc in subst (λ (b : Reading). holds (order b) → holds (refs b) → check (counts v b) ≡ counts_k v (state_of x) k a) h c
 
-  scopes-of : (o : Option Reading) → Follow v x k a o → (z : Reading) → o ≡ some z → holds (order z) → check (scopes z) ≡ scope_k (state_of x) k a
+  scopes-of : (o : Maybe Reading) → Follow v x k a o → (z : Reading) → o ≡ some z → holds (order z) → check (scopes z) ≡ scope_k (state_of x) k a
   scopes-of o (nowhere e) z p = absurd (none-ne-some _ p)
   scopes-of o (here w e r c s n) z p = let h : w ≡ z = cc in subst (λ (v : Reading). holds (order v) → check (scopes v) ≡ scope_k (state_of x) k a) h s
 
-  next_of : (o : Option Reading) → Follow v x k a o → (z : Reading) → o ≡ some z → holds (order z) → holds (refs z) → state_of z ≡ next_k (state_of x) k a
+  next_of : (o : Maybe Reading) → Follow v x k a o → (z : Reading) → o ≡ some z → holds (order z) → holds (refs z) → state_of z ≡ next_k (state_of x) k a
   next_of o (nowhere e) z p = absurd (none-ne-some _ p)
   next_of o (here w e r c s n) z p = let h : w ≡ z = cc in subst (λ (v : Reading). holds (order v) → holds (refs v) → state_of v ≡ next_k (state_of x) k a) h n
 
@@ -611,7 +611,7 @@ pub follow : (y : Syntax) (x : Reading) (g : Segment) (p : ℕ) → Good y x
     ≡ decided_s (tests_s y (asked g) (check (inside_s y g)) (found_at p (first_outside y (print_s y.service g) p)) p (state_of x)) (next_s (state_of x) (asked g))
 follow y x g p q = by (place x g) (follows y x g q)
   where
-    by : (o : Option Reading) → Follow y.version x (tag_kind (tag_text g)) (asked g) o
+    by : (o : Maybe Reading) → Follow y.version x (tag_kind (tag_text g)) (asked g) o
         → answer_of (decided (tests y g p o) o)
         ≡ decided_s (tests_s y (asked g) (check (inside_s y g)) (found_at p (first_outside y (print_s y.service g) p)) p (state_of x)) (next_s (state_of x) (asked g))
     by o (nowhere e) = lost (found_at p (first_outside y (print_s y.service g) p)) p (check (inside_s y g)) (order_s (state_of x) (asked g)) _ e

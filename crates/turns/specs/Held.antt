@@ -1,5 +1,6 @@
 -- The walk as the code has it: what a look at a segment tells, the state that is kept, and a step.
-use Rattle.std.specs.Prelude.{ℕ, ◌+◌, ◌*◌, ◌≤◌, ◌≡◌, Bool, true, ◌&&◌, List, [], ◌∷◌, length, drop}
+use Rattle.syntax.specs.declared.Breach.{Breach}
+use Rattle.std.specs.Prelude.{ℕ, ◌+◌, ◌*◌, ◌≤◌, ◌≡◌, Bool, true, ◌&&◌, List, [], ◌∷◌, length, drop, Option, Result, Some, None, Ok, Err}
 use Rattle.std.proofs.Math.Seq.{slice}
 use Rattle.syntax.specs.Octets.{same}
 use Rattle.syntax.specs.Content.{content, compared}
@@ -9,8 +10,6 @@ use Rattle.syntax.specs.declared.Service.{Service}
 use Rattle.syntax.specs.declared.Syntax.{Syntax}
 use Rattle.syntax.specs.declared.cutting.Cut.{Cut}
 use Rattle.syntax.specs.declared.cutting.Cut.TheVariants.{Ends, Spoilt, Open}
-use Rattle.syntax.specs.declared.cutting.Tag.{Tag}
-use Rattle.syntax.specs.declared.cutting.Tag.TheVariants.{Is, Bad as NoTag}
 use Rattle.syntax.specs.declared.Version.{Version}
 use Rattle.grammar.specs.Segments.{Asked}
 use Rattle.grammar.specs.Lists.{Snoc}
@@ -30,42 +29,38 @@ use Rattle.turns.specs.declared.state.Phase.{Phase}
 use Rattle.turns.specs.declared.state.Phase.TheVariants.{Start, Idle, Busy, Done}
 use Rattle.turns.specs.declared.state.Stretch.{Stretch}
 use Rattle.turns.specs.declared.state.State.{State}
-use Rattle.turns.specs.declared.state.Step.{Step}
-use Rattle.turns.specs.declared.state.Step.TheVariants.{On, Stop}
 use Rattle.elements.specs.declared.Kind.{Kind}
-use Rattle.turns.specs.declared.state.Looked.{Looked}
-use Rattle.turns.specs.declared.state.Looked.TheVariants.{Seen, Bad}
 use Rattle.turns.specs.declared.state.Sight.{Sight}
 
-abbrev pub unseen_as : ℕ → ℕ → Looked
-unseen_as n p = Bad (record { number = n; place = p })
+abbrev pub unseen_as : ℕ → ℕ → Result (ℕ × Kind) Breach
+unseen_as n p = Err (record { number = n; place = p })
 
 -- "Others: 4, 3, ..": the cut, once the tag is good and gives this kind
-abbrev pub seen_in : Cut → Kind → ℕ → Looked
-seen_in (Ends e) k p = Seen e k
+abbrev pub seen_in : Cut → Kind → ℕ → Result (ℕ × Kind) Breach
+seen_in (Ends e) k p = Ok (e, k)
 seen_in (Spoilt e q) k p = unseen_as 3 q
 seen_in Open k p = unseen_as 4 p
 
-abbrev pub seen_as : Cut → ℕ → ℕ → ℕ → ℕ → Looked
+abbrev pub seen_as : Cut → ℕ → ℕ → ℕ → ℕ → Result (ℕ × Kind) Breach
 seen_as x a b c p = seen_in x (tag_kind (a ∷ b ∷ c ∷ [])) p
 
-abbrev pub seen_by : Cut → Tag → ℕ → Looked
-seen_by x NoTag p = unseen_as 4 p
-seen_by x (Is a b c) p = seen_as x a b c p
+abbrev pub seen_by : Cut → Option (ℕ × ℕ × ℕ) → ℕ → Result (ℕ × Kind) Breach
+seen_by x None p = unseen_as 4 p
+seen_by x (Some (a, b, c)) p = seen_as x a b c p
 
-abbrev pub looked_at : Syntax → List ℕ → ℕ → Looked
+abbrev pub looked_at : Syntax → List ℕ → ℕ → Result (ℕ × Kind) Breach
 looked_at y s p = seen_by (cut_at y s p) (tag_of y.service (drop p s)) p
 
 -- a look at a segment of kind k, with its fields in the marks if it was seen
 pub record Entered (y : Syntax) (s : List ℕ) (p : ℕ) (k : Kind) (r : Sight) (m : List ℕ) : Type 0 where
   pub look : r.looked ≡ seen_in (cut_at y s p) k p
-  pub noted : (e : ℕ) (k' : Kind) → r.looked ≡ Seen e k' → Fields y.service s p r.shape.size r.shape.repeats m
+  pub noted : (e : ℕ) (k' : Kind) → r.looked ≡ Ok (e, k') → Fields y.service s p r.shape.size r.shape.repeats m
   pub marks : length m ≡ 40
 
 -- a look at a segment, with its fields in the marks if it was seen and is looked into
 pub record Sighted (y : Syntax) (s : List ℕ) (p : ℕ) (r : Sight) (m : List ℕ) : Type 0 where
   pub look : r.looked ≡ looked_at y s p
-  pub noted : (e : ℕ) (k : Kind) → r.looked ≡ Seen e k → looked k ≡ true → Fields y.service s p r.shape.size r.shape.repeats m
+  pub noted : (e : ℕ) (k : Kind) → r.looked ≡ Ok (e, k) → looked k ≡ true → Fields y.service s p r.shape.size r.shape.repeats m
   pub marks : length m ≡ 40
 
 -- ---- the state that is kept
@@ -131,11 +126,11 @@ decided_from v S a p =
     (next_s S a)
 
 -- the code's step has this answer; h, l and b are the arrays as they are left, i the place of what comes next
-abbrev pub StepIs : AnswerS → Step → ℕ → List ℕ → List ℕ → List ℕ → List ℕ → ℕ → Type 0
-StepIs (read_s S) (On x) ρ s h l b i = (state_in ρ s x h l ≡ S) × Held ρ s x h l b i
-StepIs (read_s S) (Stop f) ρ s h l b i = ⊥
-StepIs (refused_s n p) (On x) ρ s h l b i = ⊥
-StepIs (refused_s n p) (Stop f) ρ s h l b i = (f.number ≡ n) × (f.place ≡ p)
+abbrev pub StepIs : AnswerS → Result State Breach → ℕ → List ℕ → List ℕ → List ℕ → List ℕ → ℕ → Type 0
+StepIs (read_s S) (Ok x) ρ s h l b i = (state_in ρ s x h l ≡ S) × Held ρ s x h l b i
+StepIs (read_s S) (Err f) ρ s h l b i = ⊥
+StepIs (refused_s n p) (Ok x) ρ s h l b i = ⊥
+StepIs (refused_s n p) (Err f) ρ s h l b i = (f.number ≡ n) × (f.place ≡ p)
 
 -- a segment at p, whole and inside, with what was noted of it: its kind k, and if it is looked into, its fields. Behind it q octets are read, and there is
 -- room for the open message's reference

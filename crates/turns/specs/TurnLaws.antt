@@ -1,7 +1,7 @@
 -- One turn of the walk over segments, stated over octets: where the rest is over, has no end, has a bad tag, or starts with a segment.
-use Rattle.std.specs.Prelude.{ℕ, zero, suc, ◌+◌, ◌-◌, ◌≤◌, ◌<◌, List, [], ◌∷◌, ◌++◌, ◌≡◌, refl, Bool, true, false, cond, not, ◌&&◌, T, eqb, leb, length, get_or, take, drop}
+use Rattle.std.specs.Prelude.{ℕ, zero, suc, ◌+◌, ◌-◌, ◌≤◌, ◌<◌, List, [], ◌∷◌, ◌++◌, ◌≡◌, refl, Bool, true, false, cond, not, ◌&&◌, T, eqb, leb, length, get_or, take, drop, Option, Some, None}
 use Rattle.std.proofs.Common.{arith, append-nil, ap, sym, ◌∙◌, subst, leb-true, leb-false, take-append-drop, drop_of_length-le, drop-cons, drop-drop, take_at, drop_at}
-use Rattle.std.proofs.Math.Option.{Option, none, some, none-ne-some}
+use Rattle.std.proofs.Math.Option.{Option as Maybe, none, some, none-ne-some}
 use Rattle.std.proofs.Math.Path.{fun_ext}
 use Rattle.std.proofs.Math.Dec.{eqb-suc-zero}
 use Rattle.std.proofs.Math.Seq.{slice}
@@ -18,10 +18,7 @@ use Rattle.syntax.proofs.ReaderLaws.{chain-print, read_back, no_place, same_plac
 use Rattle.syntax.proofs.BridgeLaws.{alone, bridge}
 use Rattle.syntax.specs.declared.Service.{Service}
 use Rattle.syntax.specs.declared.Syntax.{Syntax}
-use Rattle.syntax.specs.declared.Found.{Found}
-use Rattle.syntax.specs.declared.Found.TheVariants.{At, Nothing}
 use Rattle.syntax.specs.declared.cutting.Cut.TheVariants.{Ends, Spoilt, Open}
-use Rattle.syntax.specs.declared.cutting.Tag.TheVariants.{Is, Bad}
 use Rattle.grammar.specs.Lists.{check}
 use Rattle.grammar.specs.Segments.{Asked, asked, tag_text, element_content}
 use Rattle.grammar.specs.Interchange.{Reading}
@@ -94,9 +91,9 @@ record Parted (σ : Service) (f : Bool) (s : List ℕ) (k : ℕ) : Type 0 where
   pub whole : chain σ f s ≡ open' c cs rs es (chain σ false (drop (suc k) s))
   pub alone : chain σ f (take (suc k) s) ≡ open' c cs rs es over
   pub size : length (take (suc k) s) ≡ suc k
-  pub stops : (j : ℕ) → stop_from σ 5 f s j ≡ At (j + k)
+  pub stops : (j : ℕ) → stop_from σ 5 f s j ≡ Some (j + k)
 
-some-place : (e : ℕ) → At e ≡ Nothing → ⊥
+some-place : (e : ℕ) → Some e ≡ None → ⊥
 some-place e h = let z : ◌≡◌ {A = ℕ} 0 1 = cc in omega arith
 
 module _ (σ : Service) where
@@ -112,7 +109,7 @@ module _ (σ : Service) where
         whole = ends-here σ (kind_of σ b) b s l;
         alone = ends-here σ (kind_of σ b) b [] l;
         size = refl;
-        stops = λ j. rw q (ap At (omega arith));
+        stops = λ j. rw q (ap Some (omega arith));
       }
 
   part-on : (f : Bool) (b : ℕ) (s : List ℕ) (k : ℕ) → leb 5 (kind σ f b) ≡ false → Parted σ (eqb (kind σ f b) 0) s k → Parted σ f (b ∷ s) (suc k)
@@ -126,16 +123,16 @@ module _ (σ : Service) where
         whole = ap (emit f (kind σ f b) b) p.whole ∙ m.4 (chain σ false (drop (suc k) s));
         alone = ap (emit f (kind σ f b) b) p.alone ∙ m.4 over;
         size = ap suc p.size;
-        stops = λ j. rw q (p.stops (suc j) ∙ ap At (omega arith));
+        stops = λ j. rw q (p.stops (suc j) ∙ ap Some (omega arith));
       }
 
   -- where a terminator is found the octets part behind it
-  parted : (f : Bool) (s : List ℕ) (i e : ℕ) → stop_from σ 5 f s i ≡ At e → (k : ℕ) × (e ≡ i + k) × Parted σ f s k
+  parted : (f : Bool) (s : List ℕ) (i e : ℕ) → stop_from σ 5 f s i ≡ Some e → (k : ℕ) × (e ≡ i + k) × Parted σ f s k
   parted f [] i e h = absurd (no_place e h)
   parted f (b ∷ s) i e h = by (leb 5 (kind σ f b)) refl h (parted (eqb (kind σ f b) 0) s (suc i) e)
     where
-      by : (t : Bool) → leb 5 (kind σ f b) ≡ t → cond t (At i) (stop_from σ 5 (eqb (kind σ f b) 0) s (suc i)) ≡ At e
-          → (stop_from σ 5 (eqb (kind σ f b) 0) s (suc i) ≡ At e → (k : ℕ) × (e ≡ suc i + k) × Parted σ (eqb (kind σ f b) 0) s k)
+      by : (t : Bool) → leb 5 (kind σ f b) ≡ t → cond t (Some i) (stop_from σ 5 (eqb (kind σ f b) 0) s (suc i)) ≡ Some e
+          → (stop_from σ 5 (eqb (kind σ f b) 0) s (suc i) ≡ Some e → (k : ℕ) × (e ≡ suc i + k) × Parted σ (eqb (kind σ f b) 0) s k)
           → (k : ℕ) × (e ≡ i + k) × Parted σ f (b ∷ s) k
       by true q h ih = let p : i ≡ e = same_place i e h in (0, omega (arith, p), part-here f b s q)
       by false q h ih = let r = ih h in (suc r.0, omega (arith, r.1), part-on f b s r.0 q r.2)
@@ -165,16 +162,16 @@ module _ (σ : Service) where
   last-left f zero b l = low-left f 0 b l
   last-left f (suc k) b l = rw eqb-suc-zero (low-over f (suc k) b l (omega arith))
 
-  none_left : (f : Bool) (b : ℕ) (s : List ℕ) (i : ℕ) → stop_from σ 5 f (b ∷ s) i ≡ Nothing → chain σ f (b ∷ s) ≡ left
+  none_left : (f : Bool) (b : ℕ) (s : List ℕ) (i : ℕ) → stop_from σ 5 f (b ∷ s) i ≡ None → chain σ f (b ∷ s) ≡ left
   none_left f b [] i h = by (leb 5 (kind σ f b)) refl h
     where
-      by : (t : Bool) → leb 5 (kind σ f b) ≡ t → cond t (At i) Nothing ≡ Nothing → chain σ f (b ∷ []) ≡ left
+      by : (t : Bool) → leb 5 (kind σ f b) ≡ t → cond t (Some i) None ≡ None → chain σ f (b ∷ []) ≡ left
       by true q h = absurd (some-place i h)
       by false q h = last-left f (kind σ f b) b (leb-false 5 (kind σ f b) q)
   none_left f b (d ∷ s) i h = by (leb 5 (kind σ f b)) refl h (none_left (eqb (kind σ f b) 0) d s (suc i))
     where
-      by : (t : Bool) → leb 5 (kind σ f b) ≡ t → cond t (At i) (stop_from σ 5 (eqb (kind σ f b) 0) (d ∷ s) (suc i)) ≡ Nothing
-          → (stop_from σ 5 (eqb (kind σ f b) 0) (d ∷ s) (suc i) ≡ Nothing → chain σ (eqb (kind σ f b) 0) (d ∷ s) ≡ left) → chain σ f (b ∷ d ∷ s) ≡ left
+      by : (t : Bool) → leb 5 (kind σ f b) ≡ t → cond t (Some i) (stop_from σ 5 (eqb (kind σ f b) 0) (d ∷ s) (suc i)) ≡ None
+          → (stop_from σ 5 (eqb (kind σ f b) 0) (d ∷ s) (suc i) ≡ None → chain σ (eqb (kind σ f b) 0) (d ∷ s) ≡ left) → chain σ f (b ∷ d ∷ s) ≡ left
       by true q h ih = absurd (some-place i h)
       by false q h ih = ap (emit f (kind σ f b) b) (ih h) ∙ low-left f (kind σ f b) b (leb-false 5 (kind σ f b) q)
 
@@ -183,14 +180,14 @@ module _ (σ : Service) where
   turn-over s i l = ap (chain σ false) (drop_of_length-le s l)
 
   -- where octets are left and no terminator ends them, they are left in the chain
-  pub turn-left : (s : List ℕ) (i : ℕ) → i < length s → end_at σ s i ≡ Nothing → chain σ false (drop i s) ≡ left
+  pub turn-left : (s : List ℕ) (i : ℕ) → i < length s → end_at σ s i ≡ None → chain σ false (drop i s) ≡ left
   turn-left s i l h =
       let d : drop i s ≡ get_or s i 0 ∷ drop (suc i) s = drop-cons s i 0 l in
       ap (chain σ false) d ∙ none_left false (get_or s i 0) (drop (suc i) s) i (ap (λ (u : List ℕ). stop_from σ 5 false u i) (sym d) ∙ h)
 
 -- ---- the first segment of a chain
 
-before-one : (o : Option Segment) (g : Segment) → before o (some []) ≡ some (g ∷ []) → o ≡ some g
+before-one : (o : Maybe Segment) (g : Segment) → before o (some []) ≡ some (g ∷ []) → o ≡ some g
 before-one none g e = absurd (none-ne-some (g ∷ []) e)
 before-one (some h) g e = let k : h ≡ g = cc in ap some k
 
@@ -201,7 +198,7 @@ pub print-some : (σ : Service) (g : Segment) → 0 < length (print_s σ g)
 print-some σ (segment a b c es) = omega arith
 
 -- the chain of s is open, o is what is cut there, and r is behind it
-pub record Opens (σ : Service) (s : List ℕ) (o : Option Segment) (r : List ℕ) : Type 0 where
+pub record Opens (σ : Service) (s : List ℕ) (o : Maybe Segment) (r : List ℕ) : Type 0 where
   pub c : Component
   pub cs : List Component
   pub rs : List Repeat
@@ -255,7 +252,7 @@ chain-tree σ f x y z es w r =
 
 -- ---- a bad tag, a good tag
 
-not-bad : (a b c : ℕ) → Is a b c ≡ Bad → ⊥
+not-bad : (a b c : ℕ) → ◌≡◌ {A = Option (ℕ × ℕ × ℕ)} (Some (a, b, c)) None → ⊥
 not-bad a b c h = let z : ◌≡◌ {A = ℕ} 0 1 = cc in omega arith
 
 -- behind the terminator
@@ -263,7 +260,7 @@ next-drop : (s : List ℕ) (i e k : ℕ) → e ≡ i + k → drop (suc k) (drop 
 next-drop s i e k h = let n : i + suc k ≡ e + 1 = omega (arith, h) in drop-drop (suc k) i s ∙ ap (λ (n : ℕ). drop n s) n
 
 -- a segment that ends and has a bad tag opens the chain and is cut as none
-pub turn-bad : (σ : Service) → T (fit σ) → (s : List ℕ) (i e : ℕ) → end_at σ s i ≡ At e → tag_of σ (drop i s) ≡ Bad → Opens σ (drop i s) none (drop (e + 1) s)
+pub turn-bad : (σ : Service) → T (fit σ) → (s : List ℕ) (i e : ℕ) → end_at σ s i ≡ Some e → tag_of σ (drop i s) ≡ None → Opens σ (drop i s) none (drop (e + 1) s)
 turn-bad σ f s i e h t = by (parted σ false (drop i s) i e h)
   where
     by : (k : ℕ) × (e ≡ i + k) × Parted σ false (drop i s) k → Opens σ (drop i s) none (drop (e + 1) s)
@@ -277,10 +274,10 @@ turn-bad σ f s i e h t = by (parted σ false (drop i s) i e h)
           first = cuts (cut p.c p.cs p.rs p.es) refl;
         }
       where
-        cuts : (o : Option Segment) → cut p.c p.cs p.rs p.es ≡ o → o ≡ none
+        cuts : (o : Maybe Segment) → cut p.c p.cs p.rs p.es ≡ o → o ≡ none
         cuts none q = refl
         cuts (some (segment x y z us)) q =
-            let m : gathered (chain σ false (take (suc k) (drop i s))) ≡ some (segment x y z us ∷ []) = ap gathered p.alone ∙ ap (λ (o : Option Segment). before o (some [])) q in
+            let m : gathered (chain σ false (take (suc k) (drop i s))) ≡ some (segment x y z us ∷ []) = ap gathered p.alone ∙ ap (λ (o : Maybe Segment). before o (some [])) q in
             let w = read_back σ f (take (suc k) (drop i s)) (segment x y z us ∷ []) m in
             let d : print_s σ (segment x y z us) ++ drop (suc k) (drop i s) ≡ drop i s =
             ap (λ (l : List ℕ). l ++ drop (suc k) (drop i s)) (sym (print-one σ (segment x y z us)) ∙ w.1) ∙ take-append-drop (suc k) (drop i s) in
@@ -297,12 +294,12 @@ pub record Stands (σ : Service) (s : List ℕ) (i e a b c : ℕ) : Type 0 where
   pub asked : asked_at σ s i ≡ asked g
 
 -- where octets end in a terminator and have a good tag a segment stands there
-pub turn-good : (σ : Service) → T (fit σ) → (s : List ℕ) (i e a b c : ℕ) → end_at σ s i ≡ At e → tag_of σ (drop i s) ≡ Is a b c → Stands σ s i e a b c
+pub turn-good : (σ : Service) → T (fit σ) → (s : List ℕ) (i e a b c : ℕ) → end_at σ s i ≡ Some e → tag_of σ (drop i s) ≡ Some (a, b, c) → Stands σ s i e a b c
 turn-good σ f s i e a b c h t = by (parted σ false (drop i s) i e h)
   where
     by : (k : ℕ) × (e ≡ i + k) × Parted σ false (drop i s) k → Stands σ s i e a b c
     by (k, n, p) =
-        let x = first-there σ f (drop i s) k a b c (p.stops 0 ∙ ap At (omega arith)) t in
+        let x = first-there σ f (drop i s) k a b c (p.stops 0 ∙ ap Some (omega arith)) t in
         let g : Segment = segment a b c x.0 in
         let d : drop i s ≡ print_s σ g ++ drop (e + 1) s =
         sym (take-append-drop (suc k) (drop i s))
@@ -323,12 +320,12 @@ turn-good σ f s i e a b c h t = by (parted σ false (drop i s) i e h)
 -- ---- one turn of the walk
 
 -- where the chain is open, the walk goes by what is cut
-opens-walk : (y : Syntax) (x : Reading) (s : List ℕ) (i : ℕ) (o : Option Segment) (r : List ℕ) → Opens y.service s o r
+opens-walk : (y : Syntax) (x : Reading) (s : List ℕ) (i : ℕ) (o : Maybe Segment) (r : List ℕ) → Opens y.service s o r
     → walk y x (chain y.service false s) i ≡ unless-done x i (tagged-or i o
     (λ (g : Segment). then (decided (tests y g i (place x g)) (place x g)) (λ (z : Reading). walk y z (chain y.service false r) (i + length (print_s y.service g)))))
 opens-walk y x s i o r p =
     ap (λ (n : Chain). walk y x n i) p.whole
-    ∙ ap (λ (q : Option Segment). unless-done x i (tagged-or i q
+    ∙ ap (λ (q : Maybe Segment). unless-done x i (tagged-or i q
     (λ (g : Segment). then (decided (tests y g i (place x g)) (place x g)) (λ (z : Reading). walk y z (chain y.service false r) (i + length (print_s y.service g))))))
     p.first
 
@@ -338,7 +335,7 @@ found-anywhere y [] i j = refl
 found-anywhere y (b ∷ s) i j = by (outside y b) (found-anywhere y s (suc i) (suc j))
   where
     by : (t : Bool) → is_there (first_outside y s (suc i)) ≡ is_there (first_outside y s (suc j))
-        → is_there (cond t (At i) (first_outside y s (suc i))) ≡ is_there (cond t (At j) (first_outside y s (suc j)))
+        → is_there (cond t (Some i) (first_outside y s (suc i))) ≡ is_there (cond t (Some j) (first_outside y s (suc j)))
     by true h = refl
     by false h = h
 
@@ -353,7 +350,7 @@ pub record Turned (y : Syntax) (x : Reading) (s : List ℕ) (i e a b c : ℕ) : 
   pub high : e < length s
   pub octets : print_s y.service g ≡ slice i (e + 1) s
   pub asked : asked_at y.service s i ≡ asked g
-  pub bad : cut_at y s i ≡ cut_by (At e) (first_outside y (print_s y.service g) i)
+  pub bad : cut_at y s i ≡ cut_by (Some e) (first_outside y (print_s y.service g) i)
   pub outside : check (inside_s y g) ≡ not (is_there (first_outside y (print_s y.service g) i))
   pub goes : walk y x (chain y.service false (drop i s)) i
       ≡ unless-done x i (then (decided (tests y g i (place x g)) (place x g)) (λ (z : Reading). walk y z (chain y.service false (drop (e + 1) s)) (e + 1)))
@@ -364,16 +361,16 @@ module _ (y : Syntax) (x : Reading) (s : List ℕ) (i : ℕ) where
   walk-over l = ap (λ (n : Chain). walk y x n i) (turn-over y.service s i l)
 
   -- where octets are left and no terminator ends them: 4
-  pub walk_none : i < length s → end_at y.service s i ≡ Nothing → walk y x (chain y.service false (drop i s)) i ≡ unless-done x i (refused 4 i)
+  pub walk_none : i < length s → end_at y.service s i ≡ None → walk y x (chain y.service false (drop i s)) i ≡ unless-done x i (refused 4 i)
   walk_none l h = ap (λ (n : Chain). walk y x n i) (turn-left y.service s i l h)
 
-  module _ (f : T (fit y.service)) {e : ℕ} (h : end_at y.service s i ≡ At e) where
+  module _ (f : T (fit y.service)) {e : ℕ} (h : end_at y.service s i ≡ Some e) where
     -- where a segment ends and has a bad tag: 4
-    pub walk-bad : tag_of y.service (drop i s) ≡ Bad → walk y x (chain y.service false (drop i s)) i ≡ unless-done x i (refused 4 i)
+    pub walk-bad : tag_of y.service (drop i s) ≡ None → walk y x (chain y.service false (drop i s)) i ≡ unless-done x i (refused 4 i)
     walk-bad t = opens-walk y x (drop i s) i none (drop (e + 1) s) (turn-bad y.service f s i e h t)
 
     -- where a segment ends and has a good tag: its tests decide, and the walk goes on behind it
-    pub walk_turn : {a b c : ℕ} → tag_of y.service (drop i s) ≡ Is a b c → Turned y x s i e a b c
+    pub walk_turn : {a b c : ℕ} → tag_of y.service (drop i s) ≡ Some (a, b, c) → Turned y x s i e a b c
     walk_turn {a} {b} {c} t =
         let k = turn-good y.service f s i e a b c h t in
         let l = stop-in y.service 5 s (omega arith) i e h in
@@ -390,8 +387,8 @@ module _ (y : Syntax) (x : Reading) (s : List ℕ) (i : ℕ) where
           high = l.1;
           octets = k.octets;
           asked = k.asked;
-          bad = ap (λ (q : Found). cut_by q (first_outside y (stretch s i q) i)) h
-              ∙ ap (λ (u : List ℕ). cut_by (At e) (first_outside y u i)) (ap (λ (m : ℕ). slice i m s) (sym n) ∙ sym k.octets);
+          bad = ap (λ (q : Option ℕ). cut_by q (first_outside y (stretch s i q) i)) h
+              ∙ ap (λ (u : List ℕ). cut_by (Some e) (first_outside y u i)) (ap (λ (m : ℕ). slice i m s) (sym n) ∙ sym k.octets);
           outside = ap not (found-anywhere y (print_s y.service k.g) 0 i);
           goes = opens-walk y x (drop i s) i (some k.g) (drop (e + 1) s) o
               ∙ ap (λ (m : ℕ). unless-done x i (then (decided (tests y k.g i (place x k.g)) (place x k.g))
@@ -409,47 +406,47 @@ never-spoilt-open h = let z : ◌≡◌ {A = ℕ} 0 1 = cc in let w : ⊥ = omeg
 never_both : {A : Type 0} {e e' b : ℕ} → Spoilt e b ≡ Ends e' → A
 never_both h = let z : ◌≡◌ {A = ℕ} 0 1 = cc in let w : ⊥ = omega arith in absurd w
 
-by-open : (q r : Found) → cut_by q r ≡ Open → q ≡ Nothing
-by-open Nothing r h = refl
-by-open (At e) Nothing h = never-open h
-by-open (At e) (At b) h = never-spoilt-open h
+by-open : (q r : Option ℕ) → cut_by q r ≡ Open → q ≡ None
+by-open None r h = refl
+by-open (Some e) None h = never-open h
+by-open (Some e) (Some b) h = never-spoilt-open h
 
-by-ends : (q r : Found) {e : ℕ} → cut_by q r ≡ Ends e → (q ≡ At e) × (r ≡ Nothing)
-by-ends Nothing r h = never-open (sym h)
-by-ends (At e) Nothing h = (cc, refl)
-by-ends (At e) (At b) h = never_both h
+by-ends : (q r : Option ℕ) {e : ℕ} → cut_by q r ≡ Ends e → (q ≡ Some e) × (r ≡ None)
+by-ends None r h = never-open (sym h)
+by-ends (Some e) None h = (cc, refl)
+by-ends (Some e) (Some b) h = never_both h
 
-by-spoilt : (q r : Found) {e b : ℕ} → cut_by q r ≡ Spoilt e b → (q ≡ At e) × (r ≡ At b)
-by-spoilt Nothing r h = never-spoilt-open (sym h)
-by-spoilt (At e) Nothing h = never_both (sym h)
-by-spoilt (At e) (At b) h = (cc, cc)
+by-spoilt : (q r : Option ℕ) {e b : ℕ} → cut_by q r ≡ Spoilt e b → (q ≡ Some e) × (r ≡ Some b)
+by-spoilt None r h = never-spoilt-open (sym h)
+by-spoilt (Some e) None h = never_both (sym h)
+by-spoilt (Some e) (Some b) h = (cc, cc)
 
 module _ (y : Syntax) (s : List ℕ) (i : ℕ) where
   -- a cut that is open has no end
-  pub cut-open : cut_at y s i ≡ Open → end_at y.service s i ≡ Nothing
+  pub cut-open : cut_at y s i ≡ Open → end_at y.service s i ≡ None
   cut-open h = by-open (end_at y.service s i) (first_outside y (stretch s i (end_at y.service s i)) i) h
 
   -- a cut that ends has this end
-  pub cut-ends : {e : ℕ} → cut_at y s i ≡ Ends e → end_at y.service s i ≡ At e
+  pub cut-ends : {e : ℕ} → cut_at y s i ≡ Ends e → end_at y.service s i ≡ Some e
   cut-ends h = (by-ends (end_at y.service s i) (first_outside y (stretch s i (end_at y.service s i)) i) h).0
 
   -- and so has one that is spoilt
-  pub cut-spoilt : {e b : ℕ} → cut_at y s i ≡ Spoilt e b → end_at y.service s i ≡ At e
+  pub cut-spoilt : {e b : ℕ} → cut_at y s i ≡ Spoilt e b → end_at y.service s i ≡ Some e
   cut-spoilt h = (by-spoilt (end_at y.service s i) (first_outside y (stretch s i (end_at y.service s i)) i) h).0
 
 module _ {y : Syntax} {x : Reading} {s : List ℕ} {i e a b c : ℕ} (t : Turned y x s i e a b c) where
   -- a cut that ends passes test 3
   pub turned-inside : {q : ℕ} → cut_at y s i ≡ Ends q → check (inside_s y t.g) ≡ true
-  turned-inside h = t.outside ∙ ap (λ (r : Found). not (is_there r)) (by-ends (At e) (first_outside y (print_s y.service t.g) i) (sym t.bad ∙ h)).1
+  turned-inside h = t.outside ∙ ap (λ (r : Option ℕ). not (is_there r)) (by-ends (Some e) (first_outside y (print_s y.service t.g) i) (sym t.bad ∙ h)).1
 
   -- a cut that is spoilt does not
   pub turned-spoilt : {q p : ℕ} → cut_at y s i ≡ Spoilt q p → check (inside_s y t.g) ≡ false
-  turned-spoilt h = t.outside ∙ ap (λ (r : Found). not (is_there r)) (by-spoilt (At e) (first_outside y (print_s y.service t.g) i) (sym t.bad ∙ h)).1
+  turned-spoilt h = t.outside ∙ ap (λ (r : Option ℕ). not (is_there r)) (by-spoilt (Some e) (first_outside y (print_s y.service t.g) i) (sym t.bad ∙ h)).1
 
   -- and tells the place of test 3
   pub turned-place : {q p : ℕ} → cut_at y s i ≡ Spoilt q p → found_at i (first_outside y (print_s y.service t.g) i) ≡ p
-  turned-place h = ap (found_at i) (by-spoilt (At e) (first_outside y (print_s y.service t.g) i) (sym t.bad ∙ h)).1
+  turned-place h = ap (found_at i) (by-spoilt (Some e) (first_outside y (print_s y.service t.g) i) (sym t.bad ∙ h)).1
 
   -- so a spoilt segment is refused with 3 at that octet
-  pub turned-three : {q p : ℕ} → cut_at y s i ≡ Spoilt q p → (o : Option Reading) → decided (tests y t.g i o) o ≡ refused 3 p
+  pub turned-three : {q p : ℕ} → cut_at y s i ≡ Spoilt q p → (o : Maybe Reading) → decided (tests y t.g i o) o ≡ refused 3 p
   turned-three h o = rw (turned-spoilt h) (ap (refused 3) (turned-place h))

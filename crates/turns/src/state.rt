@@ -1,8 +1,7 @@
 // What is kept of what was read so far, and the turn of one segment in it.
-ghost use Rattle.std.specs.Prelude.{◌≡◌, true, false, ◌&&◌, List, ℕ, ◌+◌, ◌≤◌, ◌<◌, T, eqb, length};
+ghost use Rattle.std.specs.Prelude.{◌≡◌, true, false, ◌&&◌, List, ℕ, ◌+◌, ◌≤◌, ◌<◌, T, eqb, length, Err};
 ghost use Rattle.std.proofs.Math.Seq.{slice};
 ghost use Rattle.syntax.specs.Service.{fit};
-ghost use Rattle.syntax.specs.Classes.{Table};
 ghost use Rattle.grammar.specs.Elements.{in_range, digits, formed};
 ghost use Rattle.grammar.specs.Rules.{subset_of};
 ghost use Rattle.elements.specs.Kinds.{tag_kind};
@@ -16,7 +15,7 @@ ghost use Rattle.elements.specs.Formed.{looked};
 ghost use Rattle.turns.specs.declared.state.Phase.TheVariants.{Start, Idle, Busy, Done};
 ghost use Rattle.elements.specs.declared.Kind.TheVariants.{Unb, Unh, Unt, Unz, Ust};
 
-use elements::fields::{Pass, Shape, field, field_end, field_start, fields};
+use elements::fields::{Shape, field, field_end, field_start, fields};
 use elements::formed::{end_formed, unb_formed, unh_formed};
 use elements::subset::formed_in;
 use elements::{Kind, kind_of};
@@ -25,14 +24,15 @@ use message::heads::all_named;
 use message::items::{on_cnt, on_other, on_qty, on_usb};
 use message::kept::{fresh_message, grown_to, pairs_right, totals_right, usa_group, usc_group};
 use message::order::may_come;
-use message::steps::{Moved, in_header, number_in, on_ush, on_usr, on_ust, on_usy};
+use message::steps::{in_header, number_in, on_ush, on_usr, on_ust, on_usy};
 use message::{Group, Message, Pair};
 use references::refs::{note, offer};
+use syntax::classes::Classes;
 use syntax::content::{bare, content_is, part, same_reference};
-use syntax::cutting::{Cut, Tag, scan, tag_in};
+use syntax::cutting::{Cut, scan, tag_in};
 use syntax::opening::is_earlier;
 use syntax::reading::component_part;
-use syntax::{Breach, Found, Syntax, Version};
+use syntax::{Breach, Syntax, Version};
 
 // Where the interchange stands: before UNB, between messages, in one, behind UNZ.
 #[derive(Clone, Copy)]
@@ -62,23 +62,10 @@ pub struct State {
     pub phase: Phase,
 }
 
-#[derive(Clone, Copy)]
-pub enum Step {
-    On(State),
-    Stop(Breach),
-}
-
-// A segment that can be read: its end and kind; or 4, or 3.
-#[derive(Clone, Copy)]
-pub enum Looked {
-    Seen(usize, Kind),
-    Bad(Breach),
-}
-
-// .. and if it is looked into, its shape; its fields are then in the marks.
+// A segment that can be read: its end and kind, or 4, or 3; and if it is looked into, its shape: its fields are then in the marks.
 #[derive(Clone, Copy)]
 pub struct Sight {
-    pub looked: Looked,
+    pub looked: Result<(usize, Kind), Breach>,
     pub shape: Shape,
 }
 
@@ -90,33 +77,24 @@ pub struct Ahead {
     pub kind: Kind,
 }
 
-#[derive(Clone, Copy)]
-pub enum Advanced {
-    On(Ahead),
-    Stop(Breach),
-}
-
-fn unseen(number: u8, place: usize) -> Looked
+fn unseen(number: u8, place: usize) -> Result<(usize, Kind), Breach>
     ensures { result ≡ unseen_as number place }
 {
-    Looked::Bad(Breach {
-        number: number,
-        place: place,
-    })
+    Err(Breach { number, place })
 }
 
-fn seen(c: Cut, k: Kind, at: usize) -> Looked
+fn seen(c: Cut, k: Kind, at: usize) -> Result<(usize, Kind), Breach>
     ensures { result ≡ seen_in c k at }
 {
     match c {
-        Cut::Ends(e) => Looked::Seen(e, k),
+        Cut::Ends(e) => Ok((e, k)),
         Cut::Spoilt(_, q) => unseen(3, q),
         Cut::Open => unseen(4, at),
     }
 }
 
 // Without fields.
-fn seen_alone(x: Looked) -> Sight
+fn seen_alone(x: Result<(usize, Kind), Breach>) -> Sight
     ensures { result.looked ≡ x }
 {
     Sight {
@@ -132,65 +110,43 @@ fn seen_alone(x: Looked) -> Sight
 fn looked_into(k: Kind) -> bool
     ensures { result ≡ looked k }
 {
-    match k {
-        Kind::Usa => false,
-        Kind::Usc => false,
-        Kind::Reserved => false,
-        Kind::Other => false,
-        Kind::Unb => true,
-        Kind::Unh => true,
-        Kind::Unt => true,
-        Kind::Unz => true,
-        Kind::Ush => true,
-        Kind::Usr => true,
-        Kind::Ust => true,
-        Kind::Usb => true,
-        Kind::Usx => true,
-        Kind::Usy => true,
-        Kind::Qty => true,
-        Kind::Cnt => true,
-    }
+    !matches!(k, Kind::Usa | Kind::Usc | Kind::Reserved | Kind::Other)
 }
 
 // A segment whose fields were read on the way to its end. Where that failed, a scan tells why.
-fn entered(p: Pass, s: &[u8], at: usize, t: &[u8; 256], y: Syntax, k: Kind) -> Sight
-    requires { Table y t.now }
-    ensures { (m : List ℕ) → FieldsAs y s.now at p m → Entered y s.now at k result m }
+fn entered(p: Option<(usize, Shape)>, s: &[u8], at: usize, t: &Classes, k: Kind) -> Sight
+    ensures { (m : List ℕ) → FieldsAs t.now.syntax s.now at p m → Entered t.now.syntax s.now at k result m }
 {
     match p {
-        Pass::Whole(e, f) => Sight {
-            looked: Looked::Seen(e, k),
+        Some((e, f)) => Sight {
+            looked: Ok((e, k)),
             shape: f,
         },
-        Pass::Broken => seen_alone(seen(scan(s, at, t, y), k, at)),
+        None => seen_alone(seen(scan(s, at, t), k, at)),
     }
 }
 
 // The segment at `at`: 4, then 3. One that is looked into is read only once; of the others only the end is looked for, from behind the tag.
-pub fn look(s: &[u8], at: usize, t: &[u8; 256], y: Syntax, marks: &mut [usize]) -> Sight
-    requires table { Table y t.now }
-    requires t { T (fit y.service) × (length marks.old ≡ 40) }
-    ensures { Sighted y s.now at result marks.new }
+pub fn look(s: &[u8], at: usize, t: &Classes, marks: &mut [usize]) -> Sight
+    requires t { T (fit t.now.syntax.service) × (length marks.old ≡ 40) }
+    ensures { Sighted t.now.syntax s.now at result marks.new }
 {
-    match tag_in(s, at, t, y) {
-        Tag::Bad => seen_alone(unseen(4, at)),
-        Tag::Is(a, b, d) => {
+    match tag_in(s, at, t) {
+        None => seen_alone(unseen(4, at)),
+        Some((a, b, d)) => {
             let k = kind_of(a, b, d);
             if looked_into(k) {
-                return entered(fields(s, at, t, y, marks), s, at, t, y, k);
+                return entered(fields(s, at, t, marks), s, at, t, k);
             }
-            seen_alone(seen(scan(s, at + 3, t, y), k, at))
+            seen_alone(seen(scan(s, at + 3, t), k, at))
         }
     }
 }
 
-fn stopped(number: u8, place: usize) -> Step
-    ensures { result ≡ Step.Stop (record { number = number; place = place }) }
+fn stopped(number: u8, place: usize) -> Result<State, Breach>
+    ensures { result ≡ Err (record { number = number; place = place }) }
 {
-    Step::Stop(Breach {
-        number: number,
-        place: place,
-    })
+    Err(Breach { number, place })
 }
 
 // Where the element at position `p` stands.
@@ -217,15 +173,11 @@ fn is_repeated(s: &[u8], at: usize, y: Syntax, marks: &[usize], w: Stretch) -> b
 fn after_unb(st: State, u: Stretch) -> State
     ensures { result ≡ after_unb st u }
 {
-    let m = st.message;
-    let w = st.unh;
     State {
         phase: Phase::Idle,
         count: 0,
-        slot: st.slot,
         unb: u,
-        unh: w,
-        message: m,
+        ..st
     }
 }
 
@@ -233,14 +185,12 @@ fn after_unb(st: State, u: Stretch) -> State
 fn after_unh(st: State, slot: usize, w: Stretch, m: Message) -> State
     ensures { result ≡ after_unh st slot w m }
 {
-    let u = st.unb;
     State {
         phase: Phase::Busy,
-        count: st.count,
-        slot: slot,
-        unb: u,
+        slot,
         unh: w,
         message: m,
+        ..st
     }
 }
 
@@ -248,15 +198,11 @@ fn after_unh(st: State, slot: usize, w: Stretch, m: Message) -> State
 fn after_other(st: State, phase: Phase, count: u32, m: Message) -> State
     ensures { result ≡ after_other st phase count m }
 {
-    let u = st.unb;
-    let w = st.unh;
     State {
-        phase: phase,
-        count: count,
-        slot: st.slot,
-        unb: u,
-        unh: w,
+        phase,
+        count,
         message: m,
+        ..st
     }
 }
 
@@ -272,7 +218,7 @@ fn on_unb(
     heads: &[usize; 36],
     names: &[u64],
     slots: &[u16],
-) -> Step
+) -> Result<State, Breach>
     requires ready { Ready y s.now st heads.now names.now slots.now at next Unb f marks.now }
     requires phase_value { (st.phase ≡ Start) × (st.count ≡ 0) }
     ensures { StepIs (decided_from y.version (state_in y.service.release s.now st heads.now names.now) (asked_at y.service s.now at) at) result y.service.release s.now heads.now names.now slots.now next }
@@ -280,23 +226,22 @@ fn on_unb(
     if !unb_formed(s, at, y, marks) {
         return stopped(8, at);
     }
-    Step::On(after_unb(st, stretch_in(marks, 5)))
+    Ok(after_unb(st, stretch_in(marks, 5)))
 }
 
 // The subset of AUTACK that the message is written by, whose UNH stands at `at`.
-fn subset_in(s: &[u8], at: usize, t: &[u8; 256], y: Syntax, marks: &[usize]) -> Subset
-    requires table { Table y t.now }
-    requires marked { Marked y.service s.now at marks.now }
-    ensures { result ≡ subset_of (text_at y.service s.now at 2 0) (text_at y.service s.now at 2 4) }
+fn subset_in(s: &[u8], at: usize, t: &Classes, marks: &[usize]) -> Option<Subset>
+    requires marked { Marked t.now.syntax.service s.now at marks.now }
+    ensures { result ≡ subset_of (text_at t.now.syntax.service s.now at 2 0) (text_at t.now.syntax.service s.now at 2 4) }
 {
-    let v = y.service;
-    if content_is(field(s, at, y, marks, 2, 0), v.release, b"AUTACK") {
-        if content_is(component_part(s, at, t, y, 2, 4), v.release, b"EAN001") {
-            return Subset::Gs1;
+    let v = t.syntax.service;
+    if content_is(field(s, at, t.syntax, marks, 2, 0), v.release, b"AUTACK") {
+        if content_is(component_part(s, at, t, 2, 4), v.release, b"EAN001") {
+            return Some(Subset::Gs1);
         }
-        return Subset::F01;
+        return Some(Subset::F01);
     }
-    Subset::None
+    None
 }
 
 // UNH between messages: 8, then 0062 once in an interchange.
@@ -304,39 +249,31 @@ fn on_unh(
     s: &[u8],
     at: usize,
     next: usize,
-    t: &[u8; 256],
-    y: Syntax,
+    t: &Classes,
     st: State,
     f: Shape,
     marks: &[usize],
     heads: &[usize; 36],
     names: &mut [u64],
     slots: &[u16],
-) -> Step
-    requires table { Table y t.now }
-    requires ready { Ready y s.now st heads.now names.old slots.now at next Unh f marks.now }
+) -> Result<State, Breach>
+    requires ready { Ready t.now.syntax s.now st heads.now names.old slots.now at next Unh f marks.now }
     requires phase_value { st.phase ≡ Idle }
-    ensures { StepIs (decided_from y.version (state_in y.service.release s.now st heads.now names.old) (asked_at y.service s.now at) at) result y.service.release s.now heads.now names.new slots.now next }
+    ensures { StepIs (decided_from t.now.syntax.version (state_in t.now.syntax.service.release s.now st heads.now names.old) (asked_at t.now.syntax.service s.now at) at) result t.now.syntax.service.release s.now heads.now names.new slots.now next }
 {
-    let v = y.service;
-    if !unh_formed(s, at, y, marks) {
+    let v = t.syntax.service;
+    if !unh_formed(s, at, t.syntax, marks) {
         return stopped(8, at);
     }
-    let x = field(s, at, y, marks, 1, 0);
+    let x = field(s, at, t.syntax, marks, 1, 0);
     let z = bare(x, v.release);
     match offer(v.release, names, slots, st.count as usize, z) {
-        Found::Nothing => stopped(9, at),
-        Found::At(i) => {
-            let m = fresh_message(subset_in(s, at, t, y, marks));
-            Step::On(after_unh(st, i, stretch_in(marks, 1), m))
+        None => stopped(9, at),
+        Some(i) => {
+            let m = fresh_message(subset_in(s, at, t, marks));
+            Ok(after_unh(st, i, stretch_in(marks, 1), m))
         }
     }
-}
-
-fn wide(n: u32) -> u64
-    ensures { result ≡ n }
-{
-    n as u64
 }
 
 // UNZ between messages: 7 without one, 8, UNB's 0020, the messages.
@@ -351,7 +288,7 @@ fn on_unz(
     heads: &[usize; 36],
     names: &[u64],
     slots: &[u16],
-) -> Step
+) -> Result<State, Breach>
     requires ready { Ready y s.now st heads.now names.now slots.now at next Unz f marks.now }
     requires phase_value { st.phase ≡ Idle }
     ensures { StepIs (decided_from y.version (state_in y.service.release s.now st heads.now names.now) (asked_at y.service s.now at) at) result y.service.release s.now heads.now names.now slots.now next }
@@ -366,11 +303,11 @@ fn on_unz(
     if !is_repeated(s, at, y, marks, u) {
         return stopped(9, at);
     }
-    if number_in(s, at, y, marks, 1) != wide(st.count) {
+    if number_in(s, at, y, marks, 1) != u64::from(st.count) {
         return stopped(10, at);
     }
     let m = st.message;
-    Step::On(after_other(st, Phase::Done, st.count, m))
+    Ok(after_other(st, Phase::Done, st.count, m))
 }
 
 // 0588, where the edition has one: each pair of the message has as many segments as it says.
@@ -393,14 +330,9 @@ fn counts_right(s: &[u8], at: usize, y: Syntax, m: Message, marks: &[usize]) -> 
 {
     let p = m.pair;
     let u = m.sums;
-    if number_in(s, at, y, marks, 1) != wide(m.segments + 1) {
-        return false;
-    }
-    let v = y.version;
-    if !pairs_counted(v, p) {
-        return false;
-    }
-    totals_right(u)
+    number_in(s, at, y, marks, 1) == u64::from(m.segments + 1)
+        && pairs_counted(y.version, p)
+        && totals_right(u)
 }
 
 // UNT's references: 0062, and each header with its trailer.
@@ -437,7 +369,7 @@ fn on_unt(
     heads: &[usize; 36],
     names: &[u64],
     slots: &mut [u16],
-) -> Step
+) -> Result<State, Breach>
     requires ready { Ready y s.now st heads.now names.now slots.old at next Unt f marks.now }
     requires phase_value { st.phase ≡ Busy }
     ensures { StepIs (decided_from y.version (state_in y.service.release s.now st heads.now names.now) (asked_at y.service s.now at) at) result y.service.release s.now heads.now names.now slots.new next }
@@ -456,7 +388,7 @@ fn on_unt(
         return stopped(10, at);
     }
     note(names, slots, st.count as usize, st.slot);
-    Step::On(after_other(st, Phase::Idle, st.count + 1, m))
+    Ok(after_other(st, Phase::Idle, st.count + 1, m))
 }
 
 // What a segment does in the open message, by its kind, once it may come and is well formed.
@@ -470,7 +402,7 @@ fn step_in(
     marks: &[usize],
     heads: &mut [usize; 36],
     i: usize,
-) -> Moved
+) -> Result<Message, u8>
     requires k_value { k ≡ tag_kind (slice at (at + 3) s.now) }
     requires fields { looked k ≡ true → Fields y.service s.now at f.size f.repeats marks.now }
     requires roomy { Roomy m heads.old }
@@ -488,16 +420,16 @@ fn step_in(
         Kind::Usr => on_usr(m, heads),
         Kind::Ust => on_ust(s, at, y, m, marks, heads, i),
         Kind::Usb => on_usb(m),
-        Kind::Usx => Moved::To(grown_to(m, Group::Ack(true, false))),
+        Kind::Usx => Ok(grown_to(m, Group::Ack(true, false))),
         Kind::Usy => on_usy(s, at, y, m, marks, heads),
         Kind::Qty => on_qty(s, at, y, m, f, marks),
         Kind::Cnt => on_cnt(s, at, y, m, marks),
         Kind::Other => on_other(m),
-        Kind::Unb => Moved::Bad(7),
-        Kind::Unh => Moved::Bad(7),
-        Kind::Unt => Moved::Bad(7),
-        Kind::Unz => Moved::Bad(7),
-        Kind::Reserved => Moved::Bad(7),
+        Kind::Unb => Err(7),
+        Kind::Unh => Err(7),
+        Kind::Unt => Err(7),
+        Kind::Unz => Err(7),
+        Kind::Reserved => Err(7),
     }
 }
 
@@ -506,8 +438,7 @@ fn on_busy(
     s: &[u8],
     at: usize,
     next: usize,
-    t: &[u8; 256],
-    y: Syntax,
+    t: &Classes,
     st: State,
     k: Kind,
     f: Shape,
@@ -516,24 +447,23 @@ fn on_busy(
     names: &[u64],
     slots: &[u16],
     i: usize,
-) -> Step
-    requires table { Table y t.now }
-    requires ready { Ready y s.now st heads.old names.now slots.now at next k f marks.now }
+) -> Result<State, Breach>
+    requires ready { Ready t.now.syntax s.now st heads.old names.now slots.now at next k f marks.now }
     requires phase_value { (st.phase ≡ Busy) × (at_busy false false false true false k ≡ false) }
-    requires sought { k ≡ Ust → Sought y.service s.now at st.message heads.old i }
-    ensures { StepIs (decided_from y.version (state_in y.service.release s.now st heads.old names.now) (asked_at y.service s.now at) at) result y.service.release s.now heads.new names.now slots.now next }
+    requires sought { k ≡ Ust → Sought t.now.syntax.service s.now at st.message heads.old i }
+    ensures { StepIs (decided_from t.now.syntax.version (state_in t.now.syntax.service.release s.now st heads.old names.now) (asked_at t.now.syntax.service s.now at) at) result t.now.syntax.service.release s.now heads.new names.now slots.now next }
 {
     let m = st.message;
     let a = m.autack;
     if !may_come(k, m) {
         return stopped(7, at);
     }
-    if !formed_in(s, at, t, y, marks, f, k, a) {
+    if !formed_in(s, at, t, marks, f, k, a) {
         return stopped(8, at);
     }
-    match step_in(s, at, y, m, k, f, marks, heads, i) {
-        Moved::Bad(n) => stopped(n, at),
-        Moved::To(x) => Step::On(after_other(st, Phase::Busy, st.count, x)),
+    match step_in(s, at, t.syntax, m, k, f, marks, heads, i) {
+        Err(number) => stopped(number, at),
+        Ok(x) => Ok(after_other(st, Phase::Busy, st.count, x)),
     }
 }
 
@@ -542,8 +472,7 @@ fn on_idle(
     s: &[u8],
     at: usize,
     next: usize,
-    t: &[u8; 256],
-    y: Syntax,
+    t: &Classes,
     st: State,
     k: Kind,
     f: Shape,
@@ -551,15 +480,14 @@ fn on_idle(
     heads: &[usize; 36],
     names: &mut [u64],
     slots: &[u16],
-) -> Step
-    requires table { Table y t.now }
-    requires ready { Ready y s.now st heads.now names.old slots.now at next k f marks.now }
+) -> Result<State, Breach>
+    requires ready { Ready t.now.syntax s.now st heads.now names.old slots.now at next k f marks.now }
     requires phase_value { st.phase ≡ Idle }
-    ensures { StepIs (decided_from y.version (state_in y.service.release s.now st heads.now names.old) (asked_at y.service s.now at) at) result y.service.release s.now heads.now names.new slots.now next }
+    ensures { StepIs (decided_from t.now.syntax.version (state_in t.now.syntax.service.release s.now st heads.now names.old) (asked_at t.now.syntax.service s.now at) at) result t.now.syntax.service.release s.now heads.now names.new slots.now next }
 {
     match k {
-        Kind::Unh => on_unh(s, at, next, t, y, st, f, marks, heads, names, slots),
-        Kind::Unz => on_unz(s, at, next, y, st, f, marks, heads, names, slots),
+        Kind::Unh => on_unh(s, at, next, t, st, f, marks, heads, names, slots),
+        Kind::Unz => on_unz(s, at, next, t.syntax, st, f, marks, heads, names, slots),
         _ => stopped(7, at),
     }
 }
@@ -569,8 +497,7 @@ pub fn turn(
     s: &[u8],
     at: usize,
     next: usize,
-    t: &[u8; 256],
-    y: Syntax,
+    t: &Classes,
     st: State,
     k: Kind,
     f: Shape,
@@ -579,23 +506,22 @@ pub fn turn(
     names: &mut [u64],
     slots: &mut [u16],
     i: usize,
-) -> Step
-    requires table { Table y t.now }
-    requires ready { Ready y s.now st heads.old names.old slots.old at next k f marks.now }
+) -> Result<State, Breach>
+    requires ready { Ready t.now.syntax s.now st heads.old names.old slots.old at next k f marks.now }
     requires count_value { st.phase ≡ Start → st.count ≡ 0 }
-    requires sought { st.phase ≡ Busy → k ≡ Ust → Sought y.service s.now at st.message heads.old i }
-    ensures { StepIs (decided_from y.version (state_in y.service.release s.now st heads.old names.old) (asked_at y.service s.now at) at) result y.service.release s.now heads.new names.new slots.new next }
+    requires sought { st.phase ≡ Busy → k ≡ Ust → Sought t.now.syntax.service s.now at st.message heads.old i }
+    ensures { StepIs (decided_from t.now.syntax.version (state_in t.now.syntax.service.release s.now st heads.old names.old) (asked_at t.now.syntax.service s.now at) at) result t.now.syntax.service.release s.now heads.new names.new slots.new next }
 {
     let p = st.phase;
     match p {
         Phase::Start => match k {
-            Kind::Unb => on_unb(s, at, next, y, st, f, marks, heads, names, slots),
+            Kind::Unb => on_unb(s, at, next, t.syntax, st, f, marks, heads, names, slots),
             _ => stopped(7, at),
         },
-        Phase::Idle => on_idle(s, at, next, t, y, st, k, f, marks, heads, names, slots),
+        Phase::Idle => on_idle(s, at, next, t, st, k, f, marks, heads, names, slots),
         Phase::Busy => match k {
-            Kind::Unt => on_unt(s, at, next, y, st, f, marks, heads, names, slots),
-            _ => on_busy(s, at, next, t, y, st, k, f, marks, heads, names, slots, i),
+            Kind::Unt => on_unt(s, at, next, t.syntax, st, f, marks, heads, names, slots),
+            _ => on_busy(s, at, next, t, st, k, f, marks, heads, names, slots, i),
         },
         Phase::Done => stopped(7, at),
     }

@@ -1,7 +1,7 @@
 -- What the code reads of the seal is what the definitions say.
-use Rattle.std.specs.Prelude.{ℕ, ◌+◌, ◌-◌, ◌≤◌, ◌<◌, ◌≡◌, refl, List, [], ◌∷◌, Bool, true, false, cond, T, length}
+use Rattle.std.specs.Prelude.{ℕ, ◌+◌, ◌-◌, ◌≤◌, ◌<◌, ◌≡◌, refl, List, [], Bool, true, false, cond, T, length, Option, Some, None}
 use Rattle.std.proofs.Common.{arith, ap, ◌∙◌, sym, subst}
-use Rattle.std.proofs.Math.Option.{Option, none, some}
+use Rattle.std.proofs.Math.Option.{Option as Maybe, none, some}
 use Rattle.std.proofs.Math.Seq.{slice, slice_empty}
 use Rattle.syntax.specs.Refusals.{at_zero}
 use Rattle.syntax.specs.Content.{content, compared}
@@ -11,22 +11,18 @@ use Rattle.syntax.specs.Segment.{component_at, part_of}
 use Rattle.syntax.specs.Tree.{Segment, print_s}
 use Rattle.syntax.specs.declared.Service.{Service}
 use Rattle.syntax.specs.declared.Syntax.{Syntax}
-use Rattle.syntax.specs.declared.Found.{Found}
-use Rattle.syntax.specs.declared.Found.TheVariants.{At as EndsAt, Nothing}
 use Rattle.syntax.specs.declared.Refusal.{Refusal}
 use Rattle.grammar.specs.Lists.{Snoc, nil, ◌▷◌, ◌+++◌, list}
 use Rattle.syntax.specs.declared.Version.{Version}
-use Rattle.grammar.specs.Segments.{Ush, Ust, Usr, Usy, seg, element_content, value_part, Asked}
-use Rattle.grammar.specs.Interchange.{Leaf, Header, header, Trailer, trailer, message, show_header, show_trailer, show_option, show_body}
+use Rattle.grammar.specs.Segments.{Ush, Ust, Usr, Usy, seg, value_part, Asked}
+use Rattle.grammar.specs.Interchange.{Leaf, Header, header, Trailer, trailer, show_header, show_trailer, show_option, show_body}
 use Rattle.grammar.specs.Valid.{Interchange}
 use Rattle.grammar.specs.Verdict.{accepted, refused_with, verdict_of}
 use Rattle.grammar.specs.Places.{wide}
-use Rattle.grammar.specs.Named.{Placed, placed}
 use Rattle.walk.specs.Layout.{heads_at, tail_at}
 use Rattle.walk.specs.RunLaws.{long-print}
-use Rattle.walk.specs.Sections.{autack_o}
 use Rattle.walk.specs.declared.sections.Layout.{Layout}
-use Rattle.writing.specs.Written.{Text, no_text, Writes}
+use Rattle.writing.specs.Written.{no_text, Writes}
 use Rattle.values.specs.Filters.{value_by, or_bad}
 use Rattle.groups.specs.Stand.{Row, Stand}
 use Rattle.groups.specs.StandLaws.{stand-front, stand-back, stand-agrees, stand-asked}
@@ -34,17 +30,13 @@ use Rattle.groups.specs.Groups.{Chosen, chosen, sought_in, range_of}
 use Rattle.groups.specs.GroupsLaws.{header-stands}
 use Rattle.groups.specs.Parts.{header_named, trailer_named, header_at, trailer_at, body_in}
 use Rattle.groups.specs.PartsLaws.{call-refused, call-missing, call-holds, header-found, trailer-found, header-there, trailer-there, body-row, body-tied}
-use Rattle.groups.specs.Links.{tie_in, link_from}
-use Rattle.groups.specs.LinksLaws.{There, tie_there, tie_none}
+use Rattle.groups.specs.Links.{link_from}
+use Rattle.groups.specs.LinksLaws.{tie_there, tie_none}
 use Rattle.groups.specs.Calls.{Holds, message_in, version_in}
 use Rattle.groups.specs.CallsLaws.{version-so}
 use Rattle.groups.specs.declared.named.Range.{Range}
-use Rattle.groups.specs.declared.named.Sought.{Sought}
-use Rattle.groups.specs.declared.named.Sought.TheVariants.{At, Nowhere}
 use Rattle.groups.specs.declared.links.Places.{Places}
-use Rattle.groups.specs.declared.links.Linked.{Linked}
-use Rattle.groups.specs.declared.links.Linked.TheVariants.{At as LinkedAt, Nowhere as Unlinked}
-use Rattle.values.specs.Values.{filter_h, usr_text, behind, trailer_text, usy_text, link_text, value_text, filtered, or_no_header, value_in, value_at, answered, value_of}
+use Rattle.values.specs.Values.{filter_h, usr_text, behind, trailer_text, usy_text, link_text, value_text, or_no_header, value_in, value_at, answered, value_of}
 use Rattle.writing.specs.WrittenLaws.{writes_as}
 
 -- the octets of no part have no content
@@ -54,9 +46,9 @@ no-content ρ s e = ap (content ρ) (e ∙ slice_empty 0 s)
 -- ---- the USR behind a UST
 
 module _ (v : Version) (σ : Service) (f : T (fit σ)) (s : List ℕ) (p q : ℕ) (c : Leaf) where
-  ust-end : {e next : ℕ} {r : Found} → Stand σ s p (nil ▷ seg Ust c) → r ≡ end_at σ s p → r ≡ EndsAt e → next ≡ e + 1 → next ≡ p + length (print_s σ (seg Ust c))
+  ust-end : {e next : ℕ} {r : Option ℕ} → Stand σ s p (nil ▷ seg Ust c) → r ≡ end_at σ s p → r ≡ Some e → next ≡ e + 1 → next ≡ p + length (print_s σ (seg Ust c))
   ust-end {e} {next} w a b n =
-      let k : EndsAt e ≡ EndsAt (p + (length (print_s σ (seg Ust c)) - 1)) = sym b ∙ a ∙ (stand-agrees σ s p f (seg Ust c) w).end in
+      let k : Some e ≡ Some (p + (length (print_s σ (seg Ust c)) - 1)) = sym b ∙ a ∙ (stand-agrees σ s p f (seg Ust c) w).end in
       let j : e ≡ p + (length (print_s σ (seg Ust c)) - 1) = cc in
       omega (arith, j, n, long-print σ (seg Ust c))
 
@@ -66,45 +58,45 @@ module _ (v : Version) (σ : Service) (f : T (fit σ)) (s : List ℕ) (p q : ℕ
       subst (λ (i : ℕ). Stand σ s i gs) e (stand-back σ s p (nil ▷ seg Ust c) gs w)
 
   -- octets are left behind the UST: a USR stands there
-  pub usr-there : {e next j : ℕ} {r : Found} {z : List ℕ} (o : Option Leaf) → Stand σ s p (show_trailer (trailer c o)) → q ≡ p + wide σ (show_trailer (trailer c o))
-      → r ≡ end_at σ s p → r ≡ EndsAt e → next ≡ e + 1 → next < q → j ≡ value_part v → z ≡ part_of s (component_at σ s next 1 j) → content σ.release z ≡ usr_text v o
+  pub usr-there : {e next j : ℕ} {r : Option ℕ} {z : List ℕ} (o : Maybe Leaf) → Stand σ s p (show_trailer (trailer c o)) → q ≡ p + wide σ (show_trailer (trailer c o))
+      → r ≡ end_at σ s p → r ≡ Some e → next ≡ e + 1 → next < q → j ≡ value_part v → z ≡ part_of s (component_at σ s next 1 j) → content σ.release z ≡ usr_text v o
   usr-there {next = next} none w k a b n l i d = absurd (omega (arith, k, l, ust-end w a b n))
   usr-there {next = next} (some u) w k a b n l i d =
       let m = ust-end (stand-front σ s p (nil ▷ seg Ust c) (nil ▷ seg Usr u) w) a b n in
       let w' = subst (λ (i : ℕ). Stand σ s i (nil ▷ seg Usr u)) (sym m) (one-behind (nil ▷ seg Usr u) w) in
       ap (content σ.release) (d ∙ ap (λ (j : ℕ). part_of s (component_at σ s next 1 j)) i) ∙ ap (λ (x : Asked). x.text 1 (value_part v)) (stand-asked σ s next f (seg Usr u) w')
 
-  pub usr-none : {e next : ℕ} {r : Found} {z : List ℕ} (o : Option Leaf) → Stand σ s p (show_trailer (trailer c o)) → q ≡ p + wide σ (show_trailer (trailer c o))
-      → r ≡ end_at σ s p → r ≡ EndsAt e → next ≡ e + 1 → q ≤ next → z ≡ slice 0 0 s → content σ.release z ≡ usr_text v o
+  pub usr-none : {e next : ℕ} {r : Option ℕ} {z : List ℕ} (o : Maybe Leaf) → Stand σ s p (show_trailer (trailer c o)) → q ≡ p + wide σ (show_trailer (trailer c o))
+      → r ≡ end_at σ s p → r ≡ Some e → next ≡ e + 1 → q ≤ next → z ≡ slice 0 0 s → content σ.release z ≡ usr_text v o
   usr-none none w k a b n l d = no-content σ.release s d
   usr-none (some u) w k a b n l d =
       absurd (omega (arith, k, l, ust-end (stand-front σ s p (nil ▷ seg Ust c) (nil ▷ seg Usr u) w) a b n, long-print σ (seg Usr u)))
 
   -- a UST has an end
-  pub usr-open : {r : Found} (z : List ℕ) (o : Option Leaf) → Stand σ s p (show_trailer (trailer c o)) → r ≡ end_at σ s p → r ≡ Nothing → content σ.release z ≡ usr_text v o
+  pub usr-open : {r : Option ℕ} (z : List ℕ) (o : Maybe Leaf) → Stand σ s p (show_trailer (trailer c o)) → r ≡ end_at σ s p → r ≡ None → content σ.release z ≡ usr_text v o
   usr-open z o w a b =
-      let k : Nothing ≡ EndsAt (p + (length (print_s σ (seg Ust c)) - 1)) = sym b ∙ a ∙ (stand-agrees σ s p f (seg Ust c) (stand-front σ s p (nil ▷ seg Ust c) (show_option (seg Usr) o) w)).end in
+      let k : None ≡ Some (p + (length (print_s σ (seg Ust c)) - 1)) = sym b ∙ a ∙ (stand-agrees σ s p f (seg Ust c) (stand-front σ s p (nil ▷ seg Ust c) (show_option (seg Usr) o) w)).end in
       let z' : ◌≡◌ {A = ℕ} 0 1 = cc in
       absurd (omega arith)
 
 -- ---- the text of the value
 
 module _ {s m : List ℕ} {y : Syntax} {c : Layout} {rows : List ℕ} (h : Holds s m y c rows) (r : List ℕ) where
-  pub trailer-none : {x : Sought} {z : List ℕ} → x ≡ sought_in y.service s rows 9 1 (compared r) c.trailers c.unt → x ≡ Nowhere → z ≡ slice 0 0 s
+  pub trailer-none : {x : Option Range} {z : List ℕ} → x ≡ sought_in y.service s rows 9 1 (compared r) c.trailers c.unt → x ≡ None → z ≡ slice 0 0 s
       → content y.service.release z ≡ trailer_text y.version h.o r
   trailer-none {x} {z} e d k = no-content y.service.release s k ∙ by (trailer_named h.o r) (sym d ∙ e ∙ trailer-found h r)
     where
-      by : (o : Option (Chosen Trailer)) → Nowhere ≡ range_of show_trailer y.service (tail_at y.service h.q h.o) o → [] ≡ behind y.version o
+      by : (o : Maybe (Chosen Trailer)) → None ≡ range_of show_trailer y.service (tail_at y.service h.q h.o) o → [] ≡ behind y.version o
       by none q = refl
       by (some (chosen ts x)) q = let z : ◌≡◌ {A = ℕ} 0 1 = cc in absurd (omega arith)
 
-  pub trailer-at : {x : Sought} {g : Range} (z : List ℕ) → x ≡ sought_in y.service s rows 9 1 (compared r) c.trailers c.unt → x ≡ At g
-      → ((l : Leaf) (o : Option Leaf) → Stand y.service s g.start (show_trailer (trailer l o)) → g.end ≡ g.start + wide y.service (show_trailer (trailer l o)) → content y.service.release z ≡ usr_text y.version o)
+  pub trailer-at : {x : Option Range} {g : Range} (z : List ℕ) → x ≡ sought_in y.service s rows 9 1 (compared r) c.trailers c.unt → x ≡ Some g
+      → ((l : Leaf) (o : Maybe Leaf) → Stand y.service s g.start (show_trailer (trailer l o)) → g.end ≡ g.start + wide y.service (show_trailer (trailer l o)) → content y.service.release z ≡ usr_text y.version o)
       → content y.service.release z ≡ trailer_text y.version h.o r
   trailer-at {x} {g} z e d k = by (trailer_named h.o r) (λ ts x q. trailer-there h r q) (sym d ∙ e ∙ trailer-found h r)
     where
-      by : (o : Option (Chosen Trailer)) → ((ts : Snoc Trailer) (x : Trailer) → o ≡ some (chosen ts x) → Stand y.service s (trailer_at y.service h.q h.o (chosen ts x)) (show_trailer x))
-          → At g ≡ range_of show_trailer y.service (tail_at y.service h.q h.o) o → content y.service.release z ≡ behind y.version o
+      by : (o : Maybe (Chosen Trailer)) → ((ts : Snoc Trailer) (x : Trailer) → o ≡ some (chosen ts x) → Stand y.service s (trailer_at y.service h.q h.o (chosen ts x)) (show_trailer x))
+          → Some g ≡ range_of show_trailer y.service (tail_at y.service h.q h.o) o → content y.service.release z ≡ behind y.version o
       by none f q = let z : ◌≡◌ {A = ℕ} 0 1 = cc in absurd (omega arith)
       by (some (chosen ts (trailer l u))) f q =
           let a : g.start ≡ trailer_at y.service h.q h.o (chosen ts (trailer l u)) = cc in
@@ -112,12 +104,12 @@ module _ {s m : List ℕ} {y : Syntax} {c : Layout} {rows : List ℕ} (h : Holds
           k l u (subst (λ (i : ℕ). Stand y.service s i (show_trailer (trailer l u))) (sym a) (f ts (trailer l u) refl))
           (b ∙ ap (λ (i : ℕ). i + wide y.service (show_trailer (trailer l u))) (sym a))
 
-  module _ {l : Linked} (k : (gs : List Segment) → Row y.service s c.body gs c.tail → l ≡ link_from y.service c.body c.body gs (compared r)) where
-    pub link-none : {z : List ℕ} → l ≡ Unlinked → z ≡ slice 0 0 s → content y.service.release z ≡ link_text y.version (body_in h.o) r
+  module _ {l : Option Places} (k : (gs : List Segment) → Row y.service s c.body gs c.tail → l ≡ link_from y.service c.body c.body gs (compared r)) where
+    pub link-none : {z : List ℕ} → l ≡ None → z ≡ slice 0 0 s → content y.service.release z ≡ link_text y.version (body_in h.o) r
     link-none q d =
         no-content y.service.release s d ∙ sym (ap (usy_text y.version) (tie_none (body-tied h r) (sym q ∙ k (list (show_body (body_in h.o))) (body-row h r))))
 
-    pub link_at : {x : Places} {j : ℕ} {z : List ℕ} → l ≡ LinkedAt x → j ≡ value_part y.version → z ≡ part_of s (component_at y.service s x.usy 2 j) → content y.service.release z ≡ link_text y.version (body_in h.o) r
+    pub link_at : {x : Places} {j : ℕ} {z : List ℕ} → l ≡ Some x → j ≡ value_part y.version → z ≡ part_of s (component_at y.service s x.usy 2 j) → content y.service.release z ≡ link_text y.version (body_in h.o) r
     link_at {x} q i d =
         let t = tie_there x (body-tied h r) (sym q ∙ k (list (show_body (body_in h.o))) (body-row h r)) in
         ap (content y.service.release) (d ∙ ap (λ (j : ℕ). part_of s (component_at y.service s x.usy 2 j)) i) ∙ ap (λ (v : Asked). v.text 2 (value_part y.version)) (stand-asked y.service s x.usy h.fits (seg Usy t.y) t.usy)
@@ -131,23 +123,23 @@ module _ {s m : List ℕ} {y : Syntax} {c : Layout} {rows : List ℕ} (h : Holds
 
 -- ---- the call
 
-module _ {s m : List ℕ} {y : Syntax} {c : Layout} {rows : List ℕ} (h : Holds s m y c rows) (r : List ℕ) {x : Sought}
+module _ {s m : List ℕ} {y : Syntax} {c : Layout} {rows : List ℕ} (h : Holds s m y c rows) (r : List ℕ) {x : Option Range}
     (e : x ≡ sought_in y.service s rows 0 2 (compared r) c.headers c.body) where
-  pub value-headless : {out left : List ℕ} {a : _} → x ≡ Nowhere → Writes (no_text (at_zero 13)) out a left → Writes (value_in y.version h.o r) out a left
+  pub value-headless : {out left : List ℕ} {a : _} → x ≡ None → Writes (no_text (at_zero 13)) out a left → Writes (value_in y.version h.o r) out a left
   value-headless d w = writes_as (by (header_named h.o r) (sym d ∙ e ∙ header-found h r)) w
     where
-      by : (o : Option (Chosen Header)) → Nowhere ≡ range_of show_header y.service (heads_at y.service h.q h.o) o → no_text (at_zero 13) ≡ or_no_header y.version o (value_text y.version h.o r)
+      by : (o : Maybe (Chosen Header)) → None ≡ range_of show_header y.service (heads_at y.service h.q h.o) o → no_text (at_zero 13) ≡ or_no_header y.version o (value_text y.version h.o r)
       by none q = refl
       by (some (chosen hs x)) q = let z : ◌≡◌ {A = ℕ} 0 1 = cc in absurd (omega arith)
 
-  pub value-header : {g : Range} (t k : List ℕ) {out left : List ℕ} {a : _} → x ≡ At g → content y.service.release t ≡ value_text y.version h.o r
+  pub value-header : {g : Range} (t k : List ℕ) {out left : List ℕ} {a : _} → x ≡ Some g → content y.service.release t ≡ value_text y.version h.o r
       → k ≡ part_of s (component_at y.service s g.start 5 0) → Writes (or_bad (value_by y.version (content y.service.release k) (content y.service.release t))) out a left → Writes (value_in y.version h.o r) out a left
   value-header {g} t k d f n w =
       writes_as
       (ap (λ (v : List ℕ). or_bad (value_by y.version (content y.service.release k) v)) f ∙ by (header_named h.o r) (λ hs x q. header-there h r q) (sym d ∙ e ∙ header-found h r)) w
     where
-      by : (o : Option (Chosen Header)) → ((hs : Snoc Header) (x : Header) → o ≡ some (chosen hs x) → Stand y.service s (header_at y.service h.q h.o (chosen hs x)) (show_header x))
-          → At g ≡ range_of show_header y.service (heads_at y.service h.q h.o) o → or_bad (value_by y.version (content y.service.release k) (value_text y.version h.o r)) ≡ or_no_header y.version o (value_text y.version h.o r)
+      by : (o : Maybe (Chosen Header)) → ((hs : Snoc Header) (x : Header) → o ≡ some (chosen hs x) → Stand y.service s (header_at y.service h.q h.o (chosen hs x)) (show_header x))
+          → Some g ≡ range_of show_header y.service (heads_at y.service h.q h.o) o → or_bad (value_by y.version (content y.service.release k) (value_text y.version h.o r)) ≡ or_no_header y.version o (value_text y.version h.o r)
       by none j q = let z : ◌≡◌ {A = ℕ} 0 1 = cc in absurd (omega arith)
       by (some (chosen hs (header u us cs))) j q =
           let a : g.start ≡ header_at y.service h.q h.o (chosen hs (header u us cs)) = cc in

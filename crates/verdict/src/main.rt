@@ -2,20 +2,17 @@
 
 // For an interchange on standard input: `accepted`, or the refusal with its place and segment.
 use input::{drain, read_full};
-use judge::run::{Verdict, judge};
-use printing::{flush, print_refusal_at, text};
-
-fn print_verdict(rt: &impl Print, out: &mut [u8; 4096], v: Verdict) -> usize {
-    match v {
-        Verdict::Accepted => text(rt, out, 0, b"accepted\n"),
-        Verdict::Refused(f) => print_refusal_at(rt, out, 0, f),
-    }
-}
+use judge::run::judge;
+use printing::{Output, Told};
+use std::fmt::Write;
 
 fn tell(rt: &impl Print, s: &[u8]) {
-    let mut out = [0u8; 4096];
-    let n = print_verdict(rt, &mut out, judge(s));
-    flush(rt, &out, n);
+    let mut out = Output::new(rt);
+    let _ = match judge(s) {
+        Ok(()) => writeln!(out, "accepted"),
+        Err(refusal) => writeln!(out, "{}", Told(refusal)),
+    };
+    out.end();
 }
 
 // The buffer has one octet more than an interchange may have, so one that is too long is told.

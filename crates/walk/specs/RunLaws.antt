@@ -1,5 +1,5 @@
 -- The loop over the segments: what holds at its head, and one law for each way through it.
-use Rattle.std.specs.Prelude.{ℕ, ◌+◌, ◌*◌, ◌≤◌, ◌<◌, List, [], ◌∷◌, ◌≡◌, refl, Bool, true, false, T, leb, length, drop, replicate}
+use Rattle.std.specs.Prelude.{ℕ, ◌+◌, ◌*◌, ◌≤◌, ◌<◌, List, [], ◌∷◌, ◌≡◌, refl, Bool, true, false, T, leb, length, drop, replicate, Option, Result, Some, None, Ok, Err}
 use Rattle.std.proofs.Common.{arith, ap, sym, ◌∙◌, subst, leb→le}
 use Rattle.std.proofs.lemmas.Bool.{false≢true}
 use Rattle.std.proofs.lemmas.List.{length-replicate}
@@ -15,16 +15,9 @@ use Rattle.syntax.specs.Reader.{chain}
 use Rattle.syntax.specs.declared.Breach.{Breach}
 use Rattle.syntax.specs.declared.Service.{Service}
 use Rattle.syntax.specs.declared.Syntax.{Syntax}
-use Rattle.syntax.specs.declared.Found.{Found}
-use Rattle.syntax.specs.declared.Found.TheVariants.{At, Nothing}
 use Rattle.syntax.specs.declared.cutting.Cut.{Cut}
 use Rattle.syntax.specs.declared.cutting.Cut.TheVariants.{Ends, Spoilt, Open}
-use Rattle.syntax.specs.declared.cutting.Tag.{Tag}
-use Rattle.syntax.specs.declared.cutting.Tag.TheVariants.{Is, Bad as NoTag}
 use Rattle.syntax.specs.declared.opening.Start.{Start as Opening}
-use Rattle.syntax.specs.declared.opening.Begun.{Begun}
-use Rattle.syntax.specs.declared.opening.Begun.TheVariants.{Ready as Begins}
-use Rattle.grammar.specs.declared.Subset.TheVariants.{None}
 use Rattle.grammar.specs.Lists.{Snoc}
 use Rattle.grammar.specs.Segments.{Asked, asked}
 use Rattle.grammar.specs.Interchange.{Leaf, Message, Reading, start, idle, busy, done, shown}
@@ -50,13 +43,7 @@ use Rattle.elements.specs.declared.Kind.{Kind}
 use Rattle.turns.specs.declared.state.Phase.{Phase}
 use Rattle.turns.specs.declared.state.Phase.TheVariants.{Start, Idle, Busy, Done}
 use Rattle.turns.specs.declared.state.State.{State}
-use Rattle.turns.specs.declared.state.Step.{Step}
-use Rattle.turns.specs.declared.state.Step.TheVariants.{On, Stop}
 use Rattle.turns.specs.declared.state.Ahead.{Ahead}
-use Rattle.turns.specs.declared.state.Advanced.{Advanced}
-use Rattle.turns.specs.declared.state.Advanced.TheVariants.{On as Further, Stop as Halt}
-use Rattle.turns.specs.declared.state.Looked.{Looked}
-use Rattle.turns.specs.declared.state.Looked.TheVariants.{Seen, Bad}
 use Rattle.walk.specs.Runs.{unread_as, is_done, is_busy, Fresh, answer_from, Walking, Going, AdvancedIs, Onward}
 
 -- ---- before UNB, and behind UNZ
@@ -142,35 +129,38 @@ some_left : (y : Syntax) → T (fit y.service) → (x : Reading) (s : List ℕ) 
     → (a : Answer) × (walk y x (chain y.service false (drop i s)) i ≡ unless-done x i a)
 some_left y f x s i l = by (end_at y.service s i) refl (tag_of y.service (drop i s)) refl
   where
-    by : (q : Found) → end_at y.service s i ≡ q → (t : Tag) → tag_of y.service (drop i s) ≡ t
+    by : (q : Option ℕ) → end_at y.service s i ≡ q → (t : Option (ℕ × ℕ × ℕ)) → tag_of y.service (drop i s) ≡ t
         → (a : Answer) × (walk y x (chain y.service false (drop i s)) i ≡ unless-done x i a)
-    by Nothing h t k = (_, walk_none y x s i l h)
-    by (At e) h NoTag k = (_, walk-bad y x s i f h k)
-    by (At e) h (Is a b c) k = (_, (walk_turn y x s i f h k).goes)
+    by None h t k = (_, walk_none y x s i l h)
+    by (Some e) h None k = (_, walk-bad y x s i f h k)
+    by (Some e) h (Some (a, b, c)) k = (_, (walk_turn y x s i f h k).goes)
 
 -- ---- a look
 
-unlike : {A : Type 0} {e : ℕ} {k : Kind} {f : Breach} → Seen e k ≡ Bad f → A
+unlike : {A : Type 0} {e : ℕ} {k : Kind} {f : Breach} → ◌≡◌ {A = Result (ℕ × Kind) Breach} (Ok (e, k)) (Err f) → A
 unlike h = let z : ◌≡◌ {A = ℕ} 0 1 = cc in let w : ⊥ = omega arith in absurd w
 
-bad-same : {f g : Breach} → Bad f ≡ Bad g → f ≡ g
+good-same : {A E : Type 0} {x y : A} → ◌≡◌ {A = Result A E} (Ok x) (Ok y) → x ≡ y
+good-same h = cc
+
+bad-same : {A : Type 0} {f g : Breach} → ◌≡◌ {A = Result A Breach} (Err f) (Err g) → f ≡ g
 bad-same h = cc
 
-numbered : {n p : ℕ} {f : Breach} {a : Answer} → Bad (record { number = n; place = p }) ≡ Bad f → a ≡ refused n p → a ≡ refused f.number f.place
+numbered : {A : Type 0} {n p : ℕ} {f : Breach} {a : Answer} → ◌≡◌ {A = Result A Breach} (Err (record { number = n; place = p })) (Err f) → a ≡ refused n p → a ≡ refused f.number f.place
 numbered {n} {p} {f} {a} h e = e ∙ ap (λ (f : Breach). refused f.number f.place) (bad-same h)
 
-bad-look : (y : Syntax) → T (fit y.service) → (x : Reading) → over (state_of x) ≡ false → (s : List ℕ) (i : ℕ) → i < length s → {f : Breach} → looked_at y s i ≡ Bad f
+bad-look : (y : Syntax) → T (fit y.service) → (x : Reading) → over (state_of x) ≡ false → (s : List ℕ) (i : ℕ) → i < length s → {f : Breach} → looked_at y s i ≡ Err f
     → walk y x (chain y.service false (drop i s)) i ≡ refused f.number f.place
 bad-look y d x o s i l {f} e = by (cut_at y s i) refl (tag_of y.service (drop i s)) refl e
   where
-    by : (q : Cut) → cut_at y s i ≡ q → (t : Tag) → tag_of y.service (drop i s) ≡ t → seen_by q t i ≡ Bad f
+    by : (q : Cut) → cut_at y s i ≡ q → (t : Option (ℕ × ℕ × ℕ)) → tag_of y.service (drop i s) ≡ t → seen_by q t i ≡ Err f
         → walk y x (chain y.service false (drop i s)) i ≡ refused f.number f.place
-    by Open h NoTag k e = numbered e (walk_none y x s i l (cut-open y s i h) ∙ not_done x o i (refused 4 i))
-    by (Ends q) h NoTag k e = numbered e (walk-bad y x s i d (cut-ends y s i h) k ∙ not_done x o i (refused 4 i))
-    by (Spoilt q p) h NoTag k e = numbered e (walk-bad y x s i d (cut-spoilt y s i h) k ∙ not_done x o i (refused 4 i))
-    by Open h (Is a b c) k e = numbered e (walk_none y x s i l (cut-open y s i h) ∙ not_done x o i (refused 4 i))
-    by (Ends q) h (Is a b c) k e = unlike e
-    by (Spoilt q p) h (Is a b c) k e =
+    by Open h None k e = numbered e (walk_none y x s i l (cut-open y s i h) ∙ not_done x o i (refused 4 i))
+    by (Ends q) h None k e = numbered e (walk-bad y x s i d (cut-ends y s i h) k ∙ not_done x o i (refused 4 i))
+    by (Spoilt q p) h None k e = numbered e (walk-bad y x s i d (cut-spoilt y s i h) k ∙ not_done x o i (refused 4 i))
+    by Open h (Some (a, b, c)) k e = numbered e (walk_none y x s i l (cut-open y s i h) ∙ not_done x o i (refused 4 i))
+    by (Ends q) h (Some (a, b, c)) k e = unlike e
+    by (Spoilt q p) h (Some (a, b, c)) k e =
         let t = walk_turn y x s i d (cut-spoilt y s i h) k in
         numbered e (t.goes ∙ not_done x o i _
         ∙ ap (λ (a : Answer). then a (λ (z : Reading). walk y z (chain y.service false (drop (q + 1) s)) (q + 1))) (turned-three t h (place x t.g)))
@@ -186,24 +176,25 @@ pub record Whole (y : Syntax) (s : List ℕ) (i e : ℕ) (k : Kind) : Type 0 whe
   pub a : ℕ
   pub b : ℕ
   pub c : ℕ
-  pub tag : tag_of y.service (drop i s) ≡ Is a b c
+  pub tag : tag_of y.service (drop i s) ≡ Some (a, b, c)
   pub ends : i + 4 ≤ e + 1
   pub inside : e + 1 ≤ length s
   pub kind : k ≡ tag_kind (slice i (i + 3) s)
 
-pub whole : (y : Syntax) → T (fit y.service) → {s : List ℕ} {i e : ℕ} {k : Kind} → looked_at y s i ≡ Seen e k → Whole y s i e k
+pub whole : (y : Syntax) → T (fit y.service) → {s : List ℕ} {i e : ℕ} {k : Kind} → looked_at y s i ≡ Ok (e, k) → Whole y s i e k
 whole y d {s} {i} {e} {k} h = by (cut_at y s i) refl (tag_of y.service (drop i s)) refl h
   where
-    by : (q : Cut) → cut_at y s i ≡ q → (t : Tag) → tag_of y.service (drop i s) ≡ t → seen_by q t i ≡ Seen e k → Whole y s i e k
-    by Open h NoTag m n = unlike (sym n)
-    by (Ends q) h NoTag m n = unlike (sym n)
-    by (Spoilt q p) h NoTag m n = unlike (sym n)
-    by Open h (Is a b c) m n = unlike (sym n)
-    by (Spoilt q p) h (Is a b c) m n = unlike (sym n)
-    by (Ends q) h (Is a b c) m n =
+    by : (q : Cut) → cut_at y s i ≡ q → (t : Option (ℕ × ℕ × ℕ)) → tag_of y.service (drop i s) ≡ t → seen_by q t i ≡ Ok (e, k) → Whole y s i e k
+    by Open h None m n = unlike (sym n)
+    by (Ends q) h None m n = unlike (sym n)
+    by (Spoilt q p) h None m n = unlike (sym n)
+    by Open h (Some (a, b, c)) m n = unlike (sym n)
+    by (Spoilt q p) h (Some (a, b, c)) m n = unlike (sym n)
+    by (Ends q) h (Some (a, b, c)) m n =
         let t = walk_turn y start s i d (cut-ends y s i h) m in
-        let u : q ≡ e = cc in
-        let v : tag_kind (a ∷ b ∷ c ∷ []) ≡ k = cc in
+        let o : ◌≡◌ {A = ℕ × Kind} (q, tag_kind (a ∷ b ∷ c ∷ [])) (e, k) = good-same n in
+        let u : q ≡ e = ap (λ z. z.0) o in
+        let v : tag_kind (a ∷ b ∷ c ∷ []) ≡ k = ap (λ z. z.1) o in
         let w : 4 ≤ length (print_s y.service t.g) = long-print y.service t.g in
         let z : i + length (print_s y.service t.g) ≡ q + 1 = t.size in
         let g : q < length s = t.high in
@@ -224,7 +215,7 @@ pub record Ending (s : List ℕ) (i e : ℕ) : Type 0 where
   pub near : e + 1 ≤ length s
   pub fits : e + 1 ≤ 65535
 
-pub ending : (y : Syntax) → T (fit y.service) → (s : List ℕ) (i : ℕ) {e : ℕ} {k : Kind} {r : Looked} → length s ≤ 65535 → r ≡ looked_at y s i → r ≡ Seen e k → Ending s i e
+pub ending : (y : Syntax) → T (fit y.service) → (s : List ℕ) (i : ℕ) {e : ℕ} {k : Kind} {r : Result (ℕ × Kind) Breach} → length s ≤ 65535 → r ≡ looked_at y s i → r ≡ Ok (e, k) → Ending s i e
 ending y f s i l a b =
     let w = whole y f (sym a ∙ b) in
     let n = w.inside in
@@ -269,10 +260,10 @@ module _ {y : Syntax} {s : List ℕ} {from : ℕ} {x : State} {h l b : List ℕ}
 
   module _ (f : T (fit y.service)) (m : is_done x.phase ≡ false) where
     -- no segment, or one outside the repertoire
-    pub walking-bad : i < length s → {r : Breach} → looked_at y s i ≡ Bad r → answer_from y s from ≡ refused r.number r.place
+    pub walking-bad : i < length s → {r : Breach} → looked_at y s i ≡ Err r → answer_from y s from ≡ refused r.number r.place
     walking-bad k e = sym w.goes ∙ bad-look y f w.tree (stands m) s i k e
 
-    module _ {e : ℕ} {k : Kind} (v : looked_at y s i ≡ Seen e k) where
+    module _ {e : ℕ} {k : Kind} (v : looked_at y s i ≡ Ok (e, k)) where
       seen : Whole y s i e k
       seen = whole y f v
 
@@ -295,31 +286,31 @@ module _ {y : Syntax} {s : List ℕ} {from : ℕ} {x : State} {h l b : List ℕ}
           ∙ sym (follow y w.tree turned.g i w.good ∙ rw (turned-inside turned seen.cut))
 
       stops : {r : Breach} (h' l' b' : List ℕ)
-          → StepIs (decided_from y.version (state_in y.service.release s x h l) (asked_at y.service s i) i) (Stop r) y.service.release s h' l' b' (e + 1)
+          → StepIs (decided_from y.version (state_in y.service.release s x h l) (asked_at y.service s i) i) (Err r) y.service.release s h' l' b' (e + 1)
           → answer_from y s from ≡ refused r.number r.place
       stops {r} h' l' b' g =
-          by decision goes_so (subst (λ (a : AnswerS). StepIs a (Stop r) y.service.release s h' l' b' (e + 1)) tells g)
+          by decision goes_so (subst (λ (a : AnswerS). StepIs a (Err r) y.service.release s h' l' b' (e + 1)) tells g)
         where
-          by : (d : Answer) → answer_from y s from ≡ then d onward → StepIs (answer_of d) (Stop r) y.service.release s h' l' b' (e + 1) → answer_from y s from ≡ refused r.number r.place
+          by : (d : Answer) → answer_from y s from ≡ then d onward → StepIs (answer_of d) (Err r) y.service.release s h' l' b' (e + 1) → answer_from y s from ≡ refused r.number r.place
           by (read z) q g = absurd g
           by (refused n p) q g = q ∙ rw (g.0, g.1)
 
       -- the step stops
-      pub walking-stop : (r : Step) {g : Breach} (h' l' b' : List ℕ) → r ≡ Stop g
+      pub walking-stop : (r : Result State Breach) {g : Breach} (h' l' b' : List ℕ) → r ≡ Err g
           → StepIs (decided_from y.version (state_in y.service.release s x h l) (asked_at y.service s i) i) r y.service.release s h' l' b' (e + 1)
           → answer_from y s from ≡ refused g.number g.place
       walking-stop r h' l' b' q a =
           stops h' l' b'
-          (subst (λ (r : Step). StepIs (decided_from y.version (state_in y.service.release s x h l) (asked_at y.service s i) i) r y.service.release s h' l' b' (e + 1))
+          (subst (λ (r : Result State Breach). StepIs (decided_from y.version (state_in y.service.release s x h l) (asked_at y.service s i) i) r y.service.release s h' l' b' (e + 1))
           q a)
 
       goes_on_lem : {x' : State} {h' l' b' : List ℕ} → length l' ≡ length l
-          → StepIs (decided_from y.version (state_in y.service.release s x h l) (asked_at y.service s i) i) (On x') y.service.release s h' l' b' (e + 1)
+          → StepIs (decided_from y.version (state_in y.service.release s x h l) (asked_at y.service s i) i) (Ok x') y.service.release s h' l' b' (e + 1)
           → Onward w (record { state = x'; next = e + 1; kind = k }) h' l' b'
       goes_on_lem {x'} {h'} {l'} {b'} n g =
-          by decision refl goes_so (subst (λ (a : AnswerS). StepIs a (On x') y.service.release s h' l' b' (e + 1)) tells g)
+          by decision refl goes_so (subst (λ (a : AnswerS). StepIs a (Ok x') y.service.release s h' l' b' (e + 1)) tells g)
         where
-          by : (d : Answer) → decision ≡ d → answer_from y s from ≡ then d onward → StepIs (answer_of d) (On x') y.service.release s h' l' b' (e + 1)
+          by : (d : Answer) → decision ≡ d → answer_from y s from ≡ then d onward → StepIs (answer_of d) (Ok x') y.service.release s h' l' b' (e + 1)
               → Onward w (record { state = x'; next = e + 1; kind = k }) h' l' b'
           by (refused n p) u q g = absurd g
           by (read z) u q g =
@@ -346,12 +337,12 @@ module _ {y : Syntax} {s : List ℕ} {from : ℕ} {x : State} {h l b : List ℕ}
               }
 
       -- the step goes on
-      pub walking_on : (r : Step) {x' : State} {h' l' b' : List ℕ} → length l' ≡ length l → r ≡ On x'
+      pub walking_on : (r : Result State Breach) {x' : State} {h' l' b' : List ℕ} → length l' ≡ length l → r ≡ Ok x'
           → StepIs (decided_from y.version (state_in y.service.release s x h l) (asked_at y.service s i) i) r y.service.release s h' l' b' (e + 1)
           → Onward w (record { state = x'; next = e + 1; kind = k }) h' l' b'
       walking_on r {x'} {h'} {l'} {b'} n q a =
           goes_on_lem n
-          (subst (λ (r : Step). StepIs (decided_from y.version (state_in y.service.release s x h l) (asked_at y.service s i) i) r y.service.release s h' l' b' (e + 1))
+          (subst (λ (r : Result State Breach). StepIs (decided_from y.version (state_in y.service.release s x h l) (asked_at y.service s i) i) r y.service.release s h' l' b' (e + 1))
           q a)
 
 -- ---- what a caller of a turn has
@@ -370,8 +361,8 @@ pub going : {y : Syntax} {s : List ℕ} {from : ℕ} {x : State} {h l b m : List
 going {from = from} w f n d k = record { fits = f; inside = n; before = d; begun = from; walks = w; marks = k }
 
 module _ {y : Syntax} {s : List ℕ} {from : ℕ} {x : State} {h l b : List ℕ} {i : ℕ} (w : Walking y s from x h l b i) {h' l' b' : List ℕ} where
-  pub further : (r : Advanced) {a : Ahead} → r ≡ Further a → AdvancedIs w r h' l' b' → Onward w a h' l' b'
-  further r q a = subst (λ (r : Advanced). AdvancedIs w r h' l' b') q a
+  pub further : (r : Result Ahead Breach) {a : Ahead} → r ≡ Ok a → AdvancedIs w r h' l' b' → Onward w a h' l' b'
+  further r q a = subst (λ (r : Result Ahead Breach). AdvancedIs w r h' l' b') q a
 
   pub onward-far : {a : Ahead} → Onward w a h' l' b' → i + 4 ≤ a.next
   onward-far o =
@@ -380,18 +371,18 @@ module _ {y : Syntax} {s : List ℕ} {from : ℕ} {x : State} {h l b : List ℕ}
       omega (arith, n, z)
 
 module _ {y : Syntax} {s : List ℕ} {from : ℕ} {x : State} {h l b : List ℕ} {i : ℕ} (w : Walking y s from x h l b i) where
-  pub halted : (h' l' b' : List ℕ) (r : Advanced) {f : Breach} → r ≡ Halt f → AdvancedIs w r h' l' b' → answer_from y s from ≡ refused f.number f.place
-  halted h' l' b' r q a = subst (λ (r : Advanced). AdvancedIs w r h' l' b') q a
+  pub halted : (h' l' b' : List ℕ) (r : Result Ahead Breach) {f : Breach} → r ≡ Err f → AdvancedIs w r h' l' b' → answer_from y s from ≡ refused f.number f.place
+  halted h' l' b' r q a = subst (λ (r : Result Ahead Breach). AdvancedIs w r h' l' b') q a
 
 -- ---- what was begun
 
-pub begun-fits : (s : List ℕ) {b : Opening} {r : Begun} → r ≡ begun_of s → r ≡ Begins b → T (fit b.syntax.service) × (length s ≤ 65535)
+pub begun-fits : (s : List ℕ) {b : Opening} {r : Result Opening Breach} → r ≡ begun_of s → r ≡ Ok b → T (fit b.syntax.service) × (length s ≤ 65535)
 begun-fits s {b} e d =
     let a = start-read s b (sym e ∙ d) in
     (a.fits, leb→le (length s) 65535 (and_right (leb 1 (length s)) (leb (length s) 65535) a.lengths))
 
 -- what the verdict is, by the walk from UNB on
-pub verdict-by : (s : List ℕ) {b : Opening} {r : Begun} {a : Answer} → r ≡ begun_of s → r ≡ Begins b → answer_from b.syntax s b.at ≡ a → verdict_of s ≡ concluded s (una_at s) a
+pub verdict-by : (s : List ℕ) {b : Opening} {r : Result Opening Breach} {a : Answer} → r ≡ begun_of s → r ≡ Ok b → answer_from b.syntax s b.at ≡ a → verdict_of s ≡ concluded s (una_at s) a
 verdict-by s {b} e d q = ap (verdict_by s) (sym e ∙ d) ∙ ap (concluded s (una_at s)) q
 
 -- ---- empty tables

@@ -1,9 +1,9 @@
 -- The walk over segments so far, as the code keeps it.
-use Rattle.std.specs.Prelude.{ℕ, ◌+◌, ◌*◌, ◌≤◌, ◌<◌, List, ◌≡◌, Bool, true, false, T, length, drop}
+use Rattle.syntax.specs.declared.Breach.{Breach}
+use Rattle.std.specs.Prelude.{ℕ, ◌+◌, ◌*◌, ◌≤◌, ◌<◌, List, ◌≡◌, Bool, true, false, T, length, drop, Result, Ok, Err, None}
 use Rattle.syntax.specs.Service.{fit}
 use Rattle.syntax.specs.Reader.{chain}
 use Rattle.syntax.specs.declared.Syntax.{Syntax}
-use Rattle.grammar.specs.declared.Subset.TheVariants.{None}
 use Rattle.grammar.specs.Interchange.{Reading, start, shown}
 use Rattle.grammar.specs.Placing.{place}
 use Rattle.grammar.specs.Places.{wide}
@@ -15,8 +15,6 @@ use Rattle.turns.specs.Held.{state_in, Held}
 use Rattle.turns.specs.declared.state.Phase.{Phase}
 use Rattle.turns.specs.declared.state.Phase.TheVariants.{Start, Idle, Busy, Done}
 use Rattle.turns.specs.declared.state.State.{State}
-use Rattle.turns.specs.declared.state.Advanced.{Advanced}
-use Rattle.turns.specs.declared.state.Advanced.TheVariants.{On as Further, Stop as Halt}
 use Rattle.std.proofs.Math.Seq.{slice}
 use Rattle.syntax.specs.Tree.{Segment, segment, print_s}
 use Rattle.grammar.specs.Segments.{asked}
@@ -83,6 +81,6 @@ pub record Onward {y : Syntax} {s : List ℕ} {from : ℕ} {x : State} {h l b : 
   pub inside : a.next ≤ length s
   pub kind : a.kind ≡ tag_kind (asked g).tag
 
-abbrev pub AdvancedIs : {y : Syntax} {s : List ℕ} {from : ℕ} {x : State} {h l b : List ℕ} {i : ℕ} → Walking y s from x h l b i → Advanced → List ℕ → List ℕ → List ℕ → Type 0
-AdvancedIs w (Further a) h' l' b' = Onward w a h' l' b'
-AdvancedIs {y = y} {s = s} {from = from} w (Halt f) h' l' b' = answer_from y s from ≡ refused f.number f.place
+abbrev pub AdvancedIs : {y : Syntax} {s : List ℕ} {from : ℕ} {x : State} {h l b : List ℕ} {i : ℕ} → Walking y s from x h l b i → Result Ahead Breach → List ℕ → List ℕ → List ℕ → Type 0
+AdvancedIs w (Ok a) h' l' b' = Onward w a h' l' b'
+AdvancedIs {y = y} {s = s} {from = from} w (Err f) h' l' b' = answer_from y s from ≡ refused f.number f.place

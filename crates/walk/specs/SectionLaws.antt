@@ -1,5 +1,5 @@
 -- Laws of the walk by sections: the header that a trailer names, a segment further in a message, and its end.
-use Rattle.std.specs.Prelude.{ℕ, suc, ◌+◌, ◌*◌, ◌-◌, ◌≤◌, ◌<◌, ◌≡◌, refl, Bool, true, false, cond, List, [], ◌∷◌, T, eqb, ltb, length, take, drop, get_or}
+use Rattle.std.specs.Prelude.{ℕ, suc, ◌+◌, ◌*◌, ◌-◌, ◌≤◌, ◌<◌, ◌≡◌, refl, Bool, true, false, cond, List, [], ◌∷◌, T, eqb, ltb, length, take, drop, get_or, Result, Ok, Some, None, Err, Option}
 use Rattle.std.proofs.Common.{arith, ap, sym, ◌∙◌, subst, ne_eqb, drop-cons}
 use Rattle.std.proofs.lemmas.Bool.{false≢true}
 use Rattle.std.proofs.Math.Option.{some}
@@ -51,8 +51,6 @@ use Rattle.walk.specs.Sections.{nameable_in, laid_out, autack_o, Stays, begins, 
 use Rattle.walk.specs.declared.layout.Spots.{Spots}
 use Rattle.walk.specs.declared.sections.Layout.{Layout}
 use Rattle.walk.specs.declared.sections.Section.{Section}
-use Rattle.walk.specs.declared.sections.Reached.{Reached}
-use Rattle.walk.specs.declared.sections.Reached.TheVariants.{On, Over, Stop}
 use Rattle.turns.specs.declared.state.Phase.{Phase}
 use Rattle.turns.specs.declared.state.Phase.TheVariants.{Start, Idle, Busy, Done}
 use Rattle.turns.specs.declared.state.State.{State}
@@ -459,10 +457,10 @@ module _ {y : Syntax} {s : List ℕ} {from : ℕ} {x : State} {h l b : List ℕ}
     between = section-between c.closed c.layout c.next r.walks r.by;
   }
 
-  pub section-closed : (r : Reached) → UntIs y s from i u ms r h' l' b' rows → SectionIs w r h' l' b' rows
-  section-closed (On c) q = passing c q
-  section-closed Over q = absurd q
-  section-closed (Stop f) q = q
+  pub section-closed : (r : Result (Option Section) Breach) → UntIs y s from i u ms r h' l' b' rows → SectionIs w r h' l' b' rows
+  section-closed (Ok (Some c)) q = passing c q
+  section-closed (Ok None) q = absurd q
+  section-closed (Err f) q = q
 
 -- ---- a walk over sections: what holds at its head, with the marks m, the rows, and the lengths of l and b kept
 
@@ -500,24 +498,24 @@ pub between-so : {y : Syntax} {s : List ℕ} {from : ℕ} {x : State} {h l b : L
 between-so {from = from} g f = record { fits = f; between = g.between; from = from; walks = g.walks; room = g.room; marks = g.marks }
 
 module _ {y : Syntax} {s : List ℕ} {from : ℕ} {x : State} {h l b : List ℕ} {i : ℕ} (w : Walking y s from x h l b i) (h' l' b' rows : List ℕ) where
-  reached-as : (r : Reached) {v : Reached} → r ≡ v → ReachedIs w r h' l' b' rows → ReachedIs w v h' l' b' rows
-  reached-as r q a = subst (λ (r : Reached). ReachedIs w r h' l' b' rows) q a
+  reached-as : (r : Result (Option Section) Breach) {v : Result (Option Section) Breach} → r ≡ v → ReachedIs w r h' l' b' rows → ReachedIs w v h' l' b' rows
+  reached-as r q a = subst (λ (r : Result (Option Section) Breach). ReachedIs w r h' l' b' rows) q a
 
-  pub passed : (r : Reached) {c : Section} → r ≡ On c → ReachedIs w r h' l' b' rows → Passing w c h' l' b' rows
+  pub passed : (r : Result (Option Section) Breach) {c : Section} → r ≡ Ok (Some c) → ReachedIs w r h' l' b' rows → Passing w c h' l' b' rows
   passed r q a = (reached-as r q a).1
 
   -- a section starts before the end, and brings the walk nearer to it
-  pub starts : (r : Reached) {c : Section} → r ≡ On c → ReachedIs w r h' l' b' rows → i < length s
+  pub starts : (r : Result (Option Section) Breach) {c : Section} → r ≡ Ok (Some c) → ReachedIs w r h' l' b' rows → i < length s
   starts r q a = (reached-as r q a).0
 
-  pub nearer : (r : Reached) {c : Section} → r ≡ On c → ReachedIs w r h' l' b' rows → length s - c.next < length s - i
+  pub nearer : (r : Result (Option Section) Breach) {c : Section} → r ≡ Ok (Some c) → ReachedIs w r h' l' b' rows → length s - c.next < length s - i
   nearer r {c} q a =
       let n = starts r q a in
       let f = (passed r q a).far in
       omega (arith, n, f)
 
-  pub read_all : (r : Reached) → r ≡ Over → ReachedIs w r h' l' b' rows → ReadAll w
+  pub read_all : (r : Result (Option Section) Breach) → r ≡ (Ok None) → ReachedIs w r h' l' b' rows → ReadAll w
   read_all r q a = reached-as r q a
 
-  pub stopped : (r : Reached) {f : Breach} → r ≡ Stop f → ReachedIs w r h' l' b' rows → answer_from y s from ≡ refused f.number f.place
+  pub stopped : (r : Result (Option Section) Breach) {f : Breach} → r ≡ Err f → ReachedIs w r h' l' b' rows → answer_from y s from ≡ refused f.number f.place
   stopped r q a = reached-as r q a

@@ -1,5 +1,7 @@
 -- The loop over the segments of a section: what holds at its head, and one law for each way through it.
-use Rattle.std.specs.Prelude.{ℕ, ◌-◌, ◌≤◌, ◌<◌, ◌≡◌, refl, Bool, true, false, List, T, length, take}
+use Rattle.syntax.specs.declared.Breach.{Breach}
+use Rattle.walk.specs.declared.sections.Section.{Section}
+use Rattle.std.specs.Prelude.{ℕ, ◌-◌, ◌≤◌, ◌<◌, ◌≡◌, refl, Bool, true, false, List, T, length, take, Result, Ok, Some, None, Err, Option}
 use Rattle.std.proofs.Common.{arith, ap, sym, ◌∙◌, subst, take_all}
 use Rattle.std.proofs.lemmas.Bool.{false≢true}
 use Rattle.syntax.specs.Service.{fit}
@@ -17,8 +19,6 @@ use Rattle.walk.specs.Runs.{is_done, is_busy, Walking, Going}
 use Rattle.walk.specs.Sections.{laid_out, passed_as, left_open, misplaced_as, ended_as, Starting, UntIs, SectionIs, Between, ReachedIs}
 use Rattle.walk.specs.SectionLaws.{Since, row_room, within_on, within-close, section-open, section-other, section-closed}
 use Rattle.walk.specs.declared.layout.Spots.{Spots}
-use Rattle.walk.specs.declared.sections.Reached.{Reached}
-use Rattle.walk.specs.declared.sections.Reached.TheVariants.{On, Over, Stop}
 
 -- nothing of the section was read, or the message that its first segment opened is still open
 pub data SoFar (y : Syntax) (s : List ℕ) (x₀ : State) (h₀ l₀ b₀ : List ℕ) (i₀ : ℕ) : State → List ℕ → List ℕ → List ℕ → ℕ → Spots → List ℕ → Type 0 where
@@ -101,10 +101,10 @@ module _ {y : Syntax} {s : List ℕ} {x₀ : State} {h₀ l₀ b₀ : List ℕ} 
     -- no message is open behind the segment
     pub close-so : {x : State} {h l b : List ℕ} {i : ℕ} {q : Spots} {rows : List ℕ} → SoFar y s x₀ h₀ l₀ b₀ i₀ x h l b i q rows
         → ((from : ℕ) (w : Walking y s from x h l b i) → Onward w a h' l' b') → is_busy a.state.phase ≡ false → length rows ≡ 18
-        → {r : Reached} → r ≡ passed_as x q i a → (from : ℕ) (w : Walking y s from x₀ h₀ l₀ b₀ i₀) → SectionIs w r h' l' b' rows
+        → {r : Result (Option Section) Breach} → r ≡ passed_as x q i a → (from : ℕ) (w : Walking y s from x₀ h₀ l₀ b₀ i₀) → SectionIs w r h' l' b' rows
     close-so {q = q} {rows = rows} ahead f t n e from w =
-        subst (λ (k : Reached). SectionIs w k h' l' b' rows)
-        (sym (e ∙ ap (λ (k : Bool). On (record { state = a.state; next = a.next; closed = k; layout = laid_out x₀ q i₀ a.next })) g.between))
+        subst (λ (k : Result (Option Section) Breach). SectionIs w k h' l' b' rows)
+        (sym (e ∙ ap (λ (k : Bool). Ok (Some (record { state = a.state; next = a.next; closed = k; layout = laid_out x₀ q i₀ a.next }))) g.between))
         (record {
           walks = (f from w).walks;
           far = let o = onward-far w (f from w) in omega (arith, o);
@@ -115,18 +115,18 @@ module _ {y : Syntax} {s : List ℕ} {x₀ : State} {h₀ l₀ b₀ : List ℕ} 
     close-so {x = x} {i = i} {q = q} {rows = rows} (inside v k) f t n {r} e from w =
         let u = k from w in
         section-closed w u.tree h' l' b' rows r
-        (subst (λ (k : Reached). UntIs y s from i₀ u.u u.ms k h' l' b' rows)
-        (sym (e ∙ ap (λ (k : Bool). On (record { state = a.state; next = a.next; closed = k; layout = laid_out x q i a.next })) v))
+        (subst (λ (k : Result (Option Section) Breach). UntIs y s from i₀ u.u u.ms k h' l' b' rows)
+        (sym (e ∙ ap (λ (k : Bool). Ok (Some (record { state = a.state; next = a.next; closed = k; layout = laid_out x q i a.next }))) v))
         (record { walks = (f from u.within.walks).walks; long = n; by = within-close u.within (f from u.within.walks) t refl 0 }))
 
   -- the octets are over
   pub end-so : {x : State} {h l b : List ℕ} {i : ℕ} {q : Spots} {rows : List ℕ} → SoFar y s x₀ h₀ l₀ b₀ i₀ x h l b i q rows → length s ≤ i → length rows ≡ 18
-      → {r : Reached} → r ≡ left_open x q i → (from : ℕ) (w : Walking y s from x₀ h₀ l₀ b₀ i₀) → SectionIs w r h l b rows
+      → {r : Result (Option Section) Breach} → r ≡ left_open x q i → (from : ℕ) (w : Walking y s from x₀ h₀ l₀ b₀ i₀) → SectionIs w r h l b rows
   end-so ahead z n e from w = let o = g.left in absurd (omega (arith, o, z))
   end-so {h = h} {l = l} {b = b} {rows = rows} (inside v k) z n {r = r} e from w =
       let u = k from w in
       section-closed w u.tree h l b rows r
-      (subst (λ (k : Reached). UntIs y s from i₀ u.u u.ms k h l b rows) (sym e)
+      (subst (λ (k : Result (Option Section) Breach). UntIs y s from i₀ u.u u.ms k h l b rows) (sym e)
       (record { walks = u.within.walks; long = n; by = (u.within.o, (u.within.tree, z)) }))
 
 -- ---- a slice of all the octets holds the octets
@@ -147,26 +147,26 @@ pub starting-whole : {y : Syntax} {s : List ℕ} {x : State} {h l b : List ℕ} 
     → Starting y (take (length s - 0) s) x h l b i rows m
 starting-whole {y} {s} {x} {h} {l} {b} {i} {rows} {m} g k d = subst (λ (z : List ℕ). Starting y z x h l b i rows m) (sym (whole s)) (starting g k d)
 
-module _ (y : Syntax) (s : List ℕ) (x : State) (h l b : List ℕ) (i : ℕ) (r : Reached) (h' l' b' rows : List ℕ) where
+module _ (y : Syntax) (s : List ℕ) (x : State) (h l b : List ℕ) (i : ℕ) (r : Result (Option Section) Breach) (h' l' b' rows : List ℕ) where
   -- a section that is reached
   pub section-whole : i < length s → ((from : ℕ) (w : Walking y (take (length s - 0) s) from x h l b i) → SectionIs w r h' l' b' rows)
       → (from : ℕ) (w : Walking y s from x h l b i) → ReachedIs w r h' l' b' rows
   section-whole k f from w = by r (subst (λ (z : List ℕ). (from : ℕ) (w : Walking y z from x h l b i) → SectionIs w r h' l' b' rows) (whole s) f from w)
     where
-      by : (r : Reached) → SectionIs w r h' l' b' rows → ReachedIs w r h' l' b' rows
-      by (On c) q = (k, q)
-      by Over q = absurd q
-      by (Stop f) q = q
+      by : (r : Result (Option Section) Breach) → SectionIs w r h' l' b' rows → ReachedIs w r h' l' b' rows
+      by (Ok (Some c)) q = (k, q)
+      by (Ok None) q = absurd q
+      by (Err f) q = q
 
 -- ---- the end
 
-pub ended-short : {d : Bool} {r : Reached} {i : ℕ} → d ≡ false → r ≡ misplaced_as i → r ≡ ended_as d i
+pub ended-short : {d : Bool} {r : Result (Option Section) Breach} {i : ℕ} → d ≡ false → r ≡ misplaced_as i → r ≡ ended_as d i
 ended-short {i = i} e q = q ∙ sym (ap (λ (d : Bool). ended_as d i) e)
 
-module _ (y : Syntax) (s : List ℕ) (x : State) (h l b : List ℕ) (i : ℕ) (r : Reached) (h' l' b' rows : List ℕ) where
+module _ (y : Syntax) (s : List ℕ) (x : State) (h l b : List ℕ) (i : ℕ) (r : Result (Option Section) Breach) (h' l' b' rows : List ℕ) where
   -- the octets are over
   pub section-ended : length s ≤ i → {d : Bool} → d ≡ is_done x.phase → r ≡ ended_as d i → (from : ℕ) (w : Walking y s from x h l b i) → ReachedIs w r h' l' b' rows
-  section-ended k {d} e q from w = subst (λ (r : Reached). ReachedIs w r h' l' b' rows) (sym q) (by d e)
+  section-ended k {d} e q from w = subst (λ (r : Result (Option Section) Breach). ReachedIs w r h' l' b' rows) (sym q) (by d e)
     where
       by : (d : Bool) → d ≡ is_done x.phase → ReachedIs w (ended_as d i) h' l' b' rows
       by true e = walking-read w k (sym e)
@@ -174,4 +174,4 @@ module _ (y : Syntax) (s : List ℕ) (x : State) (h l b : List ℕ) (i : ℕ) (r
 
   -- octets behind UNZ
   pub section-behind : T (fit y.service) → i < length s → is_done x.phase ≡ true → r ≡ misplaced_as i → (from : ℕ) (w : Walking y s from x h l b i) → ReachedIs w r h' l' b' rows
-  section-behind f k e q from w = subst (λ (r : Reached). ReachedIs w r h' l' b' rows) (sym q) (walking-over w f k e)
+  section-behind f k e q from w = subst (λ (r : Result (Option Section) Breach). ReachedIs w r h' l' b' rows) (sym q) (walking-over w f k e)

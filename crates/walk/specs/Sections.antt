@@ -1,5 +1,6 @@
 -- The walk by sections: UNB, a whole message, or UNZ. Of a message that was closed: where its parts stand, how many there are, its loads.
-use Rattle.std.specs.Prelude.{ℕ, ◌+◌, ◌≤◌, ◌<◌, ◌≡◌, Bool, true, false, cond, List, T, ltb, length}
+use Rattle.syntax.specs.declared.Breach.{Breach}
+use Rattle.std.specs.Prelude.{ℕ, ◌+◌, ◌≤◌, ◌<◌, ◌≡◌, Bool, true, false, cond, List, T, ltb, length, Result, Ok, Some, None, Err, Option}
 use Rattle.std.proofs.Math.Seq.{slice}
 use Rattle.syntax.specs.Octets.{octets, same}
 use Rattle.syntax.specs.Service.{fit}
@@ -21,8 +22,6 @@ use Rattle.walk.specs.Runs.{is_done, is_busy, answer_from, Walking}
 use Rattle.walk.specs.declared.layout.Spots.{Spots}
 use Rattle.walk.specs.declared.sections.Layout.{Layout}
 use Rattle.walk.specs.declared.sections.Section.{Section}
-use Rattle.walk.specs.declared.sections.Reached.{Reached}
-use Rattle.walk.specs.declared.sections.Reached.TheVariants.{On, Over, Stop}
 use Rattle.turns.specs.declared.state.State.{State}
 use Rattle.turns.specs.declared.state.Ahead.{Ahead}
 
@@ -48,20 +47,20 @@ laid_out x q at next = record {
 }
 
 -- behind a section whose last segment stands at i, and behind which is a: a message that was open before it is closed
-abbrev pub passed_as : State → Spots → ℕ → Ahead → Reached
-passed_as x q i a = On (record { state = a.state; next = a.next; closed = is_busy x.phase; layout = laid_out x q i a.next })
+abbrev pub passed_as : State → Spots → ℕ → Ahead → Result (Option Section) Breach
+passed_as x q i a = Ok (Some (record { state = a.state; next = a.next; closed = is_busy x.phase; layout = laid_out x q i a.next }))
 
 -- the octets are over, and a message is open
-abbrev pub left_open : State → Spots → ℕ → Reached
-left_open x q i = On (record { state = x; next = i; closed = false; layout = laid_out x q i i })
+abbrev pub left_open : State → Spots → ℕ → Result (Option Section) Breach
+left_open x q i = Ok (Some (record { state = x; next = i; closed = false; layout = laid_out x q i i }))
 
 -- 7: "input ends early; octets after UNZ", at the first of them or at the end
-abbrev pub misplaced_as : ℕ → Reached
-misplaced_as i = Stop (record { number = 7; place = i })
+abbrev pub misplaced_as : ℕ → Result (Option Section) Breach
+misplaced_as i = Err (record { number = 7; place = i })
 
 -- behind the last octet, by whether UNZ was read
-abbrev pub ended_as : Bool → ℕ → Reached
-ended_as true i = Over
+abbrev pub ended_as : Bool → ℕ → Result (Option Section) Breach
+ended_as true i = (Ok None)
 ended_as false i = misplaced_as i
 
 -- in names, `O` at the end is an open message
@@ -113,10 +112,10 @@ pub record AtUnt (y : Syntax) (s : List ℕ) (from p : ℕ) (u : Leaf) (ms : Sno
   pub long : length rows ≡ 18
   pub by : UntBy c.closed y s p u ms walks.tree c.layout c.next rows
 
-abbrev pub UntIs : (y : Syntax) → List ℕ → ℕ → ℕ → Leaf → Snoc Message → Reached → List ℕ → List ℕ → List ℕ → List ℕ → Type 0
-UntIs y s from p u ms (On c) h l b rows = AtUnt y s from p u ms c h l b rows
-UntIs y s from p u ms Over h l b rows = ⊥
-UntIs y s from p u ms (Stop f) h l b rows = answer_from y s from ≡ refused f.number f.place
+abbrev pub UntIs : (y : Syntax) → List ℕ → ℕ → ℕ → Leaf → Snoc Message → Result (Option Section) Breach → List ℕ → List ℕ → List ℕ → List ℕ → Type 0
+UntIs y s from p u ms (Ok (Some c)) h l b rows = AtUnt y s from p u ms c h l b rows
+UntIs y s from p u ms (Ok None) h l b rows = ⊥
+UntIs y s from p u ms (Err f) h l b rows = answer_from y s from ≡ refused f.number f.place
 
 -- ---- a section
 
@@ -151,13 +150,13 @@ pub record Passing {y : Syntax} {s : List ℕ} {from : ℕ} {x : State} {h l b :
   -- a message stays open only where the octets are over
   pub between : is_busy c.state.phase ≡ true → length s ≤ c.next
 
-abbrev pub SectionIs : {y : Syntax} {s : List ℕ} {from : ℕ} {x : State} {h l b : List ℕ} {i : ℕ} → Walking y s from x h l b i → Reached → List ℕ → List ℕ → List ℕ → List ℕ → Type 0
-SectionIs w (On c) h' l' b' rows = Passing w c h' l' b' rows
-SectionIs w Over h' l' b' rows = ⊥
-SectionIs {y = y} {s = s} {from = from} w (Stop f) h' l' b' rows = answer_from y s from ≡ refused f.number f.place
+abbrev pub SectionIs : {y : Syntax} {s : List ℕ} {from : ℕ} {x : State} {h l b : List ℕ} {i : ℕ} → Walking y s from x h l b i → Result (Option Section) Breach → List ℕ → List ℕ → List ℕ → List ℕ → Type 0
+SectionIs w (Ok (Some c)) h' l' b' rows = Passing w c h' l' b' rows
+SectionIs w (Ok None) h' l' b' rows = ⊥
+SectionIs {y = y} {s = s} {from = from} w (Err f) h' l' b' rows = answer_from y s from ≡ refused f.number f.place
 
 -- of every walk so far
-pub record SectionEnds (y : Syntax) (s : List ℕ) (x : State) (h l b : List ℕ) (i : ℕ) (r : Reached) (h' l' b' rows m : List ℕ) : Type 0 where
+pub record SectionEnds (y : Syntax) (s : List ℕ) (x : State) (h l b : List ℕ) (i : ℕ) (r : Result (Option Section) Breach) (h' l' b' rows m : List ℕ) : Type 0 where
   pub reached : (from : ℕ) (w : Walking y s from x h l b i) → SectionIs w r h' l' b' rows
   pub marks : length m ≡ 40
 
@@ -172,7 +171,7 @@ pub record Between (y : Syntax) (s : List ℕ) (x : State) (h l b : List ℕ) (i
   pub room : length rows ≡ 18
   pub marks : length m ≡ 40
 
-abbrev pub ReachedIs : {y : Syntax} {s : List ℕ} {from : ℕ} {x : State} {h l b : List ℕ} {i : ℕ} → Walking y s from x h l b i → Reached → List ℕ → List ℕ → List ℕ → List ℕ → Type 0
-ReachedIs {s = s} {i = i} w (On c) h' l' b' rows = (i < length s) × Passing w c h' l' b' rows
-ReachedIs w Over h' l' b' rows = ReadAll w
-ReachedIs {y = y} {s = s} {from = from} w (Stop f) h' l' b' rows = answer_from y s from ≡ refused f.number f.place
+abbrev pub ReachedIs : {y : Syntax} {s : List ℕ} {from : ℕ} {x : State} {h l b : List ℕ} {i : ℕ} → Walking y s from x h l b i → Result (Option Section) Breach → List ℕ → List ℕ → List ℕ → List ℕ → Type 0
+ReachedIs {s = s} {i = i} w (Ok (Some c)) h' l' b' rows = (i < length s) × Passing w c h' l' b' rows
+ReachedIs w (Ok None) h' l' b' rows = ReadAll w
+ReachedIs {y = y} {s = s} {from = from} w (Err f) h' l' b' rows = answer_from y s from ≡ refused f.number f.place

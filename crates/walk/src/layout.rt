@@ -33,11 +33,9 @@ fn headed(x: Spots, next: usize) -> Spots
     ensures { result ≡ spot_step (InHeader 0) x 0 next }
 {
     Spots {
-        unh: x.unh,
-        heads: x.heads,
         body: next,
         tail: next,
-        trailers: x.trailers,
+        ..x
     }
 }
 
@@ -45,13 +43,7 @@ fn headed(x: Spots, next: usize) -> Spots
 fn bodied(x: Spots, next: usize) -> Spots
     ensures { result ≡ spot_step InBody x 0 next }
 {
-    Spots {
-        unh: x.unh,
-        heads: x.heads,
-        body: x.body,
-        tail: next,
-        trailers: x.trailers,
-    }
+    Spots { tail: next, ..x }
 }
 
 // One trailer group more.
@@ -60,11 +52,8 @@ fn trailed(x: Spots) -> Spots
     ensures { result ≡ spot_step (InTrailer false) x 0 0 }
 {
     Spots {
-        unh: x.unh,
-        heads: x.heads,
-        body: x.body,
-        tail: x.tail,
         trailers: x.trailers + 1,
+        ..x
     }
 }
 

@@ -2,7 +2,6 @@
 ghost use Rattle.std.specs.Prelude.{◌≡◌, ◌&&◌, not, ℕ, ◌<◌, length};
 ghost use Rattle.syntax.specs.Content.{compared};
 ghost use Rattle.syntax.specs.Octets.{same};
-ghost use Rattle.syntax.specs.Classes.{Table};
 ghost use Rattle.elements.specs.Octets.{text_at};
 ghost use Rattle.message.specs.Heads.{head_ref, head_flag};
 ghost use Rattle.grammar.specs.Weighed as weighed;
@@ -15,10 +14,11 @@ use crate::layout::{Spots, opened, spotted};
 use grammar::{Subset, is_autack};
 use message::heads::is_free;
 use message::kept::fresh_message;
+use syntax::Breach;
+use syntax::classes::Classes;
 use syntax::content::{content_is, part};
 use syntax::reading::component_part;
-use syntax::{Breach, Syntax};
-use turns::state::{Advanced, Ahead, Phase, State, Stretch};
+use turns::state::{Ahead, Phase, State, Stretch};
 
 // Where the parts of a message stand: its UNH, its header groups, its body, its trailer groups, its UNT, and what comes behind it; how many headers and
 // trailers it has; whether it is an AUTACK; its loads and their grams, and whether they are below zero; its 0062.
@@ -48,19 +48,11 @@ pub struct Section {
     pub closed: bool,
 }
 
-// Over: UNZ was read, and nothing stands behind it.
-#[derive(Clone, Copy)]
-pub enum Reached {
-    On(Section),
-    Over,
-    Stop(Breach),
-}
-
 // Before UNB: nothing read.
 pub fn unread() -> State
     ensures { result ≡ unread_as }
 {
-    let m = fresh_message(Subset::None);
+    let m = fresh_message(None);
     State {
         phase: Phase::Start,
         count: 0,
@@ -75,24 +67,14 @@ pub fn unread() -> State
 fn is_done(p: Phase) -> bool
     ensures { result ≡ is_done p }
 {
-    match p {
-        Phase::Done => true,
-        Phase::Start => false,
-        Phase::Idle => false,
-        Phase::Busy => false,
-    }
+    matches!(p, Phase::Done)
 }
 
 // Whether a message is open.
 fn is_busy(p: Phase) -> bool
     ensures { result ≡ is_busy p }
 {
-    match p {
-        Phase::Busy => true,
-        Phase::Start => false,
-        Phase::Idle => false,
-        Phase::Done => false,
-    }
+    matches!(p, Phase::Busy)
 }
 
 // How many headers a trailer at `at` chooses from: all `n` of them, none where no UST stands there. Most segments are told by their first octet.
@@ -113,30 +95,19 @@ pub fn nameable(s: &[u8], at: usize, n: usize) -> usize
 }
 
 // Whether the trailer at `at` names header `i`, which no trailer has named yet.
-pub fn names_free(
-    s: &[u8],
-    at: usize,
-    t: &[u8; 256],
-    y: Syntax,
-    heads: &[usize; 36],
-    i: usize,
-) -> bool
-    requires table { Table y t.now }
+pub fn names_free(s: &[u8], at: usize, t: &Classes, heads: &[usize; 36], i: usize) -> bool
     requires i_bound { i < 9 }
-    ensures { result ≡ (same (head_ref y.service.release s.now heads.now i) (compared (text_at y.service s.now at 1 0)) && not (head_flag heads.now i)) }
+    ensures { result ≡ (same (head_ref t.now.syntax.service.release s.now heads.now i) (compared (text_at t.now.syntax.service s.now at 1 0)) && not (head_flag heads.now i)) }
 {
-    let v = y.service;
-    is_free(s, v.release, heads, i, component_part(s, at, t, y, 1, 0))
+    let v = t.syntax.service;
+    is_free(s, v.release, heads, i, component_part(s, at, t, 1, 0))
 }
 
 // How far two counts are apart.
 fn apart(a: u64, b: u64) -> u64
     ensures { result ≡ weighed.apart a b }
 {
-    if a < b {
-        return b - a;
-    }
-    a - b
+    a.abs_diff(b)
 }
 
 // The layout of the message `st` whose UNT stands from `at` to `next`.
@@ -168,23 +139,21 @@ fn laid_out(st: State, x: Spots, at: usize, next: usize) -> Layout
 fn is_outside(a: Ahead) -> bool
     ensures { result ≡ not (is_busy a.state.phase) }
 {
-    let z = a.state;
-    let p = z.phase;
-    !is_busy(p)
+    !is_busy(a.state.phase)
 }
 
 // Behind a section: the state, and of a message that was open at `at`, before its last segment, the layout.
-fn passed(st: State, x: Spots, at: usize, a: Ahead) -> Reached
+fn passed(st: State, x: Spots, at: usize, a: Ahead) -> Result<Option<Section>, Breach>
     ensures { result ≡ passed_as st x at a }
 {
     let p = st.phase;
     let z = a.state;
-    Reached::On(Section {
+    Ok(Some(Section {
         state: z,
         next: a.next,
         closed: is_busy(p),
         layout: laid_out(st, x, at, a.next),
-    })
+    }))
 }
 
 // The spots behind the segment at `at`, and in `rows` where its group starts.
@@ -199,15 +168,15 @@ fn spots_behind(x: Spots, rows: &mut [usize; 18], a: Ahead, at: usize) -> Spots
 }
 
 // The octets are over, and a message is open.
-fn left_open(st: State, x: Spots, at: usize) -> Reached
+fn left_open(st: State, x: Spots, at: usize) -> Result<Option<Section>, Breach>
     ensures { result ≡ left_open st x at }
 {
-    Reached::On(Section {
+    Ok(Some(Section {
         state: st,
         next: at,
         closed: false,
         layout: laid_out(st, x, at, at),
-    })
+    }))
 }
 
 // A section by octets whose place no store can change: what stands at `from`, between messages or before UNB. Each UST names a header not yet named:
@@ -216,17 +185,16 @@ fn left_open(st: State, x: Spots, at: usize) -> Reached
 fn section_in(
     s: &[u8],
     mut at: usize,
-    t: &[u8; 256],
-    y: Syntax,
+    t: &Classes,
     mut st: State,
     marks: &mut [usize],
     heads: &mut [usize; 36],
     names: &mut [u64],
     slots: &mut [u16],
     rows: &mut [usize; 18],
-) -> Reached
-    requires { Table y t.now × Starting y s.now st heads.old names.old slots.old at rows.old marks.old }
-    ensures { SectionEnds y s.now st heads.old names.old slots.old at result heads.new names.new slots.new rows.new marks.new }
+) -> Result<Option<Section>, Breach>
+    requires { Starting t.now.syntax s.now st heads.old names.old slots.old at rows.old marks.old }
+    ensures { SectionEnds t.now.syntax s.now st heads.old names.old slots.old at result heads.new names.new slots.new rows.new marks.new }
 {
     let mut x = opened(at, at);
     while at < s.len() {
@@ -234,63 +202,57 @@ fn section_in(
         let n = nameable(s, at, m.headers as usize);
         let mut found = n;
         for i in 0..n {
-            if names_free(s, at, t, y, heads, i) {
+            if names_free(s, at, t, heads, i) {
                 found = i;
                 break;
             }
         }
-        match advance(s, at, t, y, st, marks, heads, names, slots, found) {
-            Advanced::Stop(f) => return Reached::Stop(f),
-            Advanced::On(a) => {
-                if is_outside(a) {
-                    return passed(st, x, at, a);
-                }
-                x = spots_behind(x, rows, a, at);
-                st = a.state;
-                at = a.next;
-            }
+        let a = advance(s, at, t, st, marks, heads, names, slots, found)?;
+        if is_outside(a) {
+            return passed(st, x, at, a);
         }
+        x = spots_behind(x, rows, a, at);
+        st = a.state;
+        at = a.next;
     }
     left_open(st, x, at)
 }
 
 // The input ends early, or octets stand after UNZ: 7.
-fn misplaced(at: usize) -> Reached
+fn misplaced(at: usize) -> Result<Option<Section>, Breach>
     ensures { result ≡ misplaced_as at }
 {
-    Reached::Stop(Breach {
+    Err(Breach {
         number: 7,
         place: at,
     })
 }
 
 // Behind the last octet, at `at`: all was read if UNZ was.
-fn ended(done: bool, at: usize) -> Reached
+fn ended(done: bool, at: usize) -> Result<Option<Section>, Breach>
     ensures { result ≡ ended_as done at }
 {
     if done {
-        return Reached::Over;
+        return Ok(None);
     }
     misplaced(at)
 }
 
-// What stands at `from`, between messages or before UNB: UNB, a whole message, or UNZ; or the end. The octets go on as a slice of this call's own: of a
+// What stands at `from`, between messages or before UNB: UNB, a whole message, or UNZ; or, None, the end: UNZ was read, and nothing stands behind it. The octets go on as a slice of this call's own: of a
 // lent one the compiler reads place and length again behind each store.
 pub fn next_section(
     s: &[u8],
     from: usize,
-    t: &[u8; 256],
-    y: Syntax,
+    t: &Classes,
     st: State,
     marks: &mut [usize],
     heads: &mut [usize; 36],
     names: &mut [u64],
     slots: &mut [u16],
     rows: &mut [usize; 18],
-) -> Reached
-    requires table { Table y t.now }
-    requires between { Between y s.now st heads.old names.old slots.old from rows.old marks.old }
-    ensures by_index { (b : ℕ) (w : Walking y s.now b st heads.old names.old slots.old from) → ReachedIs w result heads.new names.new slots.new rows.new }
+) -> Result<Option<Section>, Breach>
+    requires between { Between t.now.syntax s.now st heads.old names.old slots.old from rows.old marks.old }
+    ensures by_index { (b : ℕ) (w : Walking t.now.syntax s.now b st heads.old names.old slots.old from) → ReachedIs w result heads.new names.new slots.new rows.new }
     ensures marks_len { length marks.new ≡ 40 }
 {
     let n = s.len();
@@ -302,5 +264,5 @@ pub fn next_section(
     if done {
         return misplaced(from);
     }
-    section_in(&s[0..n], from, t, y, st, marks, heads, names, slots, rows)
+    section_in(&s[0..n], from, t, st, marks, heads, names, slots, rows)
 }

@@ -1,57 +1,52 @@
 -- What the code lays is the printing of the sealed interchange.
-use Prim.Native.Nat.{ℕ, suc, ◌+◌, ◌-◌, ◌≤◌, ◌<◌}
-use Rattle.std.proofs.Common.{arith, add-one, ◌∙◌, drop-drop}
-use Rattle.std.specs.Prelude.{Bool, true, false, cond, not, ◌&&◌, ◌≡◌, T, take, drop}
+use Prim.Native.Nat.{ℕ, ◌+◌, ◌-◌, ◌<◌}
+use Rattle.std.proofs.Common.{arith, ◌∙◌, drop-drop}
+use Rattle.std.specs.Prelude.{Bool, true, false, cond, ◌&&◌, ◌≡◌, T, take, drop, Option, Some, None}
 use Rattle.std.proofs.lemmas.Bool.{false≢true}
 use mathlib.Core.List.{List, [], ◌∷◌, ◌++◌, append_assoc, append-nil}
-use Rattle.std.proofs.Math.Option.{Option, none, some}
+use Rattle.std.proofs.Math.Option.{Option as Maybe, none, some}
 use Rattle.std.proofs.Math.Path.{refl, ap, sym, subst}
 use Rattle.std.proofs.Math.ListN.{length, length-append}
-use Rattle.std.proofs.Math.Seq.{slice, take-append_seam, drop-append_seam, drop-append-add}
+use Rattle.std.proofs.Math.Seq.{slice, take-append_seam, drop-append_seam}
 use Rattle.syntax.specs.Octets.{same, within}
-use Rattle.syntax.specs.Service.{kind_of, fit}
+use Rattle.syntax.specs.Service.{fit}
 use Rattle.syntax.specs.Content.{content, all_digits, value_from, compared}
 use Rattle.syntax.specs.Scanning.{number_in}
 use Rattle.syntax.specs.Cutting.{stop_from}
 use Rattle.syntax.proofs.CuttingLaws.{slice-take}
 use Rattle.syntax.specs.Segment.{component_at, part_of}
-use Rattle.syntax.specs.Tree.{Element, Segment, Octet, plain, freed, Symbol, tok, elem, term, comp, rep, flat_e, each, spells, print_s, print, well}
+use Rattle.syntax.specs.Tree.{Element, Segment, Octet, plain, freed, Symbol, tok, elem, term, flat_e, each, spells, print_s, print}
 use Rattle.syntax.proofs.TreeLaws.{and_left, and_right, sym_kind, Reads, All, all_left, all_e, ok-reads, well-reads, spells-append, print-cons, pass}
 use Rattle.syntax.specs.declared.Service.{Service}
 use Rattle.syntax.specs.declared.Syntax.{Syntax}
 use Rattle.syntax.specs.declared.Version.{Version}
-use Rattle.syntax.specs.declared.Found.{Found}
-use Rattle.syntax.specs.declared.Found.TheVariants.{At, Nothing}
-use Rattle.syntax.specs.declared.content.Number.{Number}
-use Rattle.syntax.specs.declared.content.Number.TheVariants.{Is, Not}
 use Rattle.grammar.specs.Lists as grammar
 use Rattle.grammar.specs.Lists.{Snoc, nil, ◌▷◌, ◌+++◌, list, Rule, holds, every}
 use Rattle.grammar.specs.Segments.{Unb, Unh, Unt, Unz, seg, element_content, number, Asked, asked}
 use Rattle.grammar.specs.Elements.{digits, in_range, formed}
 use Rattle.grammar.specs.Interchange.{Leaf, Header, Trailer, Body, Open, msg, Message, message, idle, done, shown, show_header, show_trailer, show_body, show_open, show_message}
 use Rattle.grammar.specs.Rules.{ref_m, formed_s}
-use Rattle.grammar.specs.Valid.{Una, una, Interchange, interchange, in_force, syntax_in, opening_in, print_una, una_of, segments, Valid}
+use Rattle.grammar.specs.Valid.{Una, una, Interchange, interchange, opening_in, print_una}
 use Rattle.grammar.specs.Verdict.{accepted, verdict_of}
 use Rattle.grammar.proofs.VerdictLaws.{verdict-exact}
-use Rattle.grammar.proofs.PlacingLaws.{regroup}
 use Rattle.grammar.specs.TestLaws.{is_true}
 use Rattle.grammar.specs.Places.{wide}
-use Rattle.grammar.proofs.PlacesLaws.{wide-list, wide-join}
-use Rattle.grammar.specs.Named.{Placed, placed, placed_in}
+use Rattle.grammar.proofs.PlacesLaws.{wide-list}
+use Rattle.grammar.specs.Named.{placed, placed_in}
 use Rattle.elements.specs.AmountsLaws.{tens-below, digits-below}
 use Rattle.message.specs.StepsLaws.{six-is}
-use Rattle.walk.specs.Layout.{heads_at, body_at, tail_at}
+use Rattle.walk.specs.Layout.{body_at}
 use Rattle.walk.specs.Sections.{PartsLie}
 use Rattle.walk.specs.declared.sections.Layout.{Layout}
 use Rattle.writing.specs.Decimal.{decimal_of}
 use Rattle.writing.specs.Laid.{together}
 use Rattle.groups.specs.Stand.{Stand}
-use Rattle.groups.specs.StandLaws.{list-join, print-append, stand-front, stand-back, stand-asked, stand-slice}
+use Rattle.groups.specs.StandLaws.{list-join, print-append, stand-back, stand-asked, stand-slice}
 use Rattle.groups.specs.PartsLaws.{body-stands}
 use Rattle.groups.specs.Calls.{service_in, version_in, message_in, Holds}
 use Rattle.groups.specs.CallsLaws.{placed-every, version-so}
-use Rattle.weaving.specs.Seals.{single, new_header, new_trailer, grown, sealed_message, sealed_in, sealed, signed_text, sealed_text}
-use Rattle.weaving.specs.Woven.{header_text, trailer_text, count_by, count_at, end_by, count_end, rest_pieces, octets_pieces, sealed_pieces}
+use Rattle.weaving.specs.Seals.{single, new_header, new_trailer, grown, sealed_message, sealed_in, signed_text, sealed_text}
+use Rattle.weaving.specs.Woven.{header_text, trailer_text, count_by, count_at, end_by, count_end, octets_pieces, sealed_pieces}
 use Rattle.weaving.specs.PiecesLaws.{segment-print, single-print}
 use Rattle.grammar.proofs.ListsLaws.{every-right, every-joined, joined-join}
 
@@ -66,7 +61,7 @@ module _ (σ : Service) (s : List ℕ) (p : ℕ) (f : T (fit σ)) where
   abbrev pub unt_tail : List Element → List ℕ
   unt_tail es = spells σ (each elem flat_e es) ++ σ.terminator ∷ []
 
-  tail-stops : (es : List Element) (r : List ℕ) (a : ℕ) → stop_from σ 4 false (unt_tail es ++ r) a ≡ At a
+  tail-stops : (es : List Element) (r : List ℕ) (a : ℕ) → stop_from σ 4 false (unt_tail es ++ r) a ≡ Some a
   tail-stops [] r a = rw (ok-reads σ f term tt)
   tail-stops (e ∷ es) r a = rw (ok-reads σ f elem tt)
 
@@ -238,7 +233,7 @@ module _ (σ : Service) where
 
 -- ---- the sealed interchange
 
-pub una-length : (n : Option Una) → length (print_una n) ≡ (opening_in n).at
+pub una-length : (n : Maybe Una) → length (print_una n) ≡ (opening_in n).at
 una-length none = refl
 una-length (some (una σ x)) = refl
 
@@ -331,12 +326,12 @@ signed h r f = signed_by r f h.o h.t h.q h.laid h.stands ∙ ap (λ (τ : Servic
 
 -- ---- 0074 as the code reads it
 
-module _ (x : List ℕ) {d : Number} (e : d ≡ number_in x) {n : ℕ} (k : d ≡ Is n) where
+module _ (x : List ℕ) {d : Option ℕ} (e : d ≡ number_in x) {n : ℕ} (k : d ≡ Some n) where
   -- 15 digits at most
   pub count_low : n < 1000000000000000
   count_low = by (all_digits x && within 1 15 (length x)) refl (sym k ∙ e)
     where
-      by : (b : Bool) → (all_digits x && within 1 15 (length x)) ≡ b → Is n ≡ cond b (Is (value_from 0 x)) Not → n < 1000000000000000
+      by : (b : Bool) → (all_digits x && within 1 15 (length x)) ≡ b → Some n ≡ cond b (Some (value_from 0 x)) None → n < 1000000000000000
       by false h q = let z : ◌≡◌ {A = ℕ} 0 1 = cc in absurd (omega arith)
       by true h q =
           let v : n ≡ value_from 0 x = cc in
@@ -344,9 +339,9 @@ module _ (x : List ℕ) {d : Number} (e : d ≡ number_in x) {n : ℕ} (k : d �
           let l = tens-below (length x) 15 w.1 in
           omega (arith, v, w.0, l)
 
-module _ (σ : Service) (s : List ℕ) (p : ℕ) {z : List ℕ} (c : z ≡ part_of s (component_at σ s p 1 0)) {d : Number} (e : d ≡ number_in (content σ.release z)) where
-  pub count-told : {n : ℕ} → d ≡ Is n → n + 4 ≡ count_at σ s p
+module _ (σ : Service) (s : List ℕ) (p : ℕ) {z : List ℕ} (c : z ≡ part_of s (component_at σ s p 1 0)) {d : Option ℕ} (e : d ≡ number_in (content σ.release z)) where
+  pub count-told : {n : ℕ} → d ≡ Some n → n + 4 ≡ count_at σ s p
   count-told k = ap count_by (sym k ∙ e ∙ ap (λ (l : List ℕ). number_in (content σ.release l)) c)
 
-  pub count_none : d ≡ Not → 4 ≡ count_at σ s p
+  pub count_none : d ≡ None → 4 ≡ count_at σ s p
   count_none k = ap count_by (sym k ∙ e ∙ ap (λ (l : List ℕ). number_in (content σ.release l)) c)

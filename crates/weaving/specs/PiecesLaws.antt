@@ -1,14 +1,14 @@
 -- The new groups are laid piece by piece as they print.
 use Rattle.std.specs.Prelude.{ℕ, ◌+◌, ◌≤◌, ◌<◌, min, Bool, true, false, cond, ◌≡◌, refl, length, take}
 use Rattle.std.proofs.Math.Nat.{min-le_right}
-use Rattle.std.proofs.Common.{arith, ◌∙◌, sym, length-take, length-drop}
+use Rattle.std.proofs.Common.{arith, ◌∙◌, length-take, length-drop}
 use mathlib.Core.List.{List, [], ◌∷◌, ◌++◌, append_assoc, append-nil}
 use Rattle.std.proofs.Math.Path.{ap}
 use Rattle.std.proofs.Math.Seq.{slice}
 use Rattle.syntax.specs.Service.{serves}
 use Rattle.syntax.specs.Octets.{octets}
 use Rattle.syntax.specs.Opening.{earlier}
-use Rattle.syntax.specs.Tree.{Octet, plain, freed, Element, Segment, segment, Symbol, tok, elem, term, flat_c, flat_e, each, spells, print_s}
+use Rattle.syntax.specs.Tree.{plain, freed, Element, segment, Symbol, elem, term, flat_c, flat_e, each, spells, print_s}
 use Rattle.syntax.proofs.TreeLaws.{spells-append, print-cons}
 use Rattle.syntax.specs.declared.Service.{Service}
 use Rattle.syntax.specs.declared.Version.{Version}

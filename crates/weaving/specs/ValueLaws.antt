@@ -1,16 +1,16 @@
 -- The text of VALUE: what may be written, and how it is released.
-use Rattle.std.specs.Prelude.{ℕ, suc, ◌+◌, ◌*◌, ◌/◌, ◌≤◌, ◌<◌, Bool, true, false, cond, not, ◌&&◌, List, [], ◌∷◌, ◌++◌, ◌≡◌, refl, eqb, leb, length, get_or, set, drop}
-use Rattle.std.proofs.Common.{add-one, arith, ap, ◌∙◌, sym, drop_of_length-le, drop-cons, ne_eqb, eq-eqb, le-leb}
+use Rattle.std.specs.Prelude.{ℕ, suc, ◌+◌, ◌*◌, ◌≤◌, ◌<◌, Bool, true, false, cond, not, List, [], ◌∷◌, ◌++◌, ◌≡◌, refl, eqb, leb, length, get_or, set, drop}
+use Rattle.std.proofs.Common.{add-one, arith, ap, ◌∙◌, sym, drop_of_length-le, drop-cons, ne_eqb, le-leb}
 use Rattle.std.proofs.lemmas.Bool.{false≢true}
 use Rattle.syntax.specs.Octets.{all_pass}
 use Rattle.syntax.specs.Service.{kind_of, serves}
 use Rattle.syntax.specs.Repertoire.{inside}
-use Rattle.syntax.specs.Classes.{outside_class, release_class, end_class, class_of}
+use Rattle.syntax.specs.Classes.{outside_class, class_of}
 use Rattle.syntax.specs.RepertoireLaws.{Sorted, is-data, is-bad, is-release, is-separator, is-end, sorted}
 use Rattle.syntax.specs.declared.Service.{Service}
 use Rattle.syntax.specs.declared.Syntax.{Syntax}
 use Rattle.writing.specs.Laid.{Laid}
-use Rattle.writing.specs.LaidLaws.{Rest, rest-start, rest-same, rest-laid, rest_end, laid_same}
+use Rattle.writing.specs.LaidLaws.{Rest, rest-start, rest-same, rest-laid, rest_end}
 use Rattle.filters.specs.Hex.{hex_text}
 use Rattle.filters.specs.HexLaws.{hex-length}
 use Rattle.filters.specs.Six.{six_text}

@@ -1,5 +1,5 @@
 -- How the code lays what sealing writes: piece by piece.
-use Rattle.std.specs.Prelude.{ℕ, ◌+◌, false, cond, List, [], ◌∷◌, length, drop}
+use Rattle.std.specs.Prelude.{ℕ, ◌+◌, false, cond, List, [], ◌∷◌, length, drop, Option, Some, None}
 use Rattle.std.proofs.Math.Seq.{slice}
 use Rattle.syntax.specs.Opening.{earlier}
 use Rattle.syntax.specs.declared.Version.{Version}
@@ -13,10 +13,6 @@ use Rattle.syntax.specs.Segment.{component_at, part_of}
 use Rattle.syntax.specs.Tree.{print}
 use Rattle.syntax.specs.declared.Service.{Service}
 use Rattle.syntax.specs.declared.Syntax.{Syntax}
-use Rattle.syntax.specs.declared.Found.{Found}
-use Rattle.syntax.specs.declared.Found.TheVariants.{At, Nothing}
-use Rattle.syntax.specs.declared.content.Number.{Number}
-use Rattle.syntax.specs.declared.content.Number.TheVariants.{Is, Not}
 use Rattle.grammar.specs.Lists.{list}
 use Rattle.grammar.specs.Interchange.{show_header, show_trailer}
 use Rattle.walk.specs.declared.sections.Layout.{Layout}
@@ -69,16 +65,16 @@ trailer_pieces v σ r t =
 
 -- ---- UNT with 0074 grown by 4, and all behind it, where UNT stands at p
 
-abbrev pub count_by : Number → ℕ
-count_by (Is n) = n + 4
-count_by Not = 4
+abbrev pub count_by : Option ℕ → ℕ
+count_by (Some n) = n + 4
+count_by None = 4
 
 abbrev pub count_at : Service → List ℕ → ℕ → ℕ
 count_at σ s p = count_by (number_in (content σ.release (part_of s (component_at σ s p 1 0))))
 
-abbrev pub end_by : List ℕ → Found → ℕ
-end_by s (At e) = e
-end_by s Nothing = length s
+abbrev pub end_by : List ℕ → Option ℕ → ℕ
+end_by s (Some e) = e
+end_by s None = length s
 
 -- where 0074 ends
 abbrev pub count_end : Service → List ℕ → ℕ → ℕ

@@ -1,10 +1,10 @@
 // The new header group and the new trailer group.
 ghost use Rattle.std.specs.Prelude.{◌≡◌, ◌+◌, ◌≤◌, ◌<◌, length};
-ghost use Rattle.syntax.specs.Classes.{Table};
 ghost use Rattle.writing.specs.Laid.{Laid};
 ghost use Rattle.weaving.specs.Woven.{header_text, trailer_text, ust_end, usr_open};
 
 use crate::value::put_released;
+use syntax::classes::Classes;
 use syntax::opening::is_earlier;
 use syntax::{Service, Syntax};
 use writing::{put, put_number};
@@ -48,8 +48,7 @@ fn put_close(out: &mut [u8], at: usize, y: Syntax) -> usize
     ensures upper_bound { result ≤ at + 3 }
 {
     let v = y.service;
-    let edition = y.version;
-    if is_earlier(edition) {
+    if is_earlier(y.version) {
         let end = [v.terminator];
         return put(&mut *out, at, &end);
     }
@@ -64,8 +63,7 @@ fn put_usr(out: &mut [u8], at: usize, y: Syntax) -> usize
     ensures upper_bound { result ≤ at + 6 }
 {
     let v = y.service;
-    let edition = y.version;
-    if is_earlier(edition) {
+    if is_earlier(y.version) {
         let short = [b'U', b'S', b'R', v.element];
         return put(&mut *out, at, &short);
     }
@@ -77,23 +75,21 @@ fn put_usr(out: &mut [u8], at: usize, y: Syntax) -> usize
 pub fn put_trailer(
     out: &mut [u8],
     at: usize,
-    t: &[u8; 256],
-    y: Syntax,
+    t: &Classes,
     reference: &[u8],
     letters: &[u8],
 ) -> usize
-    requires table { Table y t.now }
     requires at_bound { (at < 1073741824) × (length reference.now ≤ 14) × (length letters.now ≤ 512) }
-    ensures laid { Laid out.old at (trailer_text y.version y.service reference.now letters.now) result out.new }
+    ensures laid { Laid out.old at (trailer_text t.now.syntax.version t.now.syntax.service reference.now letters.now) result out.new }
     ensures upper_bound { result ≤ at + 1100 }
 {
-    let v = y.service;
+    let v = t.syntax.service;
     let open = [b'U', b'S', b'T', v.element];
     let end = [v.terminator];
     let p1 = put(&mut *out, at, &open);
     let p2 = put(&mut *out, p1, reference);
-    let p3 = put_close(&mut *out, p2, y);
-    let p4 = put_usr(&mut *out, p3, y);
-    let p5 = put_released(&mut *out, p4, t, y, letters);
+    let p3 = put_close(&mut *out, p2, t.syntax);
+    let p4 = put_usr(&mut *out, p3, t.syntax);
+    let p5 = put_released(&mut *out, p4, t, letters);
     put(&mut *out, p5, &end)
 }

@@ -1,7 +1,6 @@
 // VALUE as text: by the filter, and with the service characters in it released.
 ghost use Rattle.std.specs.Prelude.{◌≡◌, [], ◌∷◌, ◌+◌, ◌*◌, ◌≤◌, ◌<◌, length};
 ghost use Rattle.syntax.specs.Service.{serves};
-ghost use Rattle.syntax.specs.Classes.{Table};
 ghost use Rattle.syntax.specs.Octets.{all_pass};
 ghost use Rattle.writing.specs.Laid.{Laid};
 ghost use Rattle.weaving.specs.Seals.{text_by, may_write};
@@ -9,8 +8,8 @@ ghost use Rattle.weaving.specs.Woven.{released_text};
 
 use filters::hex::hex_text;
 use filters::six::six_text;
-use syntax::Syntax;
-use syntax::repertoire::{OUTSIDE, class};
+use syntax::classes::Classes;
+use syntax::repertoire::OUTSIDE;
 use writing::store;
 
 // The text that the filter F gives VALUE.
@@ -25,53 +24,40 @@ pub fn filter_text(out: &mut [u8], filter: u64, value: &[u8]) -> usize
 }
 
 // Whether an octet is a service character in force.
-fn is_service(t: &[u8; 256], y: Syntax, b: u8) -> bool
-    requires { Table y t.now }
-    ensures { result ≡ serves y.service b }
+fn is_service(t: &Classes, b: u8) -> bool
+    ensures { result ≡ serves t.now.syntax.service b }
 {
-    let c = class(t, y, b);
-    if c <= 1 {
-        return false;
-    }
-    c != OUTSIDE
+    let c = t.class(b);
+    1 < c && c != OUTSIDE
 }
 
-fn may_write(t: &[u8; 256], y: Syntax, b: u8) -> bool
-    requires { Table y t.now }
-    ensures { result ≡ may_write y b }
+fn may_write(t: &Classes, b: u8) -> bool
+    ensures { result ≡ may_write t.now.syntax b }
 {
-    let v = y.service;
-    let release = v.release;
-    if is_service(t, y, b) {
-        return release != 32;
+    if is_service(t, b) {
+        return t.syntax.service.release != 32;
     }
-    class(t, y, b) <= 1
+    t.class(b) <= 1
 }
 
 // Whether the text can be written: all of it is inside the repertoire, and where a service character is in it a release is in force.
-pub fn is_writable(t: &[u8; 256], y: Syntax, text: &[u8]) -> bool
-    requires { Table y t.now }
-    ensures { result ≡ all_pass (may_write y) text.now }
+pub fn is_writable(t: &Classes, text: &[u8]) -> bool
+    ensures { result ≡ all_pass (may_write t.now.syntax) text.now }
 {
-    let mut i: usize = 0;
-    while i < text.len() {
-        if may_write(t, y, text[i]) {
-            i += 1;
-            continue;
+    for b in text {
+        if !may_write(t, *b) {
+            return false;
         }
-        return false;
     }
     true
 }
 
-fn put_octet(out: &mut [u8], at: usize, t: &[u8; 256], y: Syntax, b: u8) -> usize
-    requires table { Table y t.now }
+fn put_octet(out: &mut [u8], at: usize, t: &Classes, b: u8) -> usize
     requires at_bound { at < 4294967296 }
-    ensures { Laid out.old at (released_text y.service (b ∷ [])) result out.new }
+    ensures { Laid out.old at (released_text t.now.syntax.service (b ∷ [])) result out.new }
 {
-    if is_service(t, y, b) {
-        let v = y.service;
-        store(&mut *out, at, v.release);
+    if is_service(t, b) {
+        store(&mut *out, at, t.syntax.service.release);
         store(&mut *out, at + 1, b);
         return at + 2;
     }
@@ -80,17 +66,14 @@ fn put_octet(out: &mut [u8], at: usize, t: &[u8; 256], y: Syntax, b: u8) -> usiz
 }
 
 // The text with its service characters released.
-pub fn put_released(out: &mut [u8], at: usize, t: &[u8; 256], y: Syntax, text: &[u8]) -> usize
-    requires table { Table y t.now }
+pub fn put_released(out: &mut [u8], at: usize, t: &Classes, text: &[u8]) -> usize
     requires at_bound { (at < 2147483648) × (length text.now ≤ 512) }
-    ensures laid { Laid out.old at (released_text y.service text.now) result out.new }
+    ensures laid { Laid out.old at (released_text t.now.syntax.service text.now) result out.new }
     ensures upper_bound { result ≤ at + 1024 }
 {
-    let mut i: usize = 0;
     let mut p = at;
-    while i < text.len() {
-        p = put_octet(&mut *out, p, t, y, text[i]);
-        i += 1;
+    for b in text {
+        p = put_octet(&mut *out, p, t, *b);
     }
     p
 }

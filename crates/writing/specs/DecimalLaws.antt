@@ -1,10 +1,8 @@
 -- The decimal text of a number: digits that give the number, at most 20 of them below 2 to the 64, and no leading zero.
-use Rattle.std.specs.Prelude.{ℕ, zero, suc, ◌+◌, ◌-◌, ◌*◌, ◌/◌, ◌%◌, ◌≤◌, ◌<◌, List, [], ◌∷◌, ◌≡◌, refl, Bool, true, false, cond, ltb, length, get_or, set, take, drop}
-use Rattle.std.proofs.Common.{arith, ap, sym, ◌∙◌, drop_of_length-le, length-set, length-drop, drop-cons, take_all, lt-length-set, drop-set-lt, get_or-set_same, lt-ltb, le-ltb, ltb-true, ltb-false, le-leb}
+use Rattle.std.specs.Prelude.{ℕ, zero, suc, ◌+◌, ◌-◌, ◌*◌, ◌/◌, ◌%◌, ◌≤◌, ◌<◌, List, [], ◌∷◌, ◌≡◌, refl, Bool, true, false, cond, ltb, length, get_or, set, drop}
+use Rattle.std.proofs.Common.{arith, ap, sym, ◌∙◌, drop_of_length-le, length-set, drop-cons, lt-length-set, drop-set-lt, get_or-set_same, lt-ltb, le-ltb, ltb-true, ltb-false, le-leb}
 use Rattle.syntax.specs.Content.{value_from, all_digits}
 use Rattle.syntax.proofs.ContentLaws.{power}
-use Rattle.writing.specs.Laid.{Laid}
-use Rattle.writing.specs.LaidLaws.{laid_same}
 use Rattle.writing.specs.Decimal.{digits_before, decimal_of, Filled}
 
 -- what holds where n has one digit, and where the last of its digits comes off, holds of all of them
@@ -127,10 +125,3 @@ module _ {n m : ℕ} {digits : List ℕ} {d : ℕ} {digits' : List ℕ} where
           place = p;
           holds = rw q (stored digits k d j ∙ rw u (sym (one-digit k m (drop (suc k) digits) (omega arith))) ∙ g.going);
         }
-
--- the part of the buffer that is put
-pub filled-laid : {n k : ℕ} {digits : List ℕ} {out : List ℕ} {at r : ℕ} {out' : List ℕ} → Filled n k digits → Laid out at (take (20 - k) (drop k digits)) r out'
-    → Laid out at (decimal_of n) r out' × (r ≤ at + 20)
-filled-laid {n} {k} {digits} g h =
-    let l : Laid _ _ (decimal_of n) _ _ = laid_same (take_all (20 - k) (drop k digits) (omega (arith, length-drop k digits)) ∙ g.holds) h in
-    (l, omega (arith, l.place, decimal-few n))

@@ -1,5 +1,5 @@
 -- A text laid into a lent buffer, and a text that is made of pieces.
-use Rattle.std.specs.Prelude.{ℕ, ◌+◌, ◌≤◌, ◌<◌, List, [], ◌∷◌, ◌++◌, ◌≡◌, length}
+use Rattle.std.specs.Prelude.{ℕ, ◌+◌, List, [], ◌∷◌, ◌++◌, ◌≡◌, length}
 use Rattle.std.proofs.lemmas.List.Edits.{sets}
 
 -- the promise of every writer: `r` is the place after the text, which stands in the buffer from `at` on as far as there is room
@@ -11,9 +11,3 @@ pub record Laid (out : List ℕ) (at : ℕ) (text : List ℕ) (r : ℕ) (out' : 
 abbrev pub together : List (List ℕ) → List ℕ
 together [] = []
 together (p ∷ ps) = p ++ together ps
-
--- of n octets that are laid from `at` on into a buffer of so much room, r have their place
-pub record Fits (room at n r : ℕ) : Type 0 where
-  pub few : r ≤ n
-  pub inside : (i : ℕ) → i < r → at + i < room
-  pub full : r < n → room ≤ at + r

@@ -1,9 +1,11 @@
 -- Laws of texts laid: octet by octet, piece by piece, and what stands in the buffer then.
-use Rattle.std.specs.Prelude.{ℕ, suc, ◌+◌, ◌-◌, ◌≤◌, ◌<◌, Bool, true, false, List, [], ◌∷◌, ◌++◌, ◌≡◌, refl, ltb, length, get_or, set, take, drop}
-use Rattle.std.proofs.Common.{add-one, arith, ap, ◌∙◌, sym, drop_of_length-le, length-append, ltb-true, ltb-false, drop-cons, take_at}
+use Rattle.std.specs.Prelude.{ℕ, suc, ◌+◌, ◌-◌, ◌≤◌, ◌<◌, Bool, true, false, List, [], ◌∷◌, ◌++◌, ◌≡◌, refl, ltb, length, set, take, drop}
+use Rattle.std.proofs.Common.{add-one, append_assoc, arith, ap, ◌∙◌, sym, drop_of_length-le, length-append, ltb-true, ltb-false, take_at}
+use Rattle.std.proofs.lemmas.List.{drop-drop, length-take-le, take-append-drop}
 use Rattle.std.proofs.lemmas.List.Edits.{sets, sets-eq}
 use Rattle.std.proofs.Math.Seq.{set_out, length-sets}
-use Rattle.writing.specs.Laid.{Laid, Fits, together}
+use Prim.Native.Nat.{min}
+use Rattle.writing.specs.Laid.{Laid, together}
 
 -- two texts one after the other
 pub sets-joined : (l : List ℕ) (i : ℕ) (v w : List ℕ) → sets l i (v ++ w) ≡ sets (sets l i v) (i + length v) w
@@ -75,37 +77,32 @@ module _ {out₀ : List ℕ} {at : ℕ} {text : List ℕ} where
   pub rest_end : {out : List ℕ} {p : ℕ} → Rest out₀ at text [] out p → Laid out₀ at text p out
   rest_end g = record { place = omega (arith, g.place); octets = g.octets }
 
--- a copy under way: i octets of v are laid
-pub record Copying (out₀ : List ℕ) (at : ℕ) (v : List ℕ) (i : ℕ) (out : List ℕ) : Type 0 where
-  pub part : i ≤ length v
-  pub going : Rest out₀ at v (drop i v) out (at + i)
+-- a text that has no room at all
+pub laid-past : {out v out' : List ℕ} {at : ℕ} → length out ≤ at → out' ≡ out → Laid out at v (at + length v) out'
+laid-past {out} {v} {at = at} h q = record { place = refl; octets = q ∙ sym (sets-beyond v out at h) }
 
-module _ {out₀ : List ℕ} {at : ℕ} {v : List ℕ} where
-  pub copying-start : Copying out₀ at v 0 out₀
-  copying-start = let e : at + 0 ≡ at = omega arith in record { part = omega arith; going = rw e rest-start }
+-- all of v that has room: the first n octets, and the rest would be laid behind the buffer's end
+pub laid-cut : {out v part out' : List ℕ} {at n k : ℕ} → at < length out → n ≡ min (length v) (length out - at) → part ≡ take n v → k ≡ n → out' ≡ take at out ++ (part ++ drop k (drop at out)) → Laid out at v (at + length v) out'
+laid-cut {out} {v} {at = at} {n = n} h e p c q = record { place = refl; octets = q ∙ rw (p, c, drop-drop n at out) (sym whole) }
+  where
+    few : n ≤ length v
+    few = omega (arith, e)
 
-  module _ {i : ℕ} {out : List ℕ} (g : Copying out₀ at v i out) where
-    pub copying-on : {out' : List ℕ} → i < length v → out' ≡ set out (at + i) (get_or v i 0) → Copying out₀ at v (i + 1) out'
-    copying-on h q =
-        let e : at + (i + 1) ≡ at + i + 1 = omega arith in
-        record { part = omega arith; going = rest_put (rest-same g.going (rw add-one (drop-cons v i 0 h))) e q }
+    laid : List ℕ
+    laid = sets out at (take n v)
 
-    -- all that has room is laid; the rest would be laid behind the buffer's end
-    pub copying-end : {n : ℕ} → length out ≡ length out₀ → Fits (length out₀) at (length v) n → i ≤ n → n ≤ i → Laid out₀ at v (at + length v) out
-    copying-end {n} m f l h = record { place = refl; octets = by (ltb n (length v)) refl }
+    rest : sets laid (at + n) (drop n v) ≡ laid
+    rest = by (ltb n (length v)) refl
       where
-        by : (b : Bool) → ltb n (length v) ≡ b → out ≡ sets out₀ at v
-        by true e = let k = f.full (ltb-true n (length v) e) in sym (sets-beyond (drop i v) out (at + i) (omega (arith, k, h, m))) ∙ g.going.octets
-        by false e =
-            let k = ltb-false n (length v) e in
-            let z : length v ≤ i = omega (arith, k, l, h) in
-            ap (sets out (at + i)) (sym (drop_of_length-le v z)) ∙ g.going.octets
+        by : (b : Bool) → ltb n (length v) ≡ b → sets laid (at + n) (drop n v) ≡ laid
+        by true d = let k = ltb-true n (length v) d in sets-beyond (drop n v) laid (at + n) (omega (arith, e, k, length-sets out at (take n v)))
+        by false d = let k = ltb-false n (length v) d in rw (drop_of_length-le v {i = n} k)
 
-    pub copying-next : {n : ℕ} {out' : List ℕ} → Fits (length out₀) at (length v) n → i < n → out' ≡ set out (at + i) (get_or v i 0) → Copying out₀ at v (i + 1) out'
-    copying-next f l q = copying-on (omega (arith, f.few, l)) q
-
-    pub copying-in : {n : ℕ} → length out ≡ length out₀ → Fits (length out₀) at (length v) n → i < n → at + i < length out
-    copying-in m f l = let k = f.inside i l in omega (arith, k, m)
+    whole : sets out at v ≡ take at out ++ (take n v ++ drop (at + n) out)
+    whole =
+        let l : length (take n v) ≡ n = length-take-le n v few in
+        ap (sets out at) (sym (take-append-drop n v)) ∙ sets-joined out at (take n v) (drop n v) ∙ ap (λ (k : ℕ). sets laid (at + k) (drop n v)) l ∙ rest
+        ∙ sets-eq (take n v) out at (omega (arith, e, l)) ∙ append_assoc (take at out) (take n v) (drop (at + length (take n v)) out) ∙ ap (λ (k : ℕ). take at out ++ (take n v ++ drop (at + k) out)) l
 
 -- ---- a row of pieces: `ps` are left to lay from `at` on
 

@@ -1,9 +1,7 @@
 -- What a call that writes a text answers, and what it leaves in the lent buffer.
-use Rattle.std.specs.Prelude.{ℕ, ◌+◌, List, [], ◌∷◌, ◌++◌, Bool, true, cond, ◌≡◌, ltb, length, drop}
+use Rattle.std.specs.Prelude.{ℕ, List, [], ◌∷◌, ◌++◌, Bool, true, cond, ◌≡◌, ltb, length, drop, Result, Ok, Err}
 use Rattle.syntax.specs.Refusals.{at_zero}
 use Rattle.syntax.specs.declared.Refusal.{Refusal}
-use Rattle.writing.specs.declared.Written.{Written}
-use Rattle.writing.specs.declared.Written.TheVariants.{Length, Refused}
 
 -- the text that is to be written, or the refusal where there is none
 pub data Text : Type 0 where
@@ -11,16 +9,16 @@ pub data Text : Type 0 where
   no_text : Refusal → Text
 
 -- 13 and up: at 0
-abbrev pub refused_as : ℕ → Written
-refused_as number = Refused (at_zero number)
+abbrev pub refused_as : ℕ → Result ℕ Refusal
+refused_as number = Err (at_zero number)
 
 -- "result longer than the lent buffer or than 65,535": n octets, where the buffer has room for so many
 abbrev pub too_long : ℕ → ℕ → Bool
 too_long room n = cond (ltb 65535 n) true (ltb room n)
 
-abbrev pub written_as : Text → List ℕ → Written
-written_as (no_text f) out = Refused f
-written_as (text t) out = cond (too_long (length out) (length t)) (refused_as 15) (Length (length t))
+abbrev pub written_as : Text → List ℕ → Result ℕ Refusal
+written_as (no_text f) out = Err f
+written_as (text t) out = cond (too_long (length out) (length t)) (refused_as 15) (Ok (length t))
 
 -- the text first, and "Lent octets beyond a written result stay."; all as it was where the call refuses
 abbrev pub left_in : Text → List ℕ → List ℕ
@@ -41,12 +39,12 @@ written_numbers (no_text f) out = refusal_numbers f
 written_numbers (text t) out = cond (too_long (length out) (length t)) (refusal_numbers (at_zero 15)) (length_numbers (length t))
 
 -- as the answer has them
-abbrev pub told_written : Written → List ℕ
-told_written (Length n) = length_numbers n
-told_written (Refused f) = refusal_numbers f
+abbrev pub told_written : Result ℕ Refusal → List ℕ
+told_written (Ok n) = length_numbers n
+told_written (Err f) = refusal_numbers f
 
 -- the answer r and the octets out' of a call that is to write x into out
-pub record Writes (x : Text) (out : List ℕ) (r : Written) (out' : List ℕ) : Type 0 where
+pub record Writes (x : Text) (out : List ℕ) (r : Result ℕ Refusal) (out' : List ℕ) : Type 0 where
   pub answer : r ≡ written_as x out
   pub numbers : told_written r ≡ written_numbers x out
   pub octets : out' ≡ left_in x out

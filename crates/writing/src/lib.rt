@@ -4,22 +4,17 @@
 
 ghost use Rattle.std.specs.Prelude.{◌≡◌, ◌+◌, ◌%◌, ◌≤◌, ◌<◌, length, set};
 ghost use Rattle.writing.specs.Decimal.{decimal_of, Filled};
-ghost use Rattle.writing.specs.Laid.{Laid, Fits};
+ghost use Rattle.writing.specs.Laid.{Laid};
 ghost use Rattle.writing.specs.Written.{refused_as, too_long};
 
 use syntax::Refusal;
 
-// What a call that writes a text answers: how long the text is, or why there is none.
-#[derive(Clone, Copy)]
-pub enum Written {
-    Length(usize),
-    Refused(Refusal),
-}
-
-pub fn refused(number: u8) -> Written
+// A call that writes a text answers how long the text is, or why there is none: here, why.
+// Kept: a refusal's number is no enum, since the clauses and those who call give and take the number itself.
+pub fn refused(number: u8) -> Result<usize, Refusal>
     ensures { result ≡ refused_as number }
 {
-    Written::Refused(Refusal {
+    Err(Refusal {
         number,
         place: 0,
         segment: 0,
@@ -30,10 +25,7 @@ pub fn refused(number: u8) -> Written
 pub fn too_long(room: usize, n: usize) -> bool
     ensures { result ≡ too_long room n }
 {
-    if 65535 < n {
-        return true;
-    }
-    room < n
+    65535 < n || room < n
 }
 
 // One octet, where there is room for it.
@@ -45,29 +37,14 @@ pub fn store(out: &mut [u8], at: usize, b: u8)
     }
 }
 
-// How many of `n` octets have room from `at` on.
-fn fitting(room: usize, at: usize, n: usize) -> usize
-    ensures { Fits room at n result }
-{
-    if room <= at {
-        return 0;
-    }
-    if room - at < n {
-        return room - at;
-    }
-    n
-}
-
 // The octets of `v`, as far as there is room.
 pub fn put(out: &mut [u8], at: usize, v: &[u8]) -> usize
     requires { at + length v.now < 18446744073709551616 }
     ensures { Laid out.old at v.now result out.new }
 {
-    let n = fitting(out.len(), at, v.len());
-    let mut i: usize = 0;
-    while i < n {
-        out[at + i] = v[i];
-        i += 1;
+    if at < out.len() {
+        let n = v.len().min(out.len() - at);
+        out[at..at + n].copy_from_slice(&v[..n]);
     }
     at + v.len()
 }

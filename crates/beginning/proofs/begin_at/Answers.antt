@@ -16,7 +16,7 @@ returns-then-not-has_end c =
     let g = d in
     let e = g.without_repetition-v.ensures in
     let a = g.args in
-    let there = there-by a.s.now a.o e d.has_end.ensures in
+    let there = there-by a.s.now a.o e (rw c.of-t.ensures at d.has_end.ensures) in
     rw (lt-leb _ _ g.if-s-at.false, refused there (not_from_false _ c.if-not-has_end.true)) c.unb_refused-then-not-has_end.ensures
 
 pub returns-then-not-is_tag : goal.returns-then-not-is_tag
@@ -25,7 +25,7 @@ returns-then-not-is_tag c =
     let g = d in
     let e = g.without_repetition-v.ensures in
     let a = g.args in
-    let there = there-by a.s.now a.o e d.has_end.ensures in
+    let there = there-by a.s.now a.o e (rw c.of-t.ensures at d.has_end.ensures) in
     let q = c in
     let tag = tag-by a.s.now a.o e q.tag_at-g.ensures in
     rw (
@@ -40,7 +40,7 @@ returns-then-not-is_unb c =
     let g = d in
     let e = g.without_repetition-v.ensures in
     let a = g.args in
-    let there = there-by a.s.now a.o e d.has_end.ensures in
+    let there = there-by a.s.now a.o e (rw c.of-t.ensures at d.has_end.ensures) in
     let q = c in
     let tag = tag-by a.s.now a.o e q.tag_at-g.ensures in
     rw (
@@ -56,7 +56,7 @@ returns c =
     let g = d in
     let e = g.without_repetition-v.ensures in
     let a = g.args in
-    let there = there-by a.s.now a.o e d.has_end.ensures in
+    let there = there-by a.s.now a.o e (rw c.of-t.ensures at d.has_end.ensures) in
     let q = c in
     let tag = tag-by a.s.now a.o e q.tag_at-g.ensures in
     rw (
@@ -64,4 +64,4 @@ returns c =
       granted there (not_from_true _ c.if-not-has_end.false),
       granted (q.is_tag.ensures ∙ ap is_tag tag) (not_from_true _ c.if-not-is_tag.false),
       granted (c.is_unb.ensures ∙ ap is_unb tag) (not_from_true _ c.if-not-is_unb.false),
-    ) (c.declared.ensures ∙ ap (λ w. declared_at a.s.now w a.o) e)
+    ) ((rw c.of-t.ensures at c.declared.ensures) ∙ ap (λ w. declared_at a.s.now w a.o) e)

@@ -1,26 +1,18 @@
-use native.Mathlib.Omega.{arith}
-use mathlib.Core.Path.{refl, sym, ap, ◌∙◌}
-use lib.ListN.{length}
+use mathlib.Core.Path.{refl, ap, ◌∙◌}
+use Rattle.std.specs.Prelude.{Ok}
 use Rattle.walk.specs.RunLaws.{begun-fits}
 use Rattle.f01.specs.Referring.{referred_in}
-use Rattle.f01.specs.F01Laws.{run-unbegun, run-refused, run_none, run-there, run-other, run-within}
-use borrow.Author.Rules.{rules}
+use Rattle.f01.specs.F01Laws.{run_none, run-there, run-other, run-within}
 use Rattle.f01.proofs.run_of.Goals as goal
 
-pub span-requires : goal.span-requires
-span-requires c = let w = begun-fits c.args.s.now c.begin.ensures c.in-Ready.is in record { table = c.table-t.ensures; t = w.0; s_len_bound = w.1 }
+pub span-requires-clause-t : goal.span-requires-clause-t
+span-requires-clause-t c = rw c.of-t.ensures (begun-fits c.args.s.now c.begin.ensures c.in_ok-start.was).0
+
+pub returns-in_default-clause-value : goal.returns-in_default-clause-value
+returns-in_default-clause-value c = run_none c.args.s.now (referred_in c.args.autack.now (Ok c.args.referred)) c.begin.ensures c.in_ok-start.was (c.in_ok-run.was ∙ ap Ok c.in_default.is) (rw c.of-t.ensures at c.span.ensures) refl
 
 pub returns-then-is_referred : goal.returns-then-is_referred
-returns-then-is_referred c = record { value = run-there c.args.s.now (referred_in c.args.autack.now c.args.r) c.begin.ensures c.in-Ready.is c.in-Run.is c.span.ensures c.is_referred.ensures c.if-is_referred.true; run_inside = run-within c.args.s.now (referred_in c.args.autack.now c.args.r) c.begin.ensures c.in-Ready.is c.in-Run.is c.span.ensures c.is_referred.ensures }
+returns-then-is_referred c = let s = rw c.of-t.ensures at c.span.ensures in let t = rw c.of-t.ensures at c.is_referred.ensures in record { value = run-there c.args.s.now (referred_in c.args.autack.now (Ok c.args.referred)) c.begin.ensures c.in_ok-start.was (c.in_ok-run.was ∙ ap Ok c.in-Some.is) s t c.if-is_referred.true; run_inside = run-within c.args.s.now (referred_in c.args.autack.now (Ok c.args.referred)) c.begin.ensures c.in_ok-start.was (c.in_ok-run.was ∙ ap Ok c.in-Some.is) s t }
 
-pub returns-in-Refused : goal.returns-in-Refused
-returns-in-Refused c = record { value = run-unbegun c.args.s.now (referred_in c.args.autack.now c.args.r) c.begin.ensures c.in-Refused.is c.refusal.ensures; run_inside = tt }
-
-pub returns-else-is_referred : goal.returns-else-is_referred
-returns-else-is_referred c = record { value = run-other c.args.s.now (referred_in c.args.autack.now c.args.r) c.begin.ensures c.in-Ready.is c.in-Run.is c.span.ensures c.is_referred.ensures c.if-is_referred.false c.missing.ensures; run_inside = tt }
-
-pub returns-in-Missing : goal.returns-in-Missing
-returns-in-Missing c = record { value = run_none c.args.s.now (referred_in c.args.autack.now c.args.r) c.begin.ensures c.in-Ready.is c.in-Missing.is c.span.ensures c.missing-in-Missing.ensures; run_inside = tt }
-
-pub returns-in-Refused-span : goal.returns-in-Refused-span
-returns-in-Refused-span c = record { value = run-refused c.args.s.now (referred_in c.args.autack.now c.args.r) c.begin.ensures c.in-Ready.is c.in-Refused-span.is c.span.ensures c.refusal-in-Refused-span.ensures; run_inside = tt }
+pub returns-clause-value : goal.returns-clause-value
+returns-clause-value c = run-other c.args.s.now (referred_in c.args.autack.now (Ok c.args.referred)) c.begin.ensures c.in_ok-start.was (c.in_ok-run.was ∙ ap Ok c.in-Some.is) (rw c.of-t.ensures at c.span.ensures) (rw c.of-t.ensures at c.is_referred.ensures) c.if-is_referred.false refl

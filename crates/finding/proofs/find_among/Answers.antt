@@ -1,6 +1,8 @@
 use Prim.Native.Nat.{◌-◌}
 use mathlib.Core.Path.{sym, ap, ◌∙◌}
 use Rattle.syntax.specs.Content.{content, compared}
+use Rattle.std.specs.Prelude.{Ok}
+use Rattle.std.proofs.lemmas.Result.{err_from_is_err_and}
 use borrow.Author.Rules.{rules}
 use lib.ListN.{length}
 use Rattle.walk.specs.SectionLaws.{looping-start, looping-on, between-so, passed, nearer, read_all, stopped}
@@ -8,29 +10,20 @@ use Rattle.finding.specs.FindingLaws.{Sifting, seeks-on, seeks-hit, seeks-start,
 use Rattle.finding.proofs.find_among.Goals as goal
 use Rattle.finding.proofs.find_among.Goals.{then-is_named, else-is_named}
 
-pub loop-f-init : goal.loop-f-init
-loop-f-init c = let g = looping-start c.requires.fresh (c.requires.marks_len.0, c.requires.marks_len.1, c.requires.marks_len.2) c.unread-st.ensures in record { looping = g; seeks = seeks-start g.walks (compared (content c.args.other c.args.reference.now)) c.unread-st.ensures; long = c.requires.marks_len.3 }
+pub loop-section-init : goal.loop-section-init
+loop-section-init c = let g = looping-start c.requires.fresh (c.requires.marks_len.0, c.requires.marks_len.1, c.requires.marks_len.2) c.unread-state.ensures in record { looping = g; seeks = seeks-start g.walks (compared (content c.args.other c.args.reference.now)) c.unread-state.ensures; long = c.requires.marks_len.3 }
 
 pub next_section-requires : goal.next_section-requires
-next_section-requires c = record { table = c.requires.table; between = between-so c.loop-f.invariant.looping c.requires.fresh.fits }
+next_section-requires c = record { between = between-so c.loop-section.invariant.looping c.requires.fresh.fits }
 
-pub shape_of-marks-in-Stop : goal.shape_of-marks-in-Stop
-shape_of-marks-in-Stop c = c.next_section.ensures.marks_len ∙ sym c.requires.marks_len.0
+pub returns-in_err-section : goal.returns-in_err-section
+returns-in_err-section c = let p = err_from_is_err_and c.from_residual.result c.from_residual.ensures.1 in rw (p.1, p.2) (stopped c.loop-section.invariant.looping.walks c.next_section.new.heads c.next_section.new.names c.next_section.new.slots c.next_section.new.rows _ c.in_err-section.was (c.next_section.ensures.by_index _ c.loop-section.invariant.looping.walks))
 
-pub returns-in-Stop : goal.returns-in-Stop
-returns-in-Stop c = stopped c.loop-f.invariant.looping.walks c.next_section.new.heads c.next_section.new.names c.next_section.new.slots c.next_section.new.rows _ c.in-Stop.is (c.next_section.ensures.by_index _ c.loop-f.invariant.looping.walks)
+pub returns : goal.returns
+returns c = whole-read c.loop-section.invariant.looping.walks (Ok c.loop-section.found) (compared (content c.args.other c.args.reference.now)) c.loop-section.rows (read_all c.loop-section.invariant.looping.walks c.next_section.new.heads c.next_section.new.names c.next_section.new.slots c.next_section.new.rows _ (c.in_ok-section.was ∙ ap Ok c.in_default.is) (c.next_section.ensures.by_index _ c.loop-section.invariant.looping.walks)) c.loop-section.invariant.seeks
 
-pub shape_of-marks-in-Over : goal.shape_of-marks-in-Over
-shape_of-marks-in-Over c = c.next_section.ensures.marks_len ∙ sym c.requires.marks_len.0
+pub loop-section-smaller : goal.loop-section-smaller
+loop-section-smaller c = nearer c.loop-section.invariant.looping.walks c.next_section.new.heads c.next_section.new.names c.next_section.new.slots c.next_section.new.rows _ (c.in_ok-section.was ∙ ap Ok c.in-Some.is) (c.next_section.ensures.by_index _ c.loop-section.invariant.looping.walks)
 
-pub returns-in-Over : goal.returns-in-Over
-returns-in-Over c = whole-read c.loop-f.invariant.looping.walks c.loop-f.found (compared (content c.args.other c.args.reference.now)) c.loop-f.rows (read_all c.loop-f.invariant.looping.walks c.next_section.new.heads c.next_section.new.names c.next_section.new.slots c.next_section.new.rows _ c.in-Over.is (c.next_section.ensures.by_index _ c.loop-f.invariant.looping.walks)) c.loop-f.invariant.seeks
-
-pub keep-requires : goal.keep-requires
-keep-requires c = (c.loop-f.invariant.long, (passed c.loop-f.invariant.looping.walks c.next_section.new.heads c.next_section.new.names c.next_section.new.slots c.next_section.new.rows _ c.in-On.is (c.next_section.ensures.by_index _ c.loop-f.invariant.looping.walks)).long)
-
-pub loop-f-smaller : goal.loop-f-smaller
-loop-f-smaller c = nearer c.loop-f.invariant.looping.walks c.next_section.new.heads c.next_section.new.names c.next_section.new.slots c.next_section.new.rows _ c.in-On.is (c.next_section.ensures.by_index _ c.loop-f.invariant.looping.walks)
-
-pub loop-f-preserved : goal.loop-f-preserved
-loop-f-preserved c = let p = passed c.loop-f.invariant.looping.walks c.next_section.new.heads c.next_section.new.names c.next_section.new.slots c.next_section.new.rows _ c.in-On.is (c.next_section.ensures.by_index _ c.loop-f.invariant.looping.walks) in elim c.if-is_named.branch [ then-is_named w ↦ record { looping = looping-on c.loop-f.invariant.looping p c.next_section.ensures.marks_len c.next_section.auto.names c.next_section.auto.slots; seeks = seeks-eq c.args.y.service c.args.s.now c.args.from p.walks.tree (compared (content c.args.other c.args.reference.now)) w.found-is (w.rows-is ∙ w.keep.ensures) (seeks-hit c.loop-f.invariant.looping.walks p (compared (content c.args.other c.args.reference.now)) (sym c.is_named.ensures ∙ w.if-is_named.true)); long = ap length (w.rows-is ∙ w.keep.ensures) ∙ p.long } | else-is_named w ↦ record { looping = looping-on c.loop-f.invariant.looping p c.next_section.ensures.marks_len c.next_section.auto.names c.next_section.auto.slots; seeks = seeks-eq c.args.y.service c.args.s.now c.args.from p.walks.tree (compared (content c.args.other c.args.reference.now)) w.found-is w.rows-is (seeks-on c.loop-f.invariant.looping.walks p (compared (content c.args.other c.args.reference.now)) c.loop-f.found c.loop-f.rows (sym c.is_named.ensures ∙ w.if-is_named.false) c.loop-f.invariant.seeks); long = ap length w.rows-is ∙ c.loop-f.invariant.long } ]
+pub loop-section-preserved : goal.loop-section-preserved
+loop-section-preserved c = let p = passed c.loop-section.invariant.looping.walks c.next_section.new.heads c.next_section.new.names c.next_section.new.slots c.next_section.new.rows _ (c.in_ok-section.was ∙ ap Ok c.in-Some.is) (c.next_section.ensures.by_index _ c.loop-section.invariant.looping.walks) in elim c.if-is_named.branch [ then-is_named w ↦ record { looping = looping-on c.loop-section.invariant.looping p c.next_section.ensures.marks_len c.next_section.auto.names c.next_section.auto.slots; seeks = seeks-eq c.args.t.now.syntax.service c.args.s.now c.args.from p.walks.tree (compared (content c.args.other c.args.reference.now)) (ap Ok w.found-is) w.rows-is (seeks-hit c.loop-section.invariant.looping.walks p (compared (content c.args.other c.args.reference.now)) (sym c.is_named.ensures ∙ w.if-is_named.true)); long = ap length w.rows-is ∙ p.long } | else-is_named w ↦ record { looping = looping-on c.loop-section.invariant.looping p c.next_section.ensures.marks_len c.next_section.auto.names c.next_section.auto.slots; seeks = seeks-eq c.args.t.now.syntax.service c.args.s.now c.args.from p.walks.tree (compared (content c.args.other c.args.reference.now)) (ap Ok w.found-is) w.rows-is (seeks-on c.loop-section.invariant.looping.walks p (compared (content c.args.other c.args.reference.now)) (Ok c.loop-section.found) c.loop-section.rows (sym c.is_named.ensures ∙ w.if-is_named.false) c.loop-section.invariant.seeks); long = ap length w.rows-is ∙ c.loop-section.invariant.long } ]

@@ -3,4 +3,4 @@ use borrow.Author.Rules.{rules}
 use Rattle.gurandepi.proofs.gurandepi_digest_f01.Goals as goal
 
 pub returns : goal.returns
-returns c = c.digest_answer.ensures ∙ c.digest_f01.ensures.result_value
+returns c = c.into.ensures ∙ c.digest_f01.ensures.result_value

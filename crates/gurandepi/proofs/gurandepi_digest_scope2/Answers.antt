@@ -3,4 +3,4 @@ use borrow.Author.Rules.{rules}
 use Rattle.gurandepi.proofs.gurandepi_digest_scope2.Goals as goal
 
 pub returns : goal.returns
-returns c = c.digest_answer.ensures ∙ c.digest_scope2.ensures.result_value
+returns c = c.into.ensures ∙ c.digest_scope2.ensures.result_value

@@ -3,4 +3,4 @@ use borrow.Author.Rules.{rules}
 use Rattle.gurandepi.proofs.gurandepi_judge.Goals as goal
 
 pub returns : goal.returns
-returns c = c.verdict_answer.ensures ∙ c.judge.ensures.result_value
+returns c = c.into.ensures ∙ c.judge.ensures.result_value

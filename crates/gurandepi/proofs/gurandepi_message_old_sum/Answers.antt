@@ -5,4 +5,4 @@ use borrow.Author.Rules.{rules}
 use Rattle.gurandepi.proofs.gurandepi_message_old_sum.Goals as goal
 
 pub returns : goal.returns
-returns c = record { result_value = c.old_sum_answer.ensures.result_value ∙ c.message_old_sum.ensures.result_value; single_value = c.old_sum_answer.ensures.single_value ∙ single-told (message_old_sum_of c.args.interchange.now c.args.message.now c.args.before) c.message_old_sum.ensures.value }
+returns c = record { result_value = c.into.ensures.0 ∙ c.message_old_sum.ensures.result_value; single_value = c.into.ensures.1 ∙ single-told (message_old_sum_of c.args.interchange.now c.args.message.now c.args.before) c.message_old_sum.ensures.value }

@@ -3,4 +3,4 @@ use borrow.Author.Rules.{rules}
 use Rattle.gurandepi.proofs.gurandepi_register_check_signed.Goals as goal
 
 pub returns : goal.returns
-returns c = c.checked_answer.ensures ∙ c.register_check.ensures.result_value
+returns c = c.into.ensures ∙ c.register_check.ensures.result_value

@@ -3,4 +3,4 @@ use borrow.Author.Rules.{rules}
 use Rattle.gurandepi.proofs.gurandepi_scope1.Goals as goal
 
 pub returns : goal.returns
-returns c = c.parts_answer.ensures ∙ c.scope1_places.ensures.result_value
+returns c = c.into.ensures ∙ c.scope1_places.ensures.result_value

@@ -3,4 +3,4 @@ use borrow.Author.Rules.{rules}
 use Rattle.gurandepi.proofs.gurandepi_scope2.Goals as goal
 
 pub returns : goal.returns
-returns c = c.run_answer.ensures ∙ c.scope2_places.ensures.result_value
+returns c = c.into.ensures ∙ c.scope2_places.ensures.result_value

@@ -7,4 +7,4 @@ use borrow.Author.Rules.{rules}
 use Rattle.gurandepi.proofs.gurandepi_sha1_finish.Goals as goal
 
 pub returns : goal.returns
-returns c = ap (λ (u : List ℕ). 0 ∷ 0 ∷ 0 ∷ u) (c.finish-d.ensures ∙ ap finished_of c.inner_state.ensures)
+returns c = ap (λ (u : List ℕ). 0 ∷ 0 ∷ 0 ∷ u) (c.finish-d.ensures ∙ ap finished_of c.into.ensures)

@@ -1,5 +1,4 @@
 use Rattle.kilograms.specs.RunningLaws.{bits-real, bits-refused}
-use Rattle.std.proofs.Common.{rules}
 use Rattle.kilograms.proofs.handed_bits.Goals as goal
 
 pub float_from_bits-bits : goal.float_from_bits-bits

@@ -2,7 +2,6 @@ use mathlib.Core.Path.{sym, ap}
 use native.Mathlib.Omega.{arith}
 use Rattle.writing.specs.LaidLaws.{laid_same, laid_none}
 use Rattle.lines.specs.Words.{sign_words}
-use borrow.Author.Rules.{rules}
 use Rattle.lines.proofs.put_sign.Goals as goal
 
 pub returns-then-below : goal.returns-then-below

@@ -3,7 +3,6 @@ use Rattle.writing.specs.Decimal.{decimal_of}
 use Rattle.syntax.specs.Octets.{octets}
 use mathlib.Core.List.{[], ◌∷◌}
 use Rattle.writing.specs.LaidLaws.{weaving-start, weaving-put, weaving-end}
-use borrow.Author.Rules.{rules}
 use Rattle.lines.proofs.refusal_line.Goals as goal
 
 pub returns : goal.returns

@@ -1,9 +1,9 @@
+use Rattle.std.proofs.lemmas.Result.{err_from_is_err_and}
 use Rattle.scope3.specs.Scope3Laws.{unreferred-read, unreferred-refused}
-use borrow.Author.Rules.{rules}
 use Rattle.scope3.proofs.unreferred.Goals as goal
 
-pub returns-in-Accepted : goal.returns-in-Accepted
-returns-in-Accepted c = record { value = unreferred-read c.args.s.now c.judge.ensures.value c.in-Accepted.is c.missing.ensures; run_inside = tt }
+pub returns-in_err-judge-clause-value : goal.returns-in_err-judge-clause-value
+returns-in_err-judge-clause-value c = let p = err_from_is_err_and c.from_residual.result c.from_residual.ensures.1 in rw (p.1, p.2) (unreferred-refused c.args.s.now c.judge.ensures.value c.in_err-judge.was)
 
-pub returns-in-Refused : goal.returns-in-Refused
-returns-in-Refused c = record { value = unreferred-refused c.args.s.now c.judge.ensures.value c.in-Refused.is; run_inside = tt }
+pub returns-clause-value : goal.returns-clause-value
+returns-clause-value c = unreferred-read c.args.s.now c.judge.ensures.value c.in_ok-judge.was c.missing.ensures

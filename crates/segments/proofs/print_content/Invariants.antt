@@ -1,5 +1,4 @@
-use Prim.Native.Nat.{◌-◌}
-use lib.ListN.{length}
+use Rattle.std.proofs.Common.{◌-◌, length}
 use Rattle.segments.proofs.print_content.Given as goal
 
 abbrev pub invariant-loop-b : goal.invariant-loop-b

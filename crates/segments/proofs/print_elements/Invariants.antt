@@ -1,5 +1,4 @@
-use Prim.Native.Nat.{◌-◌}
-use lib.ListN.{length}
+use Rattle.std.proofs.Common.{◌-◌, length}
 use Rattle.segments.proofs.print_elements.Given as goal
 
 abbrev pub invariant-loop-q : goal.invariant-loop-q

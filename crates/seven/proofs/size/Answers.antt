@@ -4,7 +4,6 @@ use native.Mathlib.Omega.{arith}
 use lib.Count.{leading_le, count_leading_zeros}
 use Rattle.seven.specs.SizeLaws.{size_none, size-some}
 use Rattle.seven.specs.TripLaws.{one-le}
-use borrow.Author.Rules.{rules}
 use Rattle.seven.proofs.size.Goals as goal
 
 pub overflow_sub-digits : goal.overflow_sub-digits

@@ -1,10 +1,9 @@
-use Rattle.std.proofs.Common.{◌≡◌, ◌-◌, length, rules}
-use Rattle.sha.specs.Loops.{Pouring}
-use Rattle.sha.specs.LoopsLaws.{pouring-start, pouring-on, pouring-end}
+use Rattle.std.proofs.Common.{◌≡◌, length}
+use Rattle.sha.specs.Feeding.{poured, left}
 use Rattle.sha.proofs.blocks_of.Given as goal
 
-abbrev pub invariant-loop-i : goal.invariant-loop-i
-invariant-loop-i l = Pouring l.initial.c l.part l.c l.i × (length l.w ≡ 80)
+abbrev pub invariant-loop-block : goal.invariant-loop-block
+invariant-loop-block l = (poured l.fn.h l.fn.part ≡ poured l.c l.rest) × (left l.fn.part ≡ left l.rest)
 
-abbrev pub decreases-loop-i : goal.decreases-loop-i
-decreases-loop-i l = length l.part - l.i
+abbrev pub decreases-loop-block : goal.decreases-loop-block
+decreases-loop-block l = length l.rest

@@ -1,14 +1,6 @@
-use Rattle.std.proofs.Common.{◌≡◌, ◌-◌, ◌<◌, ◌≤◌, ◌++◌, length, take, rules}
-use Rattle.sha.specs.Feeding.{kept}
-use Rattle.sha.specs.Loops.{Filling}
-use Rattle.sha.specs.LoopsLaws.{filling-start, filling-on, filling-end}
+use Rattle.std.proofs.Common.{◌≡◌, length, rules}
+use Rattle.sha.specs.FeedingLaws.{filled-by}
 use Rattle.sha.proofs.filled.Goals as goal
 
-pub loop-i-init : goal.loop-i-init
-loop-i-init c = search (filling-start, rules)
-
-pub loop-i-preserved : goal.loop-i-preserved
-loop-i-preserved c = search (filling-on, rules)
-
 pub returns : goal.returns
-returns c = search (filling-end, rules)
+returns c = let f : length c.args.b ≡ 64 = search rules in filled-by c.args.b c.args.part.now c.args.k c.min-n.result f c.requires c.min-n.ensures c.copy_from_slice.ensures.after c.copy_from_slice-2.ensures.after

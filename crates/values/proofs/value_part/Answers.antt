@@ -1,4 +1,3 @@
-use borrow.Author.Rules.{rules}
 use Rattle.values.proofs.value_part.Goals as goal
 
 pub returns-then-is_earlier : goal.returns-then-is_earlier

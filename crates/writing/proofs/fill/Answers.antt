@@ -1,4 +1,4 @@
-use Rattle.writing.specs.DecimalLaws.{Filling, filling-start, filling-more, filling-on, filling-end}
+use Rattle.writing.specs.DecimalLaws.{filling-start, filling-more, filling-on, filling-end}
 use borrow.Author.Rules.{rules}
 use Rattle.writing.proofs.fill.Goals as goal
 

@@ -1,5 +1,4 @@
-use Rattle.writing.specs.DecimalLaws.{Filling, filling-start, filling-more, filling-on, filling-end}
-use borrow.Author.Rules.{rules}
+use Rattle.writing.specs.DecimalLaws.{Filling}
 use Rattle.writing.proofs.fill.Given as goal
 
 abbrev pub invariant-loop-m : goal.invariant-loop-m

@@ -5,5 +5,5 @@ use Rattle.elements.proofs.amounts.amount_in.Goals as goal
 pub reversed_in-requires : goal.reversed_in-requires
 reversed_in-requires c = search (weight-absent, rules)
 
-pub returns-in-Grams : goal.returns-in-Grams
-returns-in-Grams c = search (amount-first, rules)
+pub returns-in-Some : goal.returns-in-Some
+returns-in-Some c = search (amount-first, rules)

@@ -42,5 +42,5 @@ returns-then-n-eq0 c = search (parting-none, rules)
 pub scaled-requires : goal.scaled-requires
 scaled-requires c = record { zeros_bound = search (parting-scales, rules); zeros_bound_2 = search rules }
 
-pub returns-in-Over : goal.returns-in-Over
-returns-in-Over c = search (parting-end, rules)
+pub returns : goal.returns
+returns c = search (parting-end, rules)

@@ -46,5 +46,5 @@ returns-then-n-eq0-2 c = search (wholing-none, rules)
 pub scaled-requires : goal.scaled-requires
 scaled-requires c = record { zeros_bound = search (wholing-scales, rules); zeros_bound_2 = search rules }
 
-pub returns-in-Over : goal.returns-in-Over
-returns-in-Over c = search (wholing-end, rules)
+pub returns : goal.returns
+returns c = search (wholing-end, rules)

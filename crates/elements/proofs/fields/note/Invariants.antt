@@ -6,7 +6,7 @@ use borrow.Author.Rules.{rules}
 use Rattle.elements.proofs.fields.note.Given as goal
 
 abbrev pub invariant-loop-q : goal.invariant-loop-q
-invariant-loop-q l = Noting l.y l.s l.from l.initial.marks l.marks l.b l.j l.n
+invariant-loop-q l = Noting l.t.syntax l.s l.from l.initial.marks l.marks l.b l.j l.n
 
 abbrev pub decreases-loop-q : goal.decreases-loop-q
 decreases-loop-q l = length l.s - l.j

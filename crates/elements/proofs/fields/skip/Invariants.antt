@@ -5,7 +5,7 @@ use borrow.Author.Rules.{rules}
 use Rattle.elements.proofs.fields.skip.Given as goal
 
 abbrev pub invariant-loop-q : goal.invariant-loop-q
-invariant-loop-q l = Inside l.y l.s l.from l.b l.j
+invariant-loop-q l = Inside l.t.syntax l.s l.from l.b l.j
 
 abbrev pub decreases-loop-q : goal.decreases-loop-q
 decreases-loop-q l = length l.s - l.j

@@ -3,13 +3,13 @@ use borrow.Author.Rules.{rules}
 use Rattle.elements.proofs.formed.control_formed.Goals as goal
 
 pub amount_in-requires : goal.amount_in-requires
-amount_in-requires c = control-fits c.args.y.service c.args.s.now c.args.at c.field.ensures c.unit_in.ensures c.in-Of.is
+amount_in-requires c = control-fits c.args.y.service c.args.s.now c.args.at c.field.ensures c.unit_in.ensures c.in-Some.is
 
-pub returns-in-Grams : goal.returns-in-Grams
-returns-in-Grams c = control-right c.args.y.service c.args.s.now c.args.at c.field.ensures c.unit_in.ensures c.in-Of.is c.field-in-Of.ensures c.amount_in.ensures c.in-Grams.is
+pub returns-in-Some-amount_in : goal.returns-in-Some-amount_in
+returns-in-Some-amount_in c = control-right c.args.y.service c.args.s.now c.args.at c.field.ensures c.unit_in.ensures c.in-Some.is c.field-in-Some.ensures c.amount_in.ensures c.in-Some-amount_in.is
 
-pub returns-in-Bad : goal.returns-in-Bad
-returns-in-Bad c = control-wrong c.args.y.service c.args.s.now c.args.at c.field.ensures c.unit_in.ensures c.in-Of.is c.field-in-Of.ensures c.amount_in.ensures c.in-Bad.is
+pub returns-in-None-amount_in : goal.returns-in-None-amount_in
+returns-in-None-amount_in c = control-wrong c.args.y.service c.args.s.now c.args.at c.field.ensures c.unit_in.ensures c.in-Some.is c.field-in-Some.ensures c.amount_in.ensures c.in-None-amount_in.is
 
-pub returns-in-Unknown : goal.returns-in-Unknown
-returns-in-Unknown c = control-none c.args.y.service c.args.s.now c.args.at c.field.ensures c.unit_in.ensures c.in-Unknown.is
+pub returns-in-None : goal.returns-in-None
+returns-in-None c = control-none c.args.y.service c.args.s.now c.args.at c.field.ensures c.unit_in.ensures c.in-None.is

@@ -14,10 +14,10 @@ pub returns-then-is_gs1 : goal.returns-then-is_gs1
 returns-then-is_gs1 c =
     let a = c.args in
     and-go c.is_formed.ensures (not-false c.is_formed.result (not_from_true _ c.if-not-is_formed.false))
-    (gs1-besides a.b (sym c.is_gs1.ensures ∙ c.if-is_gs1.true) a.k (asked_at a.y.service a.s.now a.at) c.gs1_formed.ensures)
+    (gs1-besides a.b (sym c.is_gs1.ensures ∙ c.if-is_gs1.true) a.k (asked_at a.t.now.syntax.service a.s.now a.at) c.gs1_formed.ensures)
 
 pub returns : goal.returns
 returns c =
     let a = c.args in
     and-go c.is_formed.ensures (not-false c.is_formed.result (not_from_true _ c.if-not-is_formed.false))
-    (nothing-besides a.b (sym c.is_gs1.ensures ∙ c.if-is_gs1.false) a.k (asked_at a.y.service a.s.now a.at))
+    (nothing-besides a.b (sym c.is_gs1.ensures ∙ c.if-is_gs1.false) a.k (asked_at a.t.now.syntax.service a.s.now a.at))

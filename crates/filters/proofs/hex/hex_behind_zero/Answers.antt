@@ -1,15 +1,5 @@
-use Rattle.filters.specs.HexLoopLaws.{odd-over, odd-far, odd-bad, odd-on}
-use borrow.Author.Rules.{rules}
+use Rattle.filters.specs.HexLoopLaws.{odd-on}
 use Rattle.filters.proofs.hex.hex_behind_zero.Goals as goal
 
-pub returns-then-a-gt15 : goal.returns-then-a-gt15
-returns-then-a-gt15 c = search (odd-bad, rules)
-
-pub hex_from-requires : goal.hex_from-requires
-hex_from-requires c = search (odd-far, rules)
-
-pub returns-in-Over : goal.returns-in-Over
-returns-in-Over c = search (odd-over, rules)
-
-pub returns-else-a-gt15 : goal.returns-else-a-gt15
-returns-else-a-gt15 c = search (odd-on, rules)
+pub returns : goal.returns
+returns c = odd-on _ _ _ c.next_octet.ensures c.in_ok-c.was c.half_of.ensures c.in_ok-a.was c.store.ensures c.hex_from.ensures

@@ -1,4 +1,5 @@
-use mathlib.Core.List.{[]}
+use Rattle.std.specs.Prelude.{Ok, refl}
+use Rattle.std.proofs.Common.{ap, ◌∙◌}
 use Rattle.syntax.specs.Content.{content}
 use Rattle.walk.specs.RunLaws.{begun-fits}
 use Rattle.groups.specs.CallsLaws.{named-refused, named-not-read, named-missing, named_here}
@@ -6,16 +7,16 @@ use borrow.Author.Rules.{rules}
 use Rattle.groups.proofs.calls.message_like.Goals as goal
 
 pub find-requires : goal.find-requires
-find-requires c = let w = begun-fits c.args.s.now c.begin.ensures c.in-Ready.is in record { table = c.table.ensures; t = w.0; s_len_bound = (w.1, c.requires) }
+find-requires c = let w = begun-fits c.args.s.now c.begin.ensures c.in-Ok.is in record { t = rw c.of-classes.ensures w.0; s_len_bound = (w.1, refl) }
 
-pub returns-in-Refused : goal.returns-in-Refused
-returns-in-Refused c = named-refused c.args.s.now (content c.args.other c.args.message.now) [] [] c.begin.ensures c.in-Refused.is c.refusal.ensures
+pub returns-in-Err : goal.returns-in-Err
+returns-in-Err c = named-refused c.args.s.now (content c.args.other c.args.message.now) c.begin.ensures c.in-Err.is c.refusal.ensures
 
-pub returns-in-Message : goal.returns-in-Message
-returns-in-Message c = named_here c.args.s.now (content c.args.other c.args.message.now) c.begin.ensures c.in-Ready.is _ c.find.new.rows c.table.ensures c.in-Message.is c.find.ensures
+pub returns-in-Ok-Some : goal.returns-in-Ok-Some
+returns-in-Ok-Some c = named_here c.args.s.now (content c.args.other c.args.message.now) c.begin.ensures c.in-Ok.is c.find.new.rows c.of-classes.result c.of-classes.ensures (c.in-Ok-Some.is ∙ ap Ok c.in-Ok-Some.field-0-is) (rw c.of-classes.ensures at c.find.ensures)
 
-pub returns-in-Missing : goal.returns-in-Missing
-returns-in-Missing c = named-missing c.args.s.now (content c.args.other c.args.message.now) c.begin.ensures c.in-Ready.is [] c.find.new.rows c.in-Missing.is c.find.ensures
+pub returns-in-Ok-None : goal.returns-in-Ok-None
+returns-in-Ok-None c = named-missing c.args.s.now (content c.args.other c.args.message.now) c.begin.ensures c.in-Ok.is c.find.new.rows (c.in-Ok-None.is ∙ ap Ok c.in-Ok-None.field-0-is) (rw c.of-classes.ensures at c.find.ensures)
 
-pub returns-in-Refused-find : goal.returns-in-Refused-find
-returns-in-Refused-find c = named-not-read c.args.s.now (content c.args.other c.args.message.now) c.begin.ensures c.in-Ready.is [] c.find.new.rows c.in-Refused-find.is c.find.ensures c.refusal-in-Refused-find.ensures
+pub returns-in-Err-find : goal.returns-in-Err-find
+returns-in-Err-find c = named-not-read c.args.s.now (content c.args.other c.args.message.now) c.begin.ensures c.in-Ok.is c.find.new.rows c.in-Err-find.is (rw c.of-classes.ensures at c.find.ensures) c.refusal-in-Err-find.ensures

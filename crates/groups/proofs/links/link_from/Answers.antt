@@ -11,25 +11,25 @@ pub loop-at-init : goal.loop-at-init
 loop-at-init c = linking-start
 
 pub last_usx-x-requires : goal.last_usx-x-requires
-last_usx-x-requires c = let h = ends-in c.args.y.service c.args.s.now c.loop-at.at c.stop.ensures c.in-At.is in search rules
+last_usx-x-requires c = let h = ends-in c.args.t.now.syntax.service c.args.s.now c.loop-at.at c.stop.ensures c.in-Some.is in search rules
 
 pub names_header-requires : goal.names_header-requires
-names_header-requires c = let h = ends-in c.args.y.service c.args.s.now c.loop-at.at c.stop.ensures c.in-At.is in search rules
+names_header-requires c = let h = ends-in c.args.t.now.syntax.service c.args.s.now c.loop-at.at c.stop.ensures c.in-Some.is in search rules
 
 pub returns-then-names_header : goal.returns-then-names_header
 returns-then-names_header c = linking-hit c.requires.t c.loop-at.invariant c.loop-at-test.true c.stop.ensures c.last_usx-x.ensures c.names_header.ensures c.if-names_header.true
 
 pub overflow_add-next : goal.overflow_add-next
-overflow_add-next c = let h = ends-in c.args.y.service c.args.s.now c.loop-at.at c.stop.ensures c.in-At.is in search rules
+overflow_add-next c = let h = ends-in c.args.t.now.syntax.service c.args.s.now c.loop-at.at c.stop.ensures c.in-Some.is in search rules
 
 pub loop-at-smaller : goal.loop-at-smaller
-loop-at-smaller c = let h = ends-in c.args.y.service c.args.s.now c.loop-at.at c.stop.ensures c.in-At.is in omega (arith, h)
+loop-at-smaller c = let h = ends-in c.args.t.now.syntax.service c.args.s.now c.loop-at.at c.stop.ensures c.in-Some.is in omega (arith, h)
 
 pub loop-at-preserved : goal.loop-at-preserved
-loop-at-preserved c = linking-on c.requires.t c.loop-at.invariant c.loop-at-test.true c.stop.ensures c.last_usx-x.ensures c.names_header.ensures c.in-At.is c.if-names_header.false refl
+loop-at-preserved c = linking-on c.requires.t c.loop-at.invariant c.loop-at-test.true c.stop.ensures c.last_usx-x.ensures c.names_header.ensures c.in-Some.is c.if-names_header.false refl
 
-pub returns-in-Nothing : goal.returns-in-Nothing
-returns-in-Nothing c = linking-none c.requires.t c.loop-at.invariant c.loop-at-test.true c.stop.ensures c.in-Nothing.is
+pub returns-in-None : goal.returns-in-None
+returns-in-None c = linking-none c.requires.t c.loop-at.invariant c.loop-at-test.true c.stop.ensures c.in-None.is
 
 pub returns : goal.returns
 returns c = linking-end c.loop-at.invariant c.loop-at-test.false

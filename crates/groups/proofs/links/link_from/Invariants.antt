@@ -8,7 +8,7 @@ use Rattle.groups.specs.LinksLaws.{Linking, linking-start, linking-on, linking-h
 use Rattle.groups.proofs.links.link_from.Given as goal
 
 abbrev pub invariant-loop-at : goal.invariant-loop-at
-invariant-loop-at l = Linking l.y.service l.s (compared l.reference) l.body l.tail l.usx l.at
+invariant-loop-at l = Linking l.t.syntax.service l.s (compared l.reference) l.body l.tail l.usx l.at
 
 abbrev pub decreases-loop-at : goal.decreases-loop-at
 decreases-loop-at l = length l.s - l.at

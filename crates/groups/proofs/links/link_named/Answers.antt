@@ -9,4 +9,4 @@ returns c =
     let g = c in
     λ gs w.
     c.link_from.ensures gs w
-    ∙ ap (link_from g.args.y.service g.args.body g.args.body gs) (given-bare g.args.reference.now c.bare.result.now c.bare.ensures)
+    ∙ ap (link_from g.args.t.now.syntax.service g.args.body g.args.body gs) (given-bare g.args.reference.now c.bare.result.now c.bare.ensures)

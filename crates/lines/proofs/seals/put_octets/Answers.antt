@@ -3,7 +3,6 @@ use Rattle.syntax.specs.Octets.{octets}
 use mathlib.Core.List.{[], ◌∷◌}
 use native.Mathlib.Omega.{arith}
 use Rattle.writing.specs.LaidLaws.{weaving-start, weaving-put, weaving-end}
-use borrow.Author.Rules.{rules}
 use Rattle.lines.proofs.seals.put_octets.Goals as goal
 
 pub returns : goal.returns

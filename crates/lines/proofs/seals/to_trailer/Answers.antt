@@ -1,14 +1,13 @@
 use Rattle.syntax.specs.Content.{content}
 use Rattle.groups.specs.GroupsLaws.{groups-sought, trailers-room}
 use Rattle.lines.specs.SealsLaws.{up-to-start, up-to-none}
-use borrow.Author.Rules.{rules}
 use Rattle.lines.proofs.seals.to_trailer.Goals as goal
 
 pub group_like-requires : goal.group_like-requires
-group_like-requires c = record { table = c.requires.table; count_bound = (trailers-room c.args.c c.trailers_of.ensures c.requires.near.trailers, c.requires.near.long) }
+group_like-requires c = record { count_bound = (trailers-room c.args.x.now.layout c.trailers_of.ensures c.args.x.now.near.trailers, c.args.x.now.near.long) }
 
-pub returns-in-At : goal.returns-in-At
-returns-in-At c = up-to-start c.args.y.service c.args.s.now c.args.rows.now c.args.c c.args.start c.component_part.ensures (groups-sought c.args.y.service c.args.s.now c.args.rows.now (content c.args.y.service.release c.component_part.result.now) c.group_like.ensures c.trailers_of.ensures) c.in-At.is c.between.ensures
+pub returns-in-Some : goal.returns-in-Some
+returns-in-Some c = up-to-start c.args.x.now.t.now.syntax.service c.args.x.now.s.now c.args.x.now.rows.now c.args.x.now.layout c.args.start c.component_part-reference.ensures (groups-sought c.args.x.now.t.now.syntax.service c.args.x.now.s.now c.args.x.now.rows.now (content c.args.x.now.t.now.syntax.service.release c.component_part-reference.result.now) c.group_like.ensures c.trailers_of.ensures) c.in-Some.is c.saturating_sub.ensures
 
-pub returns-in-Nowhere : goal.returns-in-Nowhere
-returns-in-Nowhere c = up-to-none c.args.y.service c.args.s.now c.args.rows.now c.args.c c.args.start c.component_part.ensures (groups-sought c.args.y.service c.args.s.now c.args.rows.now (content c.args.y.service.release c.component_part.result.now) c.group_like.ensures c.trailers_of.ensures) c.in-Nowhere.is
+pub returns-in-None : goal.returns-in-None
+returns-in-None c = up-to-none c.args.x.now.t.now.syntax.service c.args.x.now.s.now c.args.x.now.rows.now c.args.x.now.layout c.args.start c.component_part-reference.ensures (groups-sought c.args.x.now.t.now.syntax.service c.args.x.now.s.now c.args.x.now.rows.now (content c.args.x.now.t.now.syntax.service.release c.component_part-reference.result.now) c.group_like.ensures c.trailers_of.ensures) c.in-None.is

@@ -1,9 +1,7 @@
-use native.Mathlib.Omega.{arith}
-use Rattle.lines.specs.WordsLaws.{Contenting, contenting-start, contenting-inside, contenting-on, contenting-end}
+use Rattle.lines.specs.WordsLaws.{Contenting}
 use lib.ListN.{length}
-use mathlib.Core.Path.{◌≡◌, refl}
+use mathlib.Core.Path.{◌≡◌}
 use Prim.Native.Nat.{◌-◌}
-use borrow.Author.Rules.{rules}
 use Rattle.lines.proofs.words.put_content.Given as goal
 
 abbrev pub invariant-loop-b : goal.invariant-loop-b

@@ -1,6 +1,5 @@
 use Rattle.listing.specs.ListingLaws.{lists-full, lists-done}
 use Rattle.writing.specs.LaidLaws.{laid-all}
-use borrow.Author.Rules.{rules}
 use Rattle.listing.proofs.text.list_refusal.Goals as goal
 
 pub returns-then-out-m : goal.returns-then-out-m

@@ -14,32 +14,32 @@ returns-then-not-content_is c =
 pub amount_in-requires : goal.amount_in-requires
 amount_in-requires c =
     let g = c in
-    unit-fits (content g.args.y.service.release c.field-2.result.now) 12 9 c.unit_in.ensures (omega arith, omega arith) c.in-Of.is
+    unit-fits (content g.args.y.service.release c.field-2.result.now) 12 9 c.unit_in.ensures (omega arith, omega arith) c.in-Some.is
 
 pub with_control-requires : goal.with_control-requires
 with_control-requires c = search (control-signed, rules)
 
-pub with_sums-requires-in-Grams : goal.with_sums-requires-in-Grams
-with_sums-requires-in-Grams c =
+pub with_sums-requires-in-Some-amount_in : goal.with_sums-requires-in-Some-amount_in
+with_sums-requires-in-Some-amount_in c =
     let g = c in
     g.requires.segments_bound
 
-pub with_sums-requires-in-Bad : goal.with_sums-requires-in-Bad
-with_sums-requires-in-Bad c =
+pub with_sums-requires-in-None-amount_in : goal.with_sums-requires-in-None-amount_in
+with_sums-requires-in-None-amount_in c =
     let g = c in
     g.requires.segments_bound
 
-pub returns-in-Grams : goal.returns-in-Grams
-returns-in-Grams c =
+pub returns-in-Some-amount_in : goal.returns-in-Some-amount_in
+returns-in-Some-amount_in c =
     let g = c in
-    cnt-control g.args.y.service g.args.s.now g.args.at g.args.m c.field.ensures c.content_is.ensures g.requires.at_value (not_from_true _ c.if-not-content_is.false) c.field-2.ensures c.unit_in.ensures c.in-Of.is c.field-in-Of.ensures c.amount_in.ensures c.in-Grams.is c.with_control.ensures c.with_sums-in-Grams.ensures
+    cnt-control g.args.y.service g.args.s.now g.args.at g.args.m c.field.ensures c.content_is.ensures g.requires.at_value (not_from_true _ c.if-not-content_is.false) c.field-2.ensures c.unit_in.ensures c.in-Some.is c.field-in-Some.ensures c.amount_in.ensures c.in-Some-amount_in.is c.with_control.ensures c.with_sums-in-Some-amount_in.ensures
 
-pub returns-in-Bad : goal.returns-in-Bad
-returns-in-Bad c =
+pub returns-in-None-amount_in : goal.returns-in-None-amount_in
+returns-in-None-amount_in c =
     let g = c in
-    absurd (cnt-bad g.args.y.service g.args.s.now g.args.at g.args.m c.field.ensures c.content_is.ensures g.requires.at_value (not_from_true _ c.if-not-content_is.false) c.field-2.ensures c.unit_in.ensures c.in-Of.is c.field-in-Of.ensures c.amount_in.ensures c.in-Bad.is)
+    absurd (cnt-bad g.args.y.service g.args.s.now g.args.at g.args.m c.field.ensures c.content_is.ensures g.requires.at_value (not_from_true _ c.if-not-content_is.false) c.field-2.ensures c.unit_in.ensures c.in-Some.is c.field-in-Some.ensures c.amount_in.ensures c.in-None-amount_in.is)
 
-pub returns-in-Unknown : goal.returns-in-Unknown
-returns-in-Unknown c =
+pub returns-in-None : goal.returns-in-None
+returns-in-None c =
     let g = c in
-    absurd (cnt-unknown g.args.y.service g.args.s.now g.args.at g.args.m c.field.ensures c.content_is.ensures g.requires.at_value (not_from_true _ c.if-not-content_is.false) c.field-2.ensures c.unit_in.ensures c.in-Unknown.is)
+    absurd (cnt-unknown g.args.y.service g.args.s.now g.args.at g.args.m c.field.ensures c.content_is.ensures g.requires.at_value (not_from_true _ c.if-not-content_is.false) c.field-2.ensures c.unit_in.ensures c.in-None.is)

@@ -19,29 +19,29 @@ returns-then-parts-ne3 c =
 pub amount_in-requires : goal.amount_in-requires
 amount_in-requires c =
     let g = c in
-    unit-fits (content g.args.y.service.release c.field.result.now) 9 6 c.unit_in.ensures (omega arith, omega arith) c.in-Of.is
+    unit-fits (content g.args.y.service.release c.field.result.now) 9 6 c.unit_in.ensures (omega arith, omega arith) c.in-Some.is
 
 pub with_load-requires : goal.with_load-requires
 with_load-requires c =
     let g = c in
-    load_fits (content g.args.y.service.release c.field.result.now) (content g.args.y.service.release c.field-in-Of.result.now) g.args.m g.requires.segments_bound c.unit_in.ensures c.in-Of.is c.amount_in.ensures c.in-Grams.is
+    load_fits (content g.args.y.service.release c.field.result.now) (content g.args.y.service.release c.field-in-Some.result.now) g.args.m g.requires.segments_bound c.unit_in.ensures c.in-Some.is c.amount_in.ensures c.in-Some-amount_in.is
 
-pub with_sums-requires-in-Grams : goal.with_sums-requires-in-Grams
-with_sums-requires-in-Grams c =
+pub with_sums-requires-in-Some-amount_in : goal.with_sums-requires-in-Some-amount_in
+with_sums-requires-in-Some-amount_in c =
     let g = c in
     g.requires.segments_bound.0
 
-pub returns-in-Grams : goal.returns-in-Grams
-returns-in-Grams c =
+pub returns-in-Some-amount_in : goal.returns-in-Some-amount_in
+returns-in-Some-amount_in c =
     let g = c in
-    qty-load g.args.y.service g.args.s.now g.args.at g.args.m g.requires.at_value g.requires.fields.sizes c.if-f-ne1.false c.parts.ensures c.if-parts-ne3.false c.field.ensures c.unit_in.ensures c.in-Of.is c.field-in-Of.ensures c.amount_in.ensures c.in-Grams.is c.with_load.ensures c.with_sums-in-Grams.ensures
+    qty-load g.args.y.service g.args.s.now g.args.at g.args.m g.requires.at_value g.requires.fields.sizes c.if-f-ne1.false c.parts.ensures c.if-parts-ne3.false c.field.ensures c.unit_in.ensures c.in-Some.is c.field-in-Some.ensures c.amount_in.ensures c.in-Some-amount_in.is c.with_load.ensures c.with_sums-in-Some-amount_in.ensures
 
-pub returns-in-Bad : goal.returns-in-Bad
-returns-in-Bad c =
+pub returns-in-None-amount_in : goal.returns-in-None-amount_in
+returns-in-None-amount_in c =
     let g = c in
-    qty-bad g.args.y.service g.args.s.now g.args.at g.args.m g.requires.at_value g.requires.fields.sizes c.if-f-ne1.false c.parts.ensures c.if-parts-ne3.false c.field.ensures c.unit_in.ensures c.in-Of.is c.field-in-Of.ensures c.amount_in.ensures c.in-Bad.is refl
+    qty-bad g.args.y.service g.args.s.now g.args.at g.args.m g.requires.at_value g.requires.fields.sizes c.if-f-ne1.false c.parts.ensures c.if-parts-ne3.false c.field.ensures c.unit_in.ensures c.in-Some.is c.field-in-Some.ensures c.amount_in.ensures c.in-None-amount_in.is refl
 
-pub returns-in-Unknown : goal.returns-in-Unknown
-returns-in-Unknown c =
+pub returns-in-None : goal.returns-in-None
+returns-in-None c =
     let g = c in
-    qty-unknown g.args.y.service g.args.s.now g.args.at g.args.m c.with_sums-in-Unknown.ensures c.field.ensures c.unit_in.ensures c.in-Unknown.is
+    qty-unknown g.args.y.service g.args.s.now g.args.at g.args.m c.with_sums-in-None.ensures c.field.ensures c.unit_in.ensures c.in-None.is

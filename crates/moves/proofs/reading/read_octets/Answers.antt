@@ -1,25 +1,30 @@
-use borrow.Author.Rules.{rules}
-use native.Mathlib.Omega.{arith}
-use Rattle.moves.specs.NumberLaws.{Highing, highing-start, highing-cut, highing-fits, highing-on, highing-end, highing-over}
+use Rattle.std.proofs.Common.{arith, ◌≡◌, ◌<◌, ◌∙◌, get_or}
+use Rattle.moves.specs.NumberLaws.{highing-start, highing-cut, highing-fits, highing-on, highing-end, highing-over}
 use Rattle.moves.proofs.reading.read_octets.Goals as goal
 
-pub loop-left-init : goal.loop-left-init
-loop-left-init c = search (highing-start, rules)
+pub loop-init : goal.loop-init
+loop-init c = highing-start (omega arith) c.requires
 
-pub returns-then-s-i : goal.returns-then-s-i
-returns-then-s-i c = search (highing-cut, rules)
+pub returns-in_err-get : goal.returns-in_err-get
+returns-in_err-get c = c.from_residual.ensures ∙ highing-cut c.loop.invariant (omega arith) c.in_err-get.ensures.lookup.3
 
 pub overflow_mul-v : goal.overflow_mul-v
-overflow_mul-v c = let h = highing-fits c.loop-left.invariant c.loop-left-test.true in omega arith
+overflow_mul-v c = let h = highing-fits c.loop.invariant (omega arith) in omega arith
 
 pub overflow_add-v : goal.overflow_add-v
-overflow_add-v c = let h = highing-fits c.loop-left.invariant c.loop-left-test.true in omega (arith, c.wide.ensures.1)
+overflow_add-v c =
+    let h : c.loop.v < 72057594037927936 = highing-fits c.loop.invariant (omega arith) in
+    let e : c.from.result ≡ get_or c.args.s.now c.loop.i 0 = c.from.ensures ∙ c.in_ok-get.ensures.lookup.3.1 0 in
+    omega (arith, c.type_inv.s c.loop.i)
 
-pub loop-left-preserved : goal.loop-left-preserved
-loop-left-preserved c = search (highing-on, rules)
+pub loop-preserved : goal.loop-preserved
+loop-preserved c =
+    let k = c.in_ok-get.ensures.lookup.3 in
+    let e : c.from.result ≡ get_or c.args.s.now c.loop.i 0 = c.from.ensures ∙ k.1 0 in
+    highing-on c.loop.invariant (omega arith) (omega arith) k.0 (e, omega (arith, c.type_inv.s c.loop.i))
 
 pub returns-then-v-most : goal.returns-then-v-most
-returns-then-v-most c = search (highing-end, rules)
+returns-then-v-most c = highing-end c.loop.invariant (omega arith) c.if-v-most.true
 
-pub returns : goal.returns
-returns c = search (highing-over, rules)
+pub returns-else-v-most : goal.returns-else-v-most
+returns-else-v-most c = highing-over c.loop.invariant (omega arith) c.if-v-most.false

@@ -8,8 +8,8 @@ returns-then-a c = search (name-short, rules)
 pub returns-then-b : goal.returns-then-b
 returns-then-b c = search (name-two, rules)
 
-pub returns-in-Over : goal.returns-in-Over
-returns-in-Over c = search (name-full, rules)
+pub returns-in-None : goal.returns-in-None
+returns-in-None c = search (name-full, rules)
 
-pub returns-in-Octet : goal.returns-in-Octet
-returns-in-Octet c = search (name-long, rules)
+pub returns-in-Some : goal.returns-in-Some
+returns-in-Some c = search (name-long, rules)

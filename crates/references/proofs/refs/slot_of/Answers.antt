@@ -18,19 +18,19 @@ pub is_named-requires : goal.is_named-requires
 is_named-requires c = search (seeking-names, rules)
 
 pub returns-then-is_named : goal.returns-then-is_named
-returns-then-is_named c = seeking-found c.requires.indexed c.loop-n.invariant c.wide16-k.ensures c.if-k-eq0.false (sym c.is_named.ensures ∙ c.if-is_named.true)
+returns-then-is_named c = seeking-found c.requires.indexed c.loop-n.invariant c.from-k.ensures c.if-k-eq0.false (sym c.is_named.ensures ∙ c.if-is_named.true)
 
 pub overflow_mul-i : goal.overflow_mul-i
-overflow_mul-i c = let p = seeking-names c.requires.indexed c.loop-n.invariant c.wide16-k.ensures c.if-k-eq0.false in search rules
+overflow_mul-i c = let p = seeking-names c.requires.indexed c.loop-n.invariant c.from-k.ensures c.if-k-eq0.false in search rules
 
 pub overflow_add-i : goal.overflow_add-i
-overflow_add-i c = let p = seeking-names c.requires.indexed c.loop-n.invariant c.wide16-k.ensures c.if-k-eq0.false in search rules
+overflow_add-i c = let p = seeking-names c.requires.indexed c.loop-n.invariant c.from-k.ensures c.if-k-eq0.false in search rules
 
 pub overflow_add-i-in-loop-n : goal.overflow_add-i-in-loop-n
-overflow_add-i-in-loop-n c = let p = seeking-names c.requires.indexed c.loop-n.invariant c.wide16-k.ensures c.if-k-eq0.false in search rules
+overflow_add-i-in-loop-n c = let p = seeking-names c.requires.indexed c.loop-n.invariant c.from-k.ensures c.if-k-eq0.false in search rules
 
 pub loop-n-smaller : goal.loop-n-smaller
 loop-n-smaller c = search (seeking-less, rules)
 
 pub loop-n-preserved : goal.loop-n-preserved
-loop-n-preserved c = seeking-on c.requires.indexed c.loop-n.invariant c.wide16-k.ensures c.if-k-eq0.false c.bit.ensures refl (sym c.is_named.ensures ∙ c.if-is_named.false)
+loop-n-preserved c = seeking-on c.requires.indexed c.loop-n.invariant c.from-k.ensures c.if-k-eq0.false c.bit.ensures refl (sym c.is_named.ensures ∙ c.if-is_named.false)

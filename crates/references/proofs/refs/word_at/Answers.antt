@@ -15,8 +15,8 @@ overflow_add-v c = let p = packing-fits c.loop-n.invariant c.loop-n-test.true in
 pub loop-n-preserved : goal.loop-n-preserved
 loop-n-preserved c = search (packing-on, rules)
 
-pub returns-in-Over : goal.returns-in-Over
-returns-in-Over c = search (packing-end, rules)
+pub returns-in-None : goal.returns-in-None
+returns-in-None c = search (packing-end, rules)
 
 pub returns : goal.returns
 returns c = search (packing-full, rules)

@@ -1,6 +1,5 @@
 use mathlib.Core.Path.{refl}
 use Rattle.register.proofs.RegisterLaws.{section-light, section-entry, section-none}
-use borrow.Author.Rules.{rules}
 use Rattle.register.proofs.entries.put_section.Goals as goal
 
 pub entry_of-e-requires : goal.entry_of-e-requires

@@ -1,14 +1,11 @@
-use mathlib.Core.Path.{sym, ap, ◌∙◌}
+use mathlib.Core.Path.{ap}
+use Rattle.std.proofs.lemmas.Result.{err_from_is_err_and}
 use Rattle.register.specs.Register.{told_check}
-use Rattle.register.proofs.RegisterLaws.{unbegun, check-refused}
-use borrow.Author.Rules.{rules}
+use Rattle.register.proofs.RegisterLaws.{check-refused}
 use Rattle.register.proofs.register.register_check.Goals as goal
 
-pub check_from-requires : goal.check_from-requires
-check_from-requires c = record { table = c.table-t.ensures; begins_at = sym c.begin.ensures ∙ c.in-Ready.is }
+pub returns-in_err-start : goal.returns-in_err-start
+returns-in_err-start c = let p = err_from_is_err_and c.from_residual.result c.from_residual.ensures.1 in rw (p.1, p.2) (let e = check-refused c.args.form c.args.s.now _ (rw c.in_err-start.was at c.start.ensures) c.args.register.now in record { value = e; result_value = ap told_check e })
 
-pub returns-in-Refused : goal.returns-in-Refused
-returns-in-Refused c = let e = check-refused c.args.form c.args.s.now _ (unbegun c.args.form c.args.s.now c.begin.ensures c.in-Refused.is c.refusal.ensures) c.args.register.now in record { value = e; result_value = ap told_check e }
-
-pub returns-in-Ready : goal.returns-in-Ready
-returns-in-Ready c = record { value = c.check_from.ensures; result_value = ap told_check c.check_from.ensures }
+pub returns : goal.returns
+returns c = let e = (rw (rw c.in_ok-start.was at c.start.ensures) at c.check_from.ensures) in record { value = e; result_value = ap told_check e }

@@ -1,10 +1,9 @@
-use mathlib.Core.Path.{sym, ◌∙◌}
-use Rattle.register.proofs.RegisterLaws.{unbegun, write-refused}
-use borrow.Author.Rules.{rules}
+use Rattle.std.proofs.lemmas.Result.{err_from_is_err_and}
+use Rattle.register.proofs.RegisterLaws.{write-refused}
 use Rattle.register.proofs.register.register_write.Goals as goal
 
-pub write_from-requires : goal.write_from-requires
-write_from-requires c = record { table = c.table-t.ensures; begins_at = sym c.begin.ensures ∙ c.in-Ready.is }
+pub returns-in_err-start : goal.returns-in_err-start
+returns-in_err-start c = let p = err_from_is_err_and c.from_residual.result c.from_residual.ensures.1 in rw (p.1, p.2) (write-refused c.args.form c.args.s.now _ (rw c.in_err-start.was at c.start.ensures) c.args.out.now)
 
-pub returns-in-Refused : goal.returns-in-Refused
-returns-in-Refused c = write-refused c.args.form c.args.s.now _ (unbegun c.args.form c.args.s.now c.begin.ensures c.in-Refused.is c.refusal.ensures) c.args.out.now
+pub returns : goal.returns
+returns c = rw (rw c.in_ok-start.was at c.start.ensures) at c.write_from.ensures

@@ -8,7 +8,7 @@ use Rattle.returns.specs.ReadingLaws.{Summing, summing_start, summing-runs, summ
 use Rattle.returns.proofs.loads.add_between.Given as goal
 
 abbrev pub invariant-loop-at : goal.invariant-loop-at
-invariant-loop-at l = Summing l.y.service l.s l.from l.to l.initial.k l.k l.at
+invariant-loop-at l = Summing l.t.syntax.service l.s l.from l.to l.initial.k l.k l.at
 
 abbrev pub decreases-loop-at : goal.decreases-loop-at
 decreases-loop-at l = length l.s - l.at

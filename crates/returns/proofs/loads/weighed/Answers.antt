@@ -3,4 +3,4 @@ use borrow.Author.Rules.{rules}
 use Rattle.returns.proofs.loads.weighed.Goals as goal
 
 pub returns-else-below : goal.returns-else-below
-returns-else-below c = forward-weighed c.in-Grams.is c.if-below.false c.load_of.ensures.value
+returns-else-below c = forward-weighed c.in-Some.is c.if-below.false c.load_of.ensures.value

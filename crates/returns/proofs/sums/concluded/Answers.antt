@@ -5,10 +5,10 @@ use borrow.Author.Rules.{rules}
 use Rattle.returns.proofs.sums.concluded.Goals as goal
 
 pub left_by-requires : goal.left_by-requires
-left_by-requires c = subst Runs c.in-Of.is c.requires
+left_by-requires c = subst Runs c.in-Ok.is c.requires
 
-pub returns-in-Of : goal.returns-in-Of
-returns-in-Of c = concluded-left c.in-Of.is c.left_by.ensures
+pub returns-in-Ok : goal.returns-in-Ok
+returns-in-Ok c = concluded-left c.in-Ok.is c.left_by.ensures
 
-pub returns-in-Refused : goal.returns-in-Refused
-returns-in-Refused c = concluded-refused c.in-Refused.is
+pub returns-in-Err : goal.returns-in-Err
+returns-in-Err c = concluded-refused c.in-Err.is

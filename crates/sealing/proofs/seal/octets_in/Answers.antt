@@ -1,7 +1,5 @@
 use Rattle.writing.specs.WrittenLaws.{writes-none}
 use Rattle.sealing.specs.SealLaws.{octets-written, octets-barred}
-use mathlib.Core.Path.{◌≡◌, refl, sym, ap, ◌∙◌}
-use borrow.Author.Rules.{rules}
 use Rattle.sealing.proofs.seal.octets_in.Goals as goal
 
 pub write_octets-requires : goal.write_octets-requires

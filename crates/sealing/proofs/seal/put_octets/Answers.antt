@@ -1,7 +1,6 @@
 use Rattle.weaving.specs.PiecesLaws.{part-short}
 use Rattle.weaving.specs.Woven.{octets_pieces}
 use Rattle.writing.specs.LaidLaws.{weaving-start, weaving-put, weaving-end, laid_same}
-use mathlib.Core.Path.{◌≡◌, refl, sym, ap, ◌∙◌}
 use borrow.Author.Rules.{rules}
 use Rattle.sealing.proofs.seal.put_octets.Goals as goal
 

@@ -1,6 +1,5 @@
 use Rattle.writing.specs.WrittenLaws.{writes-over, writes-fit}
 use Rattle.writing.specs.LaidLaws.{laid-all}
-use borrow.Author.Rules.{rules}
 use Rattle.sealing.proofs.seal.write_sealed.Goals as goal
 
 pub returns-then-too_long : goal.returns-then-too_long

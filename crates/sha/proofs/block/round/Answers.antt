@@ -1,5 +1,4 @@
 use Rattle.sha.specs.Loops.{round_by}
-use Rattle.std.proofs.Common.{rules}
 use Rattle.sha.proofs.block.round.Goals as goal
 
 pub returns : goal.returns

@@ -1,5 +1,4 @@
 use Rattle.sha.specs.Sha.{summed}
-use Rattle.std.proofs.Common.{rules}
 use Rattle.sha.proofs.block.total.Goals as goal
 
 pub returns : goal.returns

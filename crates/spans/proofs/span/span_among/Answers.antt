@@ -1,31 +1,24 @@
-use Prim.Native.Nat.{◌-◌}
-use mathlib.Core.Path.{sym, ◌∙◌}
-use borrow.Author.Rules.{rules}
-use lib.ListN.{length}
+use mathlib.Core.Path.{ap, ◌∙◌}
+use Rattle.std.specs.Prelude.{Ok}
+use Rattle.std.proofs.lemmas.Result.{err_from_is_err_and}
 use Rattle.walk.specs.SectionLaws.{between-so, passed, nearer, read_all, stopped}
-use Rattle.spans.specs.SpanningLaws.{Spanning, spanning-start, spanning-on, span-told}
+use Rattle.spans.specs.SpanningLaws.{spanning-start, spanning-on, span-told}
 use Rattle.spans.proofs.span.span_among.Goals as goal
 
-pub loop-f-init : goal.loop-f-init
-loop-f-init c = spanning-start c.requires.fresh c.requires.marks_len c.unread-st.ensures
+pub loop-section-init : goal.loop-section-init
+loop-section-init c = spanning-start c.requires.fresh c.requires.marks_len c.unread-state.ensures
 
 pub next_section-requires : goal.next_section-requires
-next_section-requires c = record { table = c.requires.table; between = between-so c.loop-f.invariant.looping c.requires.fresh.fits }
+next_section-requires c = record { between = between-so c.loop-section.invariant.looping c.requires.fresh.fits }
 
-pub shape_of-marks-in-Stop : goal.shape_of-marks-in-Stop
-shape_of-marks-in-Stop c = c.next_section.ensures.marks_len ∙ sym c.requires.marks_len.0
+pub returns-in_err-section : goal.returns-in_err-section
+returns-in_err-section c = let p = err_from_is_err_and c.from_residual.result c.from_residual.ensures.1 in rw (p.1, p.2) (stopped c.loop-section.invariant.looping.walks c.next_section.new.heads c.next_section.new.names c.next_section.new.slots c.next_section.new.rows _ c.in_err-section.was (c.next_section.ensures.by_index _ c.loop-section.invariant.looping.walks))
 
-pub returns-in-Stop : goal.returns-in-Stop
-returns-in-Stop c = stopped c.loop-f.invariant.looping.walks c.next_section.new.heads c.next_section.new.names c.next_section.new.slots c.next_section.new.rows _ c.in-Stop.is (c.next_section.ensures.by_index _ c.loop-f.invariant.looping.walks)
+pub returns : goal.returns
+returns c = span-told c.loop-section.invariant (read_all c.loop-section.invariant.looping.walks c.next_section.new.heads c.next_section.new.names c.next_section.new.slots c.next_section.new.rows _ (c.in_ok-section.was ∙ ap Ok c.in_default.is) (c.next_section.ensures.by_index _ c.loop-section.invariant.looping.walks)) c.told.ensures
 
-pub shape_of-marks-in-Over : goal.shape_of-marks-in-Over
-shape_of-marks-in-Over c = c.next_section.ensures.marks_len ∙ sym c.requires.marks_len.0
+pub loop-section-smaller : goal.loop-section-smaller
+loop-section-smaller c = nearer c.loop-section.invariant.looping.walks c.next_section.new.heads c.next_section.new.names c.next_section.new.slots c.next_section.new.rows _ (c.in_ok-section.was ∙ ap Ok c.in-Some.is) (c.next_section.ensures.by_index _ c.loop-section.invariant.looping.walks)
 
-pub returns-in-Over : goal.returns-in-Over
-returns-in-Over c = span-told c.loop-f.invariant (read_all c.loop-f.invariant.looping.walks c.next_section.new.heads c.next_section.new.names c.next_section.new.slots c.next_section.new.rows _ c.in-Over.is (c.next_section.ensures.by_index _ c.loop-f.invariant.looping.walks)) c.told.ensures
-
-pub loop-f-smaller : goal.loop-f-smaller
-loop-f-smaller c = nearer c.loop-f.invariant.looping.walks c.next_section.new.heads c.next_section.new.names c.next_section.new.slots c.next_section.new.rows _ c.in-On.is (c.next_section.ensures.by_index _ c.loop-f.invariant.looping.walks)
-
-pub loop-f-preserved : goal.loop-f-preserved
-loop-f-preserved c = spanning-on c.loop-f.invariant (passed c.loop-f.invariant.looping.walks c.next_section.new.heads c.next_section.new.names c.next_section.new.slots c.next_section.new.rows _ c.in-On.is (c.next_section.ensures.by_index _ c.loop-f.invariant.looping.walks)) c.next_section.ensures.marks_len c.next_section.auto.names c.next_section.auto.slots c.after_section-k.ensures
+pub loop-section-preserved : goal.loop-section-preserved
+loop-section-preserved c = spanning-on c.loop-section.invariant (passed c.loop-section.invariant.looping.walks c.next_section.new.heads c.next_section.new.names c.next_section.new.slots c.next_section.new.rows _ (c.in_ok-section.was ∙ ap Ok c.in-Some.is) (c.next_section.ensures.by_index _ c.loop-section.invariant.looping.walks)) c.next_section.ensures.marks_len c.next_section.auto.names c.next_section.auto.slots c.after_section-k.ensures

@@ -21,5 +21,5 @@ loop-b-smaller c = search (digital-less, rules)
 pub loop-b-preserved : goal.loop-b-preserved
 loop-b-preserved c = search (digital-on, rules)
 
-pub returns-in-Over : goal.returns-in-Over
-returns-in-Over c = search (digital-end, rules)
+pub returns : goal.returns
+returns c = search (digital-end, rules)

@@ -19,5 +19,5 @@ loop-b-smaller c = search (baring-less, rules)
 pub loop-b-preserved : goal.loop-b-preserved
 loop-b-preserved c = search (baring-space, rules)
 
-pub returns-in-Over : goal.returns-in-Over
-returns-in-Over c = search (baring-part, rules)
+pub returns : goal.returns
+returns c = search (baring-part, rules)

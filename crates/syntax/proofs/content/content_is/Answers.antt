@@ -22,5 +22,5 @@ loop-b-smaller c = search (spelling-less, rules)
 pub loop-b-preserved : goal.loop-b-preserved
 loop-b-preserved c = search (spelling-on, rules)
 
-pub returns-in-Over : goal.returns-in-Over
-returns-in-Over c = search (spelling-end, rules)
+pub returns : goal.returns
+returns c = search (spelling-end, rules)

@@ -12,7 +12,7 @@ loop-j-init c = record { few = search rules; sums = sym (zero-add _) }
 
 pub overflow_add-n : goal.overflow_add-n
 overflow_add-n c = let g = c in
-    let h = lengthening-fits g.loop-j.invariant g.next_octet.ensures c.in-Octet.is in
+    let h = lengthening-fits g.loop-j.invariant g.next_octet.ensures c.in-Some.is in
     search rules
 
 pub loop-j-smaller : goal.loop-j-smaller
@@ -21,5 +21,5 @@ loop-j-smaller c = search (lengthening-less, lengthening-fits, rules)
 pub loop-j-preserved : goal.loop-j-preserved
 loop-j-preserved c = search (lengthening-on, rules)
 
-pub returns-in-Over : goal.returns-in-Over
-returns-in-Over c = search (lengthening-end, rules)
+pub returns : goal.returns
+returns c = search (lengthening-end, rules)

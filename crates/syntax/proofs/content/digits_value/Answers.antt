@@ -37,5 +37,5 @@ loop-b-preserved c = search (numbering-on, rules)
 pub returns-then-n-eq0 : goal.returns-then-n-eq0
 returns-then-n-eq0 c = search (numbering-none, rules)
 
-pub returns-in-Over : goal.returns-in-Over
-returns-in-Over c = search (numbering-end, rules)
+pub returns : goal.returns
+returns c = search (numbering-end, rules)

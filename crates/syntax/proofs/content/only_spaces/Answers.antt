@@ -18,5 +18,5 @@ loop-b-smaller c = search (blanking-less, rules)
 pub loop-b-preserved : goal.loop-b-preserved
 loop-b-preserved c = search (blanking-on, rules)
 
-pub returns-in-Over : goal.returns-in-Over
-returns-in-Over c = search (blanking-end, rules)
+pub returns : goal.returns
+returns c = search (blanking-end, rules)

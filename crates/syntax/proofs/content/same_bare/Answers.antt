@@ -19,8 +19,8 @@ loop-b-smaller c = search (comparing-less, rules)
 pub loop-b-preserved : goal.loop-b-preserved
 loop-b-preserved c = search (comparing-on, rules)
 
-pub returns-in-Over-g : goal.returns-in-Over-g
-returns-in-Over-g c = search (comparing-left, rules)
+pub returns-in-None-g : goal.returns-in-None-g
+returns-in-None-g c = search (comparing-left, rules)
 
-pub returns-in-Over : goal.returns-in-Over
-returns-in-Over c = search (comparing-right, rules)
+pub returns-in-None : goal.returns-in-None
+returns-in-None c = search (comparing-right, rules)

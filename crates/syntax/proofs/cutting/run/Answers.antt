@@ -14,11 +14,11 @@ returns-then-s-lt8 c = refl
 pub loop-i-init : goal.loop-i-init
 loop-i-init c = (omega arith, cutting-at refl)
 
-pub returns-then-wide-four : goal.returns-then-wide-four
-returns-then-wide-four c = cutting-from c.loop-i.invariant.1
+pub returns-then-from-four : goal.returns-then-from-four
+returns-then-from-four c = cutting-from c.loop-i.invariant.1
 
-pub returns-then-wide-four-2 : goal.returns-then-wide-four-2
-returns-then-wide-four-2 c = cutting-from (cutting-four c.loop-i.invariant.1 c.four.ensures (omega arith))
+pub returns-then-from-four-2 : goal.returns-then-from-four-2
+returns-then-from-four-2 c = cutting-from (cutting-four c.loop-i.invariant.1 c.four.ensures (omega arith))
 
 pub loop-i-preserved : goal.loop-i-preserved
 loop-i-preserved c =

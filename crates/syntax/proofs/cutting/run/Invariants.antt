@@ -9,7 +9,7 @@ use Rattle.syntax.proofs.CuttingLaws.{cutting-at, cutting-from, cutting-four, cu
 use Rattle.syntax.proofs.cutting.run.Given as goal
 
 abbrev pub invariant-loop-i : goal.invariant-loop-i
-invariant-loop-i l = (l.last + 8 ≡ length l.s) × Cutting l.y (cut_at l.y l.s l.from) l.s l.i
+invariant-loop-i l = (l.last + 8 ≡ length l.s) × Cutting l.t.syntax (cut_at l.t.syntax l.s l.from) l.s l.i
 
 abbrev pub decreases-loop-i : goal.decreases-loop-i
 decreases-loop-i l = length l.s - l.i

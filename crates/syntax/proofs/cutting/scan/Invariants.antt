@@ -9,7 +9,7 @@ use Rattle.syntax.proofs.CuttingLaws.{cutting-at, cutting-none, cutting-on, cutt
 use Rattle.syntax.proofs.cutting.scan.Given as goal
 
 abbrev pub invariant-loop-i : goal.invariant-loop-i
-invariant-loop-i l = Cutting l.y (cut_at l.y l.s l.from) l.s l.i
+invariant-loop-i l = Cutting l.t.syntax (cut_at l.t.syntax l.s l.from) l.s l.i
 
 abbrev pub decreases-loop-i : goal.decreases-loop-i
 decreases-loop-i l = length l.s - l.i

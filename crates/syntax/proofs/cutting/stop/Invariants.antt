@@ -9,7 +9,7 @@ use Rattle.syntax.proofs.CuttingLaws.{going-none, class-on, class-bad, class-hit
 use Rattle.syntax.proofs.cutting.stop.Given as goal
 
 abbrev pub invariant-loop-i : goal.invariant-loop-i
-invariant-loop-i l = Going l.y l.n (stop_from l.y.service l.n false (drop l.from l.s) l.from) l.s l.i
+invariant-loop-i l = Going l.t.syntax l.n (stop_from l.t.syntax.service l.n false (drop l.from l.s) l.from) l.s l.i
 
 abbrev pub decreases-loop-i : goal.decreases-loop-i
 decreases-loop-i l = length l.s - l.i

@@ -6,7 +6,7 @@ use borrow.Author.Rules.{rules}
 use Rattle.syntax.proofs.reading.clean_end.Given as goal
 
 abbrev pub invariant-loop-i : goal.invariant-loop-i
-invariant-loop-i l = Tidy l.y l.s l.from l.i
+invariant-loop-i l = Tidy l.t.syntax l.s l.from l.i
 
 abbrev pub decreases-loop-i : goal.decreases-loop-i
 decreases-loop-i l = length l.s - l.i

@@ -8,7 +8,7 @@ use Rattle.syntax.proofs.SegmentLaws.{edge-steps, Nearing, nearing-over, nearing
 use Rattle.syntax.proofs.reading.component_from.Given as goal
 
 abbrev pub invariant-loop-q : goal.invariant-loop-q
-invariant-loop-q l = Nearing l.y (at_component l.c (pieces_at l.y.service l.s l.p)) l.s l.i l.n
+invariant-loop-q l = Nearing l.t.syntax (at_component l.c (pieces_at l.t.syntax.service l.s l.p)) l.s l.i l.n
 
 abbrev pub decreases-loop-q : goal.decreases-loop-q
 decreases-loop-q l = length l.s - l.i

@@ -8,7 +8,7 @@ use Rattle.syntax.proofs.SegmentLaws.{edge-steps, Numbering, numbering-over, num
 use Rattle.syntax.proofs.reading.count_elements.Given as goal
 
 abbrev pub invariant-loop-q : goal.invariant-loop-q
-invariant-loop-q l = Numbering l.y (elements (pieces_at l.y.service l.s l.a)) l.s l.i l.n
+invariant-loop-q l = Numbering l.t.syntax (elements (pieces_at l.t.syntax.service l.s l.a)) l.s l.i l.n
 
 abbrev pub decreases-loop-q : goal.decreases-loop-q
 decreases-loop-q l = length l.s - l.i

@@ -8,7 +8,7 @@ use Rattle.syntax.proofs.SegmentLaws.{edge-steps, Passing, passing-there, passin
 use Rattle.syntax.proofs.reading.element_from.Given as goal
 
 abbrev pub invariant-loop-n : goal.invariant-loop-n
-invariant-loop-n l = Passing l.y (at_element l.e (pieces_at l.y.service l.s l.a)) l.s l.i l.n
+invariant-loop-n l = Passing l.t.syntax (at_element l.e (pieces_at l.t.syntax.service l.s l.a)) l.s l.i l.n
 
 abbrev pub decreases-loop-n : goal.decreases-loop-n
 decreases-loop-n l = length l.s - l.i

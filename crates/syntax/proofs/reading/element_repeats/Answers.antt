@@ -5,8 +5,8 @@ use Rattle.syntax.proofs.SegmentLaws.{reached, unreached}
 use borrow.Author.Rules.{rules}
 use Rattle.syntax.proofs.reading.element_repeats.Goals as goal
 
-pub returns-in-At : goal.returns-in-At
-returns-in-At c = let a = c.args in c.repeats_from.ensures ∙ ap (repeats) (reached a.y.service a.s.now _ (at_element a.e (pieces_at a.y.service a.s.now a.a)) c.element_from.ensures c.in-At.is)
+pub returns-in-Some : goal.returns-in-Some
+returns-in-Some c = let a = c.args in c.repeats_from.ensures ∙ ap (repeats) (reached a.t.now.syntax.service a.s.now _ (at_element a.e (pieces_at a.t.now.syntax.service a.s.now a.a)) c.element_from.ensures c.in-Some.is)
 
-pub returns-in-Nothing : goal.returns-in-Nothing
-returns-in-Nothing c = let a = c.args in ap (repeats) (unreached a.y.service a.s.now _ (at_element a.e (pieces_at a.y.service a.s.now a.a)) c.element_from.ensures c.in-Nothing.is)
+pub returns-in-None : goal.returns-in-None
+returns-in-None c = let a = c.args in ap (repeats) (unreached a.t.now.syntax.service a.s.now _ (at_element a.e (pieces_at a.t.now.syntax.service a.s.now a.a)) c.element_from.ensures c.in-None.is)

@@ -17,13 +17,13 @@ pub returns-then-k-ne2 : goal.returns-then-k-ne2
 returns-then-k-ne2 c = search (repeating-no, rules)
 
 pub overflow_add-i : goal.overflow_add-i
-overflow_add-i c = let w = edge-steps c.args.y.service c.args.s.now c.loop-q.i c.piece_end.ensures c.in-On.is in search rules
+overflow_add-i c = let w = edge-steps c.args.t.now.syntax.service c.args.s.now c.loop-q.i c.piece_end.ensures c.in-Some.is in search rules
 
 pub loop-q-smaller : goal.loop-q-smaller
-loop-q-smaller c = let w = edge-steps c.args.y.service c.args.s.now c.loop-q.i c.piece_end.ensures c.in-On.is in search rules
+loop-q-smaller c = let w = edge-steps c.args.t.now.syntax.service c.args.s.now c.loop-q.i c.piece_end.ensures c.in-Some.is in search rules
 
 pub loop-q-preserved : goal.loop-q-preserved
 loop-q-preserved c = search (repeating-on, rules)
 
-pub returns-in-Off : goal.returns-in-Off
-returns-in-Off c = search (repeating-over, rules)
+pub returns : goal.returns
+returns c = search (repeating-over, rules)

@@ -8,7 +8,7 @@ use Rattle.syntax.proofs.SegmentLaws.{edge-steps, Repeating, repeating-over, rep
 use Rattle.syntax.proofs.reading.repeats_from.Given as goal
 
 abbrev pub invariant-loop-q : goal.invariant-loop-q
-invariant-loop-q l = Repeating l.y (repeats (pieces_at l.y.service l.s l.p)) l.s l.i
+invariant-loop-q l = Repeating l.t.syntax (repeats (pieces_at l.t.syntax.service l.s l.p)) l.s l.i
 
 abbrev pub decreases-loop-q : goal.decreases-loop-q
 decreases-loop-q l = length l.s - l.i

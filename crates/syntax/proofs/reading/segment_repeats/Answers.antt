@@ -17,13 +17,13 @@ pub returns-then-k-eq5 : goal.returns-then-k-eq5
 returns-then-k-eq5 c = search (anywhere-end, rules)
 
 pub overflow_add-i : goal.overflow_add-i
-overflow_add-i c = let w = edge-steps c.args.y.service c.args.s.now c.loop-q.i c.piece_end.ensures c.in-On.is in search rules
+overflow_add-i c = let w = edge-steps c.args.t.now.syntax.service c.args.s.now c.loop-q.i c.piece_end.ensures c.in-Some.is in search rules
 
 pub loop-q-smaller : goal.loop-q-smaller
-loop-q-smaller c = let w = edge-steps c.args.y.service c.args.s.now c.loop-q.i c.piece_end.ensures c.in-On.is in search rules
+loop-q-smaller c = let w = edge-steps c.args.t.now.syntax.service c.args.s.now c.loop-q.i c.piece_end.ensures c.in-Some.is in search rules
 
 pub loop-q-preserved : goal.loop-q-preserved
 loop-q-preserved c = search (anywhere-on, rules)
 
-pub returns-in-Off : goal.returns-in-Off
-returns-in-Off c = search (anywhere-over, rules)
+pub returns : goal.returns
+returns c = search (anywhere-over, rules)

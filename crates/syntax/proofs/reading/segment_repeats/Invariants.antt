@@ -8,7 +8,7 @@ use Rattle.syntax.proofs.SegmentLaws.{edge-steps, Anywhere, anywhere-over, anywh
 use Rattle.syntax.proofs.reading.segment_repeats.Given as goal
 
 abbrev pub invariant-loop-q : goal.invariant-loop-q
-invariant-loop-q l = Anywhere l.y (any_repeats (pieces_at l.y.service l.s l.a)) l.s l.i
+invariant-loop-q l = Anywhere l.t.syntax (any_repeats (pieces_at l.t.syntax.service l.s l.a)) l.s l.i
 
 abbrev pub decreases-loop-q : goal.decreases-loop-q
 decreases-loop-q l = length l.s - l.i

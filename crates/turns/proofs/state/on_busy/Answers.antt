@@ -17,12 +17,12 @@ pub step_in-requires : goal.step_in-requires
 step_in-requires c =
     let g = c in record { k_value = g.requires.ready.kind; fields = g.requires.ready.noted; roomy = g.requires.ready.held.roomy; segments_bound = (busy-room g.requires.ready g.requires.phase_value.0, g.requires.ready.held.long); m_value = busy-passed g.requires.ready g.requires.phase_value.0 c.may_come.ensures (not_from_true _ c.if-not-may_come.false) c.formed_in.ensures (not_from_true _ c.if-not-formed_in.false); sought = g.requires.sought }
 
-pub returns-in-Bad : goal.returns-in-Bad
-returns-in-Bad c =
+pub returns-in-Err : goal.returns-in-Err
+returns-in-Err c =
     let g = c in
-    busy-bad g.requires.ready g.requires.phase_value.0 c.may_come.ensures (not_from_true _ c.if-not-may_come.false) c.formed_in.ensures (not_from_true _ c.if-not-formed_in.false) g.requires.phase_value.1 c.step_in.result c.step_in.new.heads c.step_in.ensures.by_index c.in-Bad.is c.stopped-in-Bad.ensures
+    busy-bad g.requires.ready g.requires.phase_value.0 c.may_come.ensures (not_from_true _ c.if-not-may_come.false) c.formed_in.ensures (not_from_true _ c.if-not-formed_in.false) g.requires.phase_value.1 c.step_in.result c.step_in.new.heads c.step_in.ensures.by_index c.in-Err.is c.stopped-in-Err.ensures
 
-pub returns-in-To : goal.returns-in-To
-returns-in-To c =
+pub returns-in-Ok : goal.returns-in-Ok
+returns-in-Ok c =
     let g = c in
-    busy-on g.requires.ready g.requires.phase_value.0 c.may_come.ensures (not_from_true _ c.if-not-may_come.false) c.formed_in.ensures (not_from_true _ c.if-not-formed_in.false) g.requires.phase_value.1 c.step_in.result c.step_in.new.heads c.step_in.ensures.by_index c.in-To.is c.step_in.ensures.heads_len c.after_other.ensures
+    busy-on g.requires.ready g.requires.phase_value.0 c.may_come.ensures (not_from_true _ c.if-not-may_come.false) c.formed_in.ensures (not_from_true _ c.if-not-formed_in.false) g.requires.phase_value.1 c.step_in.result c.step_in.new.heads c.step_in.ensures.by_index c.in-Ok.is c.step_in.ensures.heads_len c.after_other.ensures

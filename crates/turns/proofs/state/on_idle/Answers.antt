@@ -8,7 +8,7 @@ use Rattle.turns.proofs.state.on_idle.Goals as goal
 
 pub on_unh-requires : goal.on_unh-requires
 on_unh-requires c =
-    let g = c in record { table = g.requires.table; ready = ready_at g.requires.ready c.in-Unh.is; phase_value = g.requires.phase_value }
+    let g = c in record { ready = ready_at g.requires.ready c.in-Unh.is; phase_value = g.requires.phase_value }
 
 pub on_unz-requires : goal.on_unz-requires
 on_unz-requires c =

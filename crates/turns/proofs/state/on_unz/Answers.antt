@@ -33,12 +33,12 @@ pub number_in-requires : goal.number_in-requires
 number_in-requires c =
     let g = c in record { marked = (g.requires.ready.noted refl).marks; le_p = (omega arith, omega arith, unz-six g.args.y g.args.s.now g.args.st g.args.heads.now g.args.names.now g.args.slots.now g.args.at g.args.next g.args.f g.args.marks.now g.requires.ready g.requires.phase_value c.if-st-eq0.false (formed-at _ (asked_at g.args.y.service g.args.s.now g.args.at) g.requires.ready.kind Unz refl c.end_formed.ensures) (not_from_true _ c.if-not-end_formed.false)) }
 
-pub returns-then-number_in-wide : goal.returns-then-number_in-wide
-returns-then-number_in-wide c =
+pub returns-then-number_in-from : goal.returns-then-number_in-from
+returns-then-number_in-from c =
     let g = c in
-    unz-wrong g.args.y g.args.s.now g.args.st g.args.heads.now g.args.names.now g.args.slots.now g.args.at g.args.next g.args.f g.args.marks.now g.requires.ready g.requires.phase_value c.if-st-eq0.false (formed-at _ (asked_at g.args.y.service g.args.s.now g.args.at) g.requires.ready.kind Unz refl c.end_formed.ensures) (not_from_true _ c.if-not-end_formed.false) c.is_repeated.ensures (not_from_true _ c.if-not-is_repeated.false) c.number_in.ensures.0 c.wide.ensures c.if-number_in-wide.true c.stopped-then-number_in-wide.ensures
+    unz-wrong g.args.y g.args.s.now g.args.st g.args.heads.now g.args.names.now g.args.slots.now g.args.at g.args.next g.args.f g.args.marks.now g.requires.ready g.requires.phase_value c.if-st-eq0.false (formed-at _ (asked_at g.args.y.service g.args.s.now g.args.at) g.requires.ready.kind Unz refl c.end_formed.ensures) (not_from_true _ c.if-not-end_formed.false) c.is_repeated.ensures (not_from_true _ c.if-not-is_repeated.false) c.number_in.ensures.0 c.from.ensures c.if-number_in-from.true c.stopped-then-number_in-from.ensures
 
 pub returns : goal.returns
 returns c =
     let g = c in
-    unz-read g.args.y g.args.s.now g.args.st g.args.heads.now g.args.names.now g.args.slots.now g.args.at g.args.next g.args.f g.args.marks.now g.requires.ready g.requires.phase_value c.if-st-eq0.false (formed-at _ (asked_at g.args.y.service g.args.s.now g.args.at) g.requires.ready.kind Unz refl c.end_formed.ensures) (not_from_true _ c.if-not-end_formed.false) c.is_repeated.ensures (not_from_true _ c.if-not-is_repeated.false) c.number_in.ensures.0 c.wide.ensures c.if-number_in-wide.false c.after_other.ensures
+    unz-read g.args.y g.args.s.now g.args.st g.args.heads.now g.args.names.now g.args.slots.now g.args.at g.args.next g.args.f g.args.marks.now g.requires.ready g.requires.phase_value c.if-st-eq0.false (formed-at _ (asked_at g.args.y.service g.args.s.now g.args.at) g.requires.ready.kind Unz refl c.end_formed.ensures) (not_from_true _ c.if-not-end_formed.false) c.is_repeated.ensures (not_from_true _ c.if-not-is_repeated.false) c.number_in.ensures.0 c.from.ensures c.if-number_in-from.false c.after_other.ensures

@@ -1,9 +1,9 @@
+use Rattle.std.specs.Prelude.{Err}
 use mathlib.Core.Path.{refl, sym, ◌∙◌}
 use Rattle.elements.specs.Octets.{asked_at}
 use Rattle.message.specs.StepsLaws.{ush-room}
 use Rattle.turns.proofs.BusyLaws.{may-to, cnt-right, step-arm, usa-arm, usc-arm, usx-arm}
 use Rattle.elements.specs.declared.Kind.TheVariants.{Unb, Unh, Unt, Unz, Ush, Usa, Usc, Usr, Ust, Usb, Usx, Usy, Reserved, Qty, Cnt, Other}
-use Rattle.message.specs.declared.steps.Moved.TheVariants.{Bad}
 use borrow.Author.Rules.{rules}
 use Rattle.turns.proofs.state.step_in.Goals as goal
 
@@ -83,20 +83,20 @@ returns-in-Other c =
 
 pub returns-in-Unb : goal.returns-in-Unb
 returns-in-Unb c =
-    let g = c in record { by_index = step-arm g.args.y.service g.args.s.now g.args.at g.args.m g.args.heads.now (Bad 7) g.args.heads.now Unb c.in-Unb.is (λ u w. refl); heads_len = g.requires.segments_bound.1 }
+    let g = c in record { by_index = step-arm g.args.y.service g.args.s.now g.args.at g.args.m g.args.heads.now (Err 7) g.args.heads.now Unb c.in-Unb.is (λ u w. refl); heads_len = g.requires.segments_bound.1 }
 
 pub returns-in-Unh : goal.returns-in-Unh
 returns-in-Unh c =
-    let g = c in record { by_index = step-arm g.args.y.service g.args.s.now g.args.at g.args.m g.args.heads.now (Bad 7) g.args.heads.now Unh c.in-Unh.is (λ u w. refl); heads_len = g.requires.segments_bound.1 }
+    let g = c in record { by_index = step-arm g.args.y.service g.args.s.now g.args.at g.args.m g.args.heads.now (Err 7) g.args.heads.now Unh c.in-Unh.is (λ u w. refl); heads_len = g.requires.segments_bound.1 }
 
 pub returns-in-Unt : goal.returns-in-Unt
 returns-in-Unt c =
-    let g = c in record { by_index = step-arm g.args.y.service g.args.s.now g.args.at g.args.m g.args.heads.now (Bad 7) g.args.heads.now Unt c.in-Unt.is (λ u w. refl); heads_len = g.requires.segments_bound.1 }
+    let g = c in record { by_index = step-arm g.args.y.service g.args.s.now g.args.at g.args.m g.args.heads.now (Err 7) g.args.heads.now Unt c.in-Unt.is (λ u w. refl); heads_len = g.requires.segments_bound.1 }
 
 pub returns-in-Unz : goal.returns-in-Unz
 returns-in-Unz c =
-    let g = c in record { by_index = step-arm g.args.y.service g.args.s.now g.args.at g.args.m g.args.heads.now (Bad 7) g.args.heads.now Unz c.in-Unz.is (λ u w. refl); heads_len = g.requires.segments_bound.1 }
+    let g = c in record { by_index = step-arm g.args.y.service g.args.s.now g.args.at g.args.m g.args.heads.now (Err 7) g.args.heads.now Unz c.in-Unz.is (λ u w. refl); heads_len = g.requires.segments_bound.1 }
 
 pub returns-in-Reserved : goal.returns-in-Reserved
 returns-in-Reserved c =
-    let g = c in record { by_index = step-arm g.args.y.service g.args.s.now g.args.at g.args.m g.args.heads.now (Bad 7) g.args.heads.now Reserved c.in-Reserved.is (λ u w. refl); heads_len = g.requires.segments_bound.1 }
+    let g = c in record { by_index = step-arm g.args.y.service g.args.s.now g.args.at g.args.m g.args.heads.now (Err 7) g.args.heads.now Reserved c.in-Reserved.is (λ u w. refl); heads_len = g.requires.segments_bound.1 }

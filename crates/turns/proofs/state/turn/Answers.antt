@@ -25,7 +25,7 @@ not-start _ a = refl
 
 pub on_busy-requires : goal.on_busy-requires
 on_busy-requires c =
-    let g = c in record { table = g.requires.table; ready = g.requires.ready; phase_value = (c.in-Busy.is, not-busy _ c.in_default-k.not-Unt); sought = g.requires.sought c.in-Busy.is }
+    let g = c in record { ready = g.requires.ready; phase_value = (c.in-Busy.is, not-busy _ c.in_default-k.not-Unt); sought = g.requires.sought c.in-Busy.is }
 
 pub returns-in_default : goal.returns-in_default
 returns-in_default c =

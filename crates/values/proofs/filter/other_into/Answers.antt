@@ -1,6 +1,5 @@
 use Rattle.syntax.specs.Content.{content}
 use Rattle.values.specs.FiltersLaws.{other-edc, other-early, other-six, other-late}
-use borrow.Author.Rules.{rules}
 use Rattle.values.proofs.filter.other_into.Goals as goal
 
 pub returns-then-content_is : goal.returns-then-content_is

@@ -1,6 +1,5 @@
 use Rattle.syntax.specs.Content.{content}
 use Rattle.values.specs.FiltersLaws.{value-empty, value-hex, value-other}
-use borrow.Author.Rules.{rules}
 use Rattle.values.proofs.filter.value_into.Goals as goal
 
 pub returns-then-is_over : goal.returns-then-is_over

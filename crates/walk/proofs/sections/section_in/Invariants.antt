@@ -16,14 +16,14 @@ use Rattle.walk.specs.Sectioning.{Sectioning, ahead, walks-so, going-so, short-s
 use Rattle.walk.proofs.sections.section_in.Given as goal
 
 abbrev pub invariant-loop-i : goal.invariant-loop-i
-invariant-loop-i l = (l.found ≡ l.n) × Seeking l.y.service.release l.s l.heads (compared (text_at l.y.service l.s l.at 1 0)) l.n l.i
+invariant-loop-i l = (l.found ≡ l.n) × Seeking l.t.syntax.service.release l.s l.heads (compared (text_at l.t.syntax.service l.s l.at 1 0)) l.n l.i
 
 abbrev pub decreases-loop-i : goal.decreases-loop-i
 decreases-loop-i l = l.n - l.i
 
 abbrev pub invariant-loop-at : goal.invariant-loop-at
 invariant-loop-at l =
-    Sectioning l.y l.s l.initial.st l.initial.heads l.initial.names l.initial.slots l.initial.at l.st l.heads l.names l.slots l.at l.x l.rows l.marks
+    Sectioning l.t.syntax l.s l.initial.st l.initial.heads l.initial.names l.initial.slots l.initial.at l.st l.heads l.names l.slots l.at l.x l.rows l.marks
 
 abbrev pub decreases-loop-at : goal.decreases-loop-at
 decreases-loop-at l = length l.s - l.at

@@ -1,16 +1,11 @@
-use mathlib.Core.Path.{refl}
-use Rattle.weaving.specs.AllowedLaws.{seal-ref, seal-filter, seal-full, seal-new, not-true}
-use borrow.Author.Rules.{rules}
+use Rattle.std.proofs.Common.{◌≡◌, ◌∙◌, not, ◌&&◌, ltb}
+use Rattle.weaving.specs.Seals.{ref_right, filter_right}
+use Rattle.weaving.specs.AllowedLaws.{seal-barred, seal-new}
 use Rattle.weaving.proofs.allowed.may_seal.Goals as goal
+use Rattle.weaving.proofs.allowed.may_seal.Goals.{then-is_reference, else-is_reference, then-is_filter, else-is_filter}
 
-pub returns-then-has_room : goal.returns-then-has_room
-returns-then-has_room c = record { by_index = λ m h. seal-new h c.args.reference.now c.args.filter c.is_reference.ensures.value c.if-is_reference.true c.is_filter.ensures c.if-is_filter.true c.has_room.ensures c.if-has_room.true (c.is_new.ensures m h); reference_len_bound = λ e. c.is_reference.ensures.reference_len_bound c.if-is_reference.true }
+pub returns-then-has_room-clause-by_index : goal.returns-then-has_room-clause-by_index
+returns-then-has_room-clause-by_index c = let a : c.if-is_reference.value ≡ (ref_right c.args.reference.now && filter_right c.args.x.now.classes.syntax.version c.args.filter) = elim c.if-is_reference.branch [ then-is_reference w ↦ w.value-is ∙ w.is_filter.ensures ∙ rw (← c.is_reference.ensures.value, w.if-is_reference.true) | else-is_reference w ↦ w.value-is ∙ w.if-is_reference.false ∙ rw (← c.is_reference.ensures.value, w.if-is_reference.false) ] in let b : c.if-is_filter.value ≡ (c.if-is_reference.value && (not c.args.x.now.layout.autack && ltb c.args.x.now.layout.headers 9)) = elim c.if-is_filter.branch [ then-is_filter w ↦ w.value-is ∙ w.has_room.ensures ∙ rw (w.if-is_filter.true) | else-is_filter w ↦ w.value-is ∙ rw (w.if-is_filter.false) ] in λ m h. seal-new h c.args.reference.now c.args.filter a b c.if-has_room.true (c.is_new.ensures m h)
 
-pub returns-else-has_room : goal.returns-else-has_room
-returns-else-has_room c = record { by_index = λ m h. seal-full h c.args.reference.now c.args.filter c.is_reference.ensures.value c.if-is_reference.true c.is_filter.ensures c.if-is_filter.true c.has_room.ensures c.if-has_room.false; reference_len_bound = not-true refl }
-
-pub returns-else-is_filter : goal.returns-else-is_filter
-returns-else-is_filter c = record { by_index = λ m h. seal-filter h c.args.reference.now c.args.filter c.is_reference.ensures.value c.if-is_reference.true c.is_filter.ensures c.if-is_filter.false; reference_len_bound = not-true refl }
-
-pub returns-else-is_reference : goal.returns-else-is_reference
-returns-else-is_reference c = record { by_index = λ m h. seal-ref h c.args.reference.now c.args.filter c.is_reference.ensures.value c.if-is_reference.false; reference_len_bound = not-true refl }
+pub returns-else-has_room-clause-by_index : goal.returns-else-has_room-clause-by_index
+returns-else-has_room-clause-by_index c = let a : c.if-is_reference.value ≡ (ref_right c.args.reference.now && filter_right c.args.x.now.classes.syntax.version c.args.filter) = elim c.if-is_reference.branch [ then-is_reference w ↦ w.value-is ∙ w.is_filter.ensures ∙ rw (← c.is_reference.ensures.value, w.if-is_reference.true) | else-is_reference w ↦ w.value-is ∙ w.if-is_reference.false ∙ rw (← c.is_reference.ensures.value, w.if-is_reference.false) ] in let b : c.if-is_filter.value ≡ (c.if-is_reference.value && (not c.args.x.now.layout.autack && ltb c.args.x.now.layout.headers 9)) = elim c.if-is_filter.branch [ then-is_filter w ↦ w.value-is ∙ w.has_room.ensures ∙ rw (w.if-is_filter.true) | else-is_filter w ↦ w.value-is ∙ rw (w.if-is_filter.false) ] in λ m h. seal-barred h c.args.reference.now c.args.filter a b c.if-has_room.false

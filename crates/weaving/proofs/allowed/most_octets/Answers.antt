@@ -8,5 +8,5 @@ returns-then-is_earlier c = search (most-early, rules)
 pub returns-then-filter-eq2 : goal.returns-then-filter-eq2
 returns-then-filter-eq2 c = search (most-hexed, rules)
 
-pub returns : goal.returns
-returns c = search (most-sixed, rules)
+pub returns-else-filter-eq2 : goal.returns-else-filter-eq2
+returns-else-filter-eq2 c = search (most-sixed, rules)

@@ -1,4 +1,3 @@
-use borrow.Author.Rules.{rules}
 use Rattle.weaving.specs.PiecesLaws.{close-early, close_late}
 use Rattle.weaving.proofs.pieces.put_close.Goals as goal
 

@@ -1,8 +1,7 @@
 use Rattle.weaving.specs.PiecesLaws.{header-pieces, header-most}
 use Rattle.weaving.specs.Woven.{header_pieces}
 use Rattle.writing.specs.LaidLaws.{weaving-start, weaving-put, weaving-end, laid_same}
-use mathlib.Core.Path.{◌≡◌, refl, sym, ap, ◌∙◌}
-use borrow.Author.Rules.{rules}
+use mathlib.Core.Path.{sym}
 use Rattle.weaving.proofs.pieces.put_header.Goals as goal
 
 pub returns : goal.returns

@@ -1,4 +1,3 @@
-use borrow.Author.Rules.{rules}
 use Rattle.weaving.specs.PiecesLaws.{usr-early, usr-late}
 use Rattle.weaving.proofs.pieces.put_usr.Goals as goal
 

@@ -1,4 +1,3 @@
-use native.Mathlib.Omega.{arith}
 use Rattle.weaving.specs.ValueLaws.{hex-short, six-short, text-hex, text-six}
 use borrow.Author.Rules.{rules}
 use Rattle.weaving.proofs.value.filter_text.Goals as goal

@@ -1,15 +1,12 @@
 use borrow.Author.Rules.{rules}
-use mathlib.Core.Path.{◌≡◌, refl}
-use lib.ListN.{length}
-use Prim.Native.Nat.{◌-◌}
-use Rattle.weaving.specs.ValueLaws.{Releasing, releasing-start, releasing-on, releasing-end, releasing-most}
+use Rattle.weaving.specs.ValueLaws.{releasing-start, releasing-on, releasing-end, releasing-most}
 use Rattle.weaving.proofs.value.put_released.Goals as goal
 
-pub loop-i-init : goal.loop-i-init
-loop-i-init c = (releasing-start, refl)
+pub loop-b-init : goal.loop-b-init
+loop-b-init c = releasing-start
 
-pub loop-i-preserved : goal.loop-i-preserved
-loop-i-preserved c = (search (releasing-on, rules), search rules)
+pub loop-b-preserved : goal.loop-b-preserved
+loop-b-preserved c = search (releasing-on, rules)
 
 pub returns : goal.returns
 returns c = record { laid = search (releasing-end, rules); upper_bound = search (releasing-most, rules) }

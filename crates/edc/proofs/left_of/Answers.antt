@@ -1,9 +1,0 @@
-use borrow.Author.Tests.{lt-ltb, le-ltb}
-use borrow.Author.Rules.{rules}
-use Rattle.edc.proofs.left_of.Goals as goal
-
-pub returns-then-c-m : goal.returns-then-c-m
-returns-then-c-m c = search (lt-ltb, le-ltb, rules)
-
-pub returns : goal.returns
-returns c = search (lt-ltb, le-ltb, rules)
