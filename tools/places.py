@@ -78,6 +78,8 @@ for path in sorted(glob.glob(TOP + "/crates/*/src/*.rt")):
             var = next((g for g in m.groups() if g), "")
             if re.search(r"\b%s [+-]= 1;" % re.escape(var), inner):
                 found["3 loops that count by hand"].append((at, name))
+        for m in re.finditer(r"\bwhile (?!let\b)|\bloop \{", body):
+            found["3 any while or loop"].append((at, name))
         # 4: predicates by match, conversions by `as`
         if re.search(r"match \w+ \{\s*(?:[^=]+=> (?:true|false),\s*){2,}\}\s*$", body) and "true" in body and "false" in body:
             found["4 a test of variants by hand"].append((at, name))
@@ -90,7 +92,7 @@ for path in sorted(glob.glob(TOP + "/crates/*/src/*.rt")):
             found["5 the class table and its syntax"].append((at, name))
         if {"names", "slots", "marks", "heads"} <= set(names):
             found["5 the tables of the walk"].append((at, name))
-        if {"s", "at", "y", "marks"} <= set(names):
+        if {"s", "at", "marks"} <= set(names):
             found["5 a segment and its marks"].append((at, name))
         if "c" in names and "rows" in names and "t" in names:
             found["5 what was found of a message"].append((at, name))

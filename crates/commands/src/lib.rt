@@ -97,27 +97,48 @@ impl<'l, 'r> Words<'l, 'r> {
         Ok(octets)
     }
 
-    // The number that the next word gives, of 1 to 15 digits. They take room too, so a line is bad where all that it gives is more than that.
-    pub fn number(&mut self) -> Result<u64, Bad>
+    // The next word, where it is a number of 1 to 15 digits. They take room too, so a line is bad where all that it gives is more than that.
+    fn digits(&mut self) -> Result<&'l [u8], Bad>
         ensures next { IsOk result → length self.old ≡ length self.new + 1 }
     {
         let word = self.word()?;
-        let number = digits_value(word, b' ').ok_or(Bad)?;
+        digits_value(word, b' ').ok_or(Bad)?;
         self.taken(word.len())?;
-        Ok(number)
+        Ok(word)
     }
 
-    // The length that the next word gives. More than there is, is as good as all of it.
+    // The number that the next word gives.
+    pub fn number(&mut self) -> Result<u64, Bad>
+        ensures next { IsOk result → length self.old ≡ length self.new + 1 }
+    {
+        let word = self.digits()?;
+        Ok(number_of(word))
+    }
+
+    // The length that the next word gives.
     pub fn capacity(&mut self, all: usize) -> Result<usize, Bad>
         ensures next { IsOk result → length self.old ≡ length self.new + 1 }
         ensures most { IfOk result (λ most. most ≤ all) }
     {
-        let number = self.number()?;
-        if number < all as u64 {
-            Ok(number as usize)
-        } else {
-            Ok(all)
-        }
+        let word = self.digits()?;
+        Ok(capacity(word, all))
+    }
+}
+
+// The number that the digits of a word give.
+pub fn number_of(w: &[u8]) -> u64 {
+    digits_value(w, b' ').unwrap_or(0)
+}
+
+// The length that the digits of a word give. More than there is, is as good as all of it.
+pub fn capacity(w: &[u8], all: usize) -> usize
+    ensures { result ≤ all }
+{
+    let number = number_of(w);
+    if number < all as u64 {
+        number as usize
+    } else {
+        all
     }
 }
 

@@ -190,42 +190,7 @@ pub fn fields(s: &[u8], at: usize, t: &Classes, marks: &mut [usize]) -> Option<(
     elements_from(s, at, from, ends, repeats, t, marks)
 }
 
-// What `fields` noted of the segment at `at`: the octets of component `c` of element `p`, empty if it is not there.
-// The marks lie in the input, so its bounds are not tested again.
-pub fn field<'a>(s: &'a [u8], at: usize, y: Syntax, marks: &[usize], p: usize, c: usize) -> &'a [u8]
-    requires marked { Marked y.service s.now at marks.now }
-    requires le_p { (1 ≤ p) × (p ≤ 5) × (c ≤ 2) }
-    ensures { result.now ≡ part_of s.now (component_at y.service s.now at p c) }
-{
-    let b = 8 * (p - 1);
-    if marks[b] <= c {
-        return &s[0..0];
-    }
-    let e = b + 2 + 2 * c;
-    let x = marks[e];
-    let z = marks[e + 1];
-    &s[x..z]
-}
-
-// How many components element `p` has, in its first repeat.
-pub fn parts(s: &[u8], at: usize, y: Syntax, marks: &[usize], p: usize) -> usize
-    requires marked { Marked y.service s.now at marks.now }
-    requires le_p { (1 ≤ p) × (p ≤ 5) }
-    ensures { result ≡ components (at_element p (pieces_at y.service s.now at)) }
-{
-    marks[8 * (p - 1)]
-}
-
-// Whether element `p` repeats.
-pub fn repeated(s: &[u8], at: usize, y: Syntax, marks: &[usize], p: usize) -> bool
-    requires marked { Marked y.service s.now at marks.now }
-    requires le_p { (1 ≤ p) × (p ≤ 5) }
-    ensures { result ≡ repeats (at_element p (pieces_at y.service s.now at)) }
-{
-    marks[8 * (p - 1) + 1] == 1
-}
-
-// Where that component starts and ends; 0 and 0 if it is not there.
+// Where component `c` of element `p` starts and ends, as `fields` noted it; 0 and 0 if it is not there.
 pub fn field_start(marks: &[usize], p: usize, c: usize) -> usize
     requires { (length marks.now ≡ 40) × (1 ≤ p) × (p ≤ 5) × (c ≤ 2) }
     ensures { result ≡ start_in marks.now p c }

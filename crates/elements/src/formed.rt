@@ -15,7 +15,8 @@ ghost use Rattle.elements.specs.Formed.{control_of, looked};
 
 use crate::Kind;
 use crate::amounts::{amount_in, unit_in};
-use crate::fields::{Shape, field, parts, repeated};
+use crate::fields::Shape;
+use crate::segment::Segment;
 use syntax::content::{content_is, content_length, is_blank, next_octet};
 use syntax::opening::is_earlier;
 use syntax::{Syntax, Version};
@@ -131,205 +132,104 @@ fn digits_within(x: &[u8], release: u8, least: usize, most: usize) -> bool
 }
 
 // A component's length is within bounds.
-fn text(
-    s: &[u8],
-    at: usize,
-    y: Syntax,
-    marks: &[usize],
-    p: usize,
-    c: usize,
-    least: usize,
-    most: usize,
-) -> bool
-    requires marked { Marked y.service s.now at marks.now }
+fn text(g: &Segment, p: usize, c: usize, least: usize, most: usize) -> bool
     requires le_p { (1 ≤ p) × (p ≤ 5) × (c ≤ 2) }
-    ensures { result ≡ within least most (length (text_at y.service s.now at p c)) }
+    ensures { result ≡ within least most (length (text_at g.now.syntax.service g.now.octets.now g.now.at p c)) }
 {
-    let v = y.service;
-    sized(field(s, at, y, marks, p, c), v.release, least, most)
+    let v = g.syntax.service;
+    sized(g.field(p, c), v.release, least, most)
 }
 
 // A component is not empty.
-fn there(s: &[u8], at: usize, y: Syntax, marks: &[usize], p: usize, c: usize) -> bool
-    requires marked { Marked y.service s.now at marks.now }
+fn there(g: &Segment, p: usize, c: usize) -> bool
     requires le_p { (1 ≤ p) × (p ≤ 5) × (c ≤ 2) }
-    ensures { result ≡ in_range checked.not_empty (text_at y.service s.now at p c) }
+    ensures { result ≡ in_range checked.not_empty (text_at g.now.syntax.service g.now.octets.now g.now.at p c) }
 {
-    let v = y.service;
-    not_empty(field(s, at, y, marks, p, c), v.release)
+    let v = g.syntax.service;
+    not_empty(g.field(p, c), v.release)
 }
 
 // A component is digits, and so many.
-pub fn digits(
-    s: &[u8],
-    at: usize,
-    y: Syntax,
-    marks: &[usize],
-    p: usize,
-    c: usize,
-    least: usize,
-    most: usize,
-) -> bool
-    requires marked { Marked y.service s.now at marks.now }
+pub fn digits(g: &Segment, p: usize, c: usize, least: usize, most: usize) -> bool
     requires le_p { (1 ≤ p) × (p ≤ 5) × (c ≤ 2) }
-    ensures { result ≡ in_range (checked.digits least most) (text_at y.service s.now at p c) }
+    ensures { result ≡ in_range (checked.digits least most) (text_at g.now.syntax.service g.now.octets.now g.now.at p c) }
 {
-    let v = y.service;
-    digits_within(field(s, at, y, marks, p, c), v.release, least, most)
+    let v = g.syntax.service;
+    digits_within(g.field(p, c), v.release, least, most)
 }
 
 // An element whose first component has a length; further ones may follow.
-fn composite(
-    s: &[u8],
-    at: usize,
-    y: Syntax,
-    marks: &[usize],
-    p: usize,
-    least: usize,
-    most: usize,
-) -> bool
-    requires marked { Marked y.service s.now at marks.now }
+fn composite(g: &Segment, p: usize, least: usize, most: usize) -> bool
     requires le_p { (1 ≤ p) × (p ≤ 5) }
-    ensures { result ≡ formed_as (checked.composite (checked.any_text least most ∷ [])) (asked_at y.service s.now at) p }
+    ensures { result ≡ formed_as (checked.composite (checked.any_text least most ∷ [])) (asked_at g.now.syntax.service g.now.octets.now g.now.at) p }
 {
-    if repeated(s, at, y, marks, p) {
-        return false;
-    }
-    text(s, at, y, marks, p, 0, least, most)
+    !g.repeated(p) && text(g, p, 0, least, most)
 }
 
 // An element of one component of a length.
-fn single(
-    s: &[u8],
-    at: usize,
-    y: Syntax,
-    marks: &[usize],
-    p: usize,
-    least: usize,
-    most: usize,
-) -> bool
-    requires marked { Marked y.service s.now at marks.now }
+fn single(g: &Segment, p: usize, least: usize, most: usize) -> bool
     requires le_p { (1 ≤ p) × (p ≤ 5) }
-    ensures { result ≡ formed_as (checked.simple (checked.any_text least most ∷ [])) (asked_at y.service s.now at) p }
+    ensures { result ≡ formed_as (checked.simple (checked.any_text least most ∷ [])) (asked_at g.now.syntax.service g.now.octets.now g.now.at) p }
 {
-    if composite(s, at, y, marks, p, least, most) {
-        return parts(s, at, y, marks, p) <= 1;
-    }
-    false
+    composite(g, p, least, most) && g.parts(p) <= 1
 }
 
 // An element of one component, a reference whose length is not printed.
-fn single_there(s: &[u8], at: usize, y: Syntax, marks: &[usize], p: usize) -> bool
-    requires marked { Marked y.service s.now at marks.now }
+fn single_there(g: &Segment, p: usize) -> bool
     requires le_p { (1 ≤ p) × (p ≤ 5) }
-    ensures { result ≡ formed_as (checked.simple (checked.not_empty_reference ∷ [])) (asked_at y.service s.now at) p }
+    ensures { result ≡ formed_as (checked.simple (checked.not_empty_reference ∷ [])) (asked_at g.now.syntax.service g.now.octets.now g.now.at) p }
 {
-    if repeated(s, at, y, marks, p) {
-        return false;
-    }
-    if 1 < parts(s, at, y, marks, p) {
-        return false;
-    }
-    let v = y.service;
-    reference_there(field(s, at, y, marks, p, 0), v.release)
+    !g.repeated(p) && g.parts(p) <= 1 && reference_there(g.field(p, 0), g.syntax.service.release)
 }
 
 // An element of one component that is a reference.
-fn single_reference(
-    s: &[u8],
-    at: usize,
-    y: Syntax,
-    marks: &[usize],
-    p: usize,
-    least: usize,
-    most: usize,
-) -> bool
-    requires marked { Marked y.service s.now at marks.now }
+fn single_reference(g: &Segment, p: usize, least: usize, most: usize) -> bool
     requires le_p { (1 ≤ p) × (p ≤ 5) }
-    ensures { result ≡ formed_as (checked.simple (checked.reference least most ∷ [])) (asked_at y.service s.now at) p }
+    ensures { result ≡ formed_as (checked.simple (checked.reference least most ∷ [])) (asked_at g.now.syntax.service g.now.octets.now g.now.at) p }
 {
-    if repeated(s, at, y, marks, p) {
-        return false;
-    }
-    if 1 < parts(s, at, y, marks, p) {
-        return false;
-    }
-    let v = y.service;
-    reference_within(field(s, at, y, marks, p, 0), v.release, least, most)
+    !g.repeated(p)
+        && g.parts(p) <= 1
+        && reference_within(g.field(p, 0), g.syntax.service.release, least, most)
 }
 
-fn single_digits(
-    s: &[u8],
-    at: usize,
-    y: Syntax,
-    marks: &[usize],
-    p: usize,
-    least: usize,
-    most: usize,
-) -> bool
-    requires marked { Marked y.service s.now at marks.now }
+fn single_digits(g: &Segment, p: usize, least: usize, most: usize) -> bool
     requires le_p { (1 ≤ p) × (p ≤ 5) }
-    ensures { result ≡ formed_as (checked.simple (checked.digits least most ∷ [])) (asked_at y.service s.now at) p }
+    ensures { result ≡ formed_as (checked.simple (checked.digits least most ∷ [])) (asked_at g.now.syntax.service g.now.octets.now g.now.at) p }
 {
-    if repeated(s, at, y, marks, p) {
-        return false;
-    }
-    if 1 < parts(s, at, y, marks, p) {
-        return false;
-    }
-    digits(s, at, y, marks, p, 0, least, most)
+    !g.repeated(p) && g.parts(p) <= 1 && digits(g, p, 0, least, most)
 }
 
 // 0563 1..3 : 0560 0..512
-fn qualified_formed(s: &[u8], at: usize, y: Syntax, marks: &[usize], p: usize) -> bool
-    requires marked { Marked y.service s.now at marks.now }
+fn qualified_formed(g: &Segment, p: usize) -> bool
     requires le_p { (1 ≤ p) × (p ≤ 5) }
-    ensures { result ≡ formed_as (checked.composite (checked.any_text 1 3 ∷ checked.any_text 0 512 ∷ [])) (asked_at y.service s.now at) p }
+    ensures { result ≡ formed_as (checked.composite (checked.any_text 1 3 ∷ checked.any_text 0 512 ∷ [])) (asked_at g.now.syntax.service g.now.octets.now g.now.at) p }
 {
-    if composite(s, at, y, marks, p, 1, 3) {
-        return text(s, at, y, marks, p, 1, 0, 512);
-    }
-    false
+    composite(g, p, 1, 3) && text(g, p, 1, 0, 512)
 }
 
 // S508: in the earlier edition it begins with 0560, 0 to 256.
-fn value_formed(s: &[u8], at: usize, y: Syntax, marks: &[usize], p: usize) -> bool
-    requires marked { Marked y.service s.now at marks.now }
+fn value_formed(g: &Segment, p: usize) -> bool
     requires le_p { (1 ≤ p) × (p ≤ 5) }
-    ensures { result ≡ formed_as (value_row y.version) (asked_at y.service s.now at) p }
+    ensures { result ≡ formed_as (value_row g.now.syntax.version) (asked_at g.now.syntax.service g.now.octets.now g.now.at) p }
 {
-    let v = y.version;
+    let v = g.syntax.version;
     if is_earlier(v) {
-        return composite(s, at, y, marks, p, 0, 256);
+        return composite(g, p, 0, 256);
     }
-    qualified_formed(s, at, y, marks, p)
+    qualified_formed(g, p)
 }
 
 // 0001 : 0002, of which no length is printed.
-fn syntax_formed(s: &[u8], at: usize, y: Syntax, marks: &[usize]) -> bool
-    requires { Marked y.service s.now at marks.now }
-    ensures { result ≡ formed_as (checked.composite (checked.not_empty ∷ checked.not_empty ∷ [])) (asked_at y.service s.now at) 1 }
+fn syntax_formed(g: &Segment) -> bool
+    ensures { result ≡ formed_as (checked.composite (checked.not_empty ∷ checked.not_empty ∷ [])) (asked_at g.now.syntax.service g.now.octets.now g.now.at) 1 }
 {
-    if repeated(s, at, y, marks, 1) {
-        return false;
-    }
-    if there(s, at, y, marks, 1, 0) {
-        return there(s, at, y, marks, 1, 1);
-    }
-    false
+    !g.repeated(1) && there(g, 1, 0) && there(g, 1, 1)
 }
 
-fn date_formed(s: &[u8], at: usize, y: Syntax, marks: &[usize], n: usize) -> bool
-    requires { Marked y.service s.now at marks.now }
-    ensures { result ≡ formed_as (checked.composite (checked.digits n n ∷ checked.digits 4 4 ∷ [])) (asked_at y.service s.now at) 4 }
+fn date_formed(g: &Segment, n: usize) -> bool
+    ensures { result ≡ formed_as (checked.composite (checked.digits n n ∷ checked.digits 4 4 ∷ [])) (asked_at g.now.syntax.service g.now.octets.now g.now.at) 4 }
 {
-    if repeated(s, at, y, marks, 4) {
-        return false;
-    }
-    if digits(s, at, y, marks, 4, 0, n, n) {
-        return digits(s, at, y, marks, 4, 1, 4, 4);
-    }
-    false
+    !g.repeated(4) && digits(g, 4, 0, n, n) && digits(g, 4, 1, 4, 4)
 }
 
 fn date_digits(v: Version) -> usize
@@ -343,107 +243,70 @@ fn date_digits(v: Version) -> usize
 }
 
 // UNB. This and the next two are for callers that know the kind, so that it is not asked again.
-pub fn unb_formed(s: &[u8], at: usize, y: Syntax, marks: &[usize]) -> bool
-    requires { Marked y.service s.now at marks.now }
-    ensures { result ≡ formed_row (row y.version named.Unb) (asked_at y.service s.now at) 1 }
+pub fn unb_formed(g: &Segment) -> bool
+    ensures { result ≡ formed_row (row g.now.syntax.version named.Unb) (asked_at g.now.syntax.service g.now.octets.now g.now.at) 1 }
 {
-    if !syntax_formed(s, at, y, marks) {
-        return false;
-    }
-    if !composite(s, at, y, marks, 2, 1, 35) {
-        return false;
-    }
-    if !composite(s, at, y, marks, 3, 1, 35) {
-        return false;
-    }
-    let v = y.version;
-    if !date_formed(s, at, y, marks, date_digits(v)) {
-        return false;
-    }
-    single_reference(s, at, y, marks, 5, 1, 14)
+    syntax_formed(g)
+        && composite(g, 2, 1, 35)
+        && composite(g, 3, 1, 35)
+        && date_formed(g, date_digits(g.syntax.version))
+        && single_reference(g, 5, 1, 14)
 }
 
 // UNH
-pub fn unh_formed(s: &[u8], at: usize, y: Syntax, marks: &[usize]) -> bool
-    requires { Marked y.service s.now at marks.now }
-    ensures { result ≡ formed_row (row y.version named.Unh) (asked_at y.service s.now at) 1 }
+pub fn unh_formed(g: &Segment) -> bool
+    ensures { result ≡ formed_row (row g.now.syntax.version named.Unh) (asked_at g.now.syntax.service g.now.octets.now g.now.at) 1 }
 {
-    if single_reference(s, at, y, marks, 1, 1, 14) {
-        return composite(s, at, y, marks, 2, 1, 6);
-    }
-    false
+    single_reference(g, 1, 1, 14) && composite(g, 2, 1, 6)
 }
 
 // UNT and UNZ: a count, and a reference.
-pub fn end_formed(s: &[u8], at: usize, y: Syntax, marks: &[usize]) -> bool
-    requires { Marked y.service s.now at marks.now }
-    ensures { result ≡ formed_row (row y.version named.Unt) (asked_at y.service s.now at) 1 }
+pub fn end_formed(g: &Segment) -> bool
+    ensures { result ≡ formed_row (row g.now.syntax.version named.Unt) (asked_at g.now.syntax.service g.now.octets.now g.now.at) 1 }
 {
-    if single_digits(s, at, y, marks, 1, 1, 6) {
-        return single_there(s, at, y, marks, 2);
-    }
-    false
+    single_digits(g, 1, 1, 6) && single_there(g, 2)
 }
 
-fn ush_formed(s: &[u8], at: usize, y: Syntax, marks: &[usize]) -> bool
-    requires { Marked y.service s.now at marks.now }
-    ensures { result ≡ formed_row (row y.version named.Ush) (asked_at y.service s.now at) 1 }
+fn ush_formed(g: &Segment) -> bool
+    ensures { result ≡ formed_row (row g.now.syntax.version named.Ush) (asked_at g.now.syntax.service g.now.octets.now g.now.at) 1 }
 {
-    if !single(s, at, y, marks, 1, 1, 3) {
-        return false;
-    }
-    if !single_reference(s, at, y, marks, 2, 1, 14) {
-        return false;
-    }
-    if !single(s, at, y, marks, 3, 1, 3) {
-        return false;
-    }
-    if !single(s, at, y, marks, 4, 0, 3) {
-        return false;
-    }
-    single(s, at, y, marks, 5, 0, 3)
+    single(g, 1, 1, 3)
+        && single_reference(g, 2, 1, 14)
+        && single(g, 3, 1, 3)
+        && single(g, 4, 0, 3)
+        && single(g, 5, 0, 3)
 }
 
 // 0588, which the earlier edition doesn't have.
-fn claim_formed(s: &[u8], at: usize, y: Syntax, marks: &[usize]) -> bool
-    requires { Marked y.service s.now at marks.now }
-    ensures { result ≡ formed_row (claim_row y.version) (asked_at y.service s.now at) 2 }
+fn claim_formed(g: &Segment) -> bool
+    ensures { result ≡ formed_row (claim_row g.now.syntax.version) (asked_at g.now.syntax.service g.now.octets.now g.now.at) 2 }
 {
-    let edition = y.version;
+    let edition = g.syntax.version;
     if is_earlier(edition) {
         return true;
     }
-    single_digits(s, at, y, marks, 2, 1, 6)
+    single_digits(g, 2, 1, 6)
 }
 
-fn ust_formed(s: &[u8], at: usize, y: Syntax, marks: &[usize]) -> bool
-    requires { Marked y.service s.now at marks.now }
-    ensures { result ≡ formed_row (row y.version named.Ust) (asked_at y.service s.now at) 1 }
+fn ust_formed(g: &Segment) -> bool
+    ensures { result ≡ formed_row (row g.now.syntax.version named.Ust) (asked_at g.now.syntax.service g.now.octets.now g.now.at) 1 }
 {
-    if single_reference(s, at, y, marks, 1, 1, 14) {
-        return claim_formed(s, at, y, marks);
-    }
-    false
+    single_reference(g, 1, 1, 14) && claim_formed(g)
 }
 
-fn usy_formed(s: &[u8], at: usize, y: Syntax, marks: &[usize]) -> bool
-    requires { Marked y.service s.now at marks.now }
-    ensures { result ≡ formed_row (row y.version named.Usy) (asked_at y.service s.now at) 1 }
+fn usy_formed(g: &Segment) -> bool
+    ensures { result ≡ formed_row (row g.now.syntax.version named.Usy) (asked_at g.now.syntax.service g.now.octets.now g.now.at) 1 }
 {
-    if single_reference(s, at, y, marks, 1, 1, 14) {
-        return value_formed(s, at, y, marks, 2);
-    }
-    false
+    single_reference(g, 1, 1, 14) && value_formed(g, 2)
 }
 
 // The amount of a CNT: a unit in its third component, and digits as the unit asks in its second.
-fn control_formed(s: &[u8], at: usize, y: Syntax, marks: &[usize]) -> bool
-    requires { Marked y.service s.now at marks.now }
-    ensures { result ≡ control_by (control_unit (text_at y.service s.now at 1 2)) (text_at y.service s.now at 1 1) }
+fn control_formed(g: &Segment) -> bool
+    ensures { result ≡ control_by (control_unit (text_at g.now.syntax.service g.now.octets.now g.now.at 1 2)) (text_at g.now.syntax.service g.now.octets.now g.now.at 1 1) }
 {
-    let v = y.service;
-    match unit_in(field(s, at, y, marks, 1, 2), v.release, 12, 9) {
-        Some(u) => match amount_in(field(s, at, y, marks, 1, 1), v.release, u) {
+    let v = g.syntax.service;
+    match unit_in(g.field(1, 2), v.release, 12, 9) {
+        Some(u) => match amount_in(g.field(1, 1), v.release, u) {
             Some((_, _)) => true,
             None => false,
         },
@@ -452,24 +315,51 @@ fn control_formed(s: &[u8], at: usize, y: Syntax, marks: &[usize]) -> bool
 }
 
 // CNT: where its qualifier is 1, one element of three components, a unit and an amount.
-fn cnt_formed(s: &[u8], at: usize, y: Syntax, marks: &[usize], f: Shape) -> bool
-    requires { Fields y.service s.now at f.size f.repeats marks.now }
-    ensures { result ≡ not (any_repeats (pieces_at y.service s.now at)) && control_of (asked_at y.service s.now at) }
+fn cnt_formed(g: &Segment, f: Shape) -> bool
+    requires { Fields g.now.syntax.service g.now.octets.now g.now.at f.size f.repeats g.now.marks.now }
+    ensures { result ≡ not (any_repeats (pieces_at g.now.syntax.service g.now.octets.now g.now.at)) && control_of (asked_at g.now.syntax.service g.now.octets.now g.now.at) }
 {
-    let v = y.service;
+    let v = g.syntax.service;
     if f.repeats {
         return false;
     }
-    if !content_is(field(s, at, y, marks, 1, 0), v.release, b"1") {
+    if !content_is(g.field(1, 0), v.release, b"1") {
         return true;
     }
     if f.size != 1 {
         return false;
     }
-    if parts(s, at, y, marks, 1) != 3 {
+    if g.parts(1) != 3 {
         return false;
     }
-    control_formed(s, at, y, marks)
+    control_formed(g)
+}
+
+// The checked elements of a segment whose fields are noted.
+fn noted_formed(g: &Segment, f: Shape, k: Kind) -> bool
+    requires fields { Fields g.now.syntax.service g.now.octets.now g.now.at f.size f.repeats g.now.marks.now }
+    requires k_value { k ≡ tag_kind (slice g.now.at (g.now.at + 3) g.now.octets.now) }
+    requires looked { looked k ≡ true }
+    ensures { result ≡ formed g.now.syntax.version (asked_at g.now.syntax.service g.now.octets.now g.now.at) }
+{
+    match k {
+        Kind::Unb => unb_formed(g),
+        Kind::Unh => unh_formed(g),
+        Kind::Unt => end_formed(g),
+        Kind::Unz => end_formed(g),
+        Kind::Ush => ush_formed(g),
+        Kind::Usa => true,
+        Kind::Usc => true,
+        Kind::Usr => value_formed(g, 1),
+        Kind::Ust => ust_formed(g),
+        Kind::Usb => single(g, 1, 1, 3),
+        Kind::Usx => single_reference(g, 1, 1, 14),
+        Kind::Usy => usy_formed(g),
+        Kind::Reserved => true,
+        Kind::Qty => !f.repeats,
+        Kind::Cnt => cnt_formed(g, f),
+        Kind::Other => true,
+    }
 }
 
 // Whether the checked elements of a segment of kind `k` are there and well formed. Of a kind that is not looked into the fields need not be noted.
@@ -479,21 +369,18 @@ pub fn is_formed(s: &[u8], at: usize, y: Syntax, marks: &[usize], f: Shape, k: K
     ensures { result ≡ formed y.version (asked_at y.service s.now at) }
 {
     match k {
-        Kind::Unb => unb_formed(s, at, y, marks),
-        Kind::Unh => unh_formed(s, at, y, marks),
-        Kind::Unt => end_formed(s, at, y, marks),
-        Kind::Unz => end_formed(s, at, y, marks),
-        Kind::Ush => ush_formed(s, at, y, marks),
         Kind::Usa => true,
         Kind::Usc => true,
-        Kind::Usr => value_formed(s, at, y, marks, 1),
-        Kind::Ust => ust_formed(s, at, y, marks),
-        Kind::Usb => single(s, at, y, marks, 1, 1, 3),
-        Kind::Usx => single_reference(s, at, y, marks, 1, 1, 14),
-        Kind::Usy => usy_formed(s, at, y, marks),
         Kind::Reserved => true,
-        Kind::Qty => !f.repeats,
-        Kind::Cnt => cnt_formed(s, at, y, marks, f),
         Kind::Other => true,
+        _ => {
+            let g = Segment {
+                octets: s,
+                at,
+                syntax: y,
+                marks,
+            };
+            noted_formed(&g, f, k)
+        }
     }
 }

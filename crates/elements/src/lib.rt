@@ -4,6 +4,7 @@
 pub mod amounts;
 pub mod fields;
 pub mod formed;
+pub mod segment;
 pub mod subset;
 
 ghost use Rattle.std.specs.Prelude.{◌≡◌, [], ◌∷◌};

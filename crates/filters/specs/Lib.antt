@@ -11,6 +11,7 @@ pub mod HexLaws
 pub mod SixLaws
 pub mod PiecesLaws
 pub mod DecodingLaws
+pub mod OddLaws
 pub mod HexLoopLaws
 pub mod SixLoopLaws
 pub mod TextLoopLaws

@@ -12,8 +12,8 @@ ghost use Rattle.message.specs.Items.{grown_with};
 use crate::kept::{no_sums, with_control, with_load};
 use crate::{Group, Message, Sums};
 use elements::amounts::{amount_in, unit_in};
-use elements::fields::{Shape, field, parts};
-use syntax::Syntax;
+use elements::fields::Shape;
+use elements::segment::Segment;
 use syntax::content::content_is;
 
 // One segment more in the group `g`, with these sums.
@@ -21,7 +21,6 @@ fn with_sums(m: Message, g: Group, u: Sums) -> Result<Message, u8>
     requires { m.segments < 65535 }
     ensures { result ≡ Ok (grown_with m g u) }
 {
-    let autack = m.autack;
     Ok(Message {
         group: g,
         segments: m.segments + 1,
@@ -31,30 +30,23 @@ fn with_sums(m: Message, g: Group, u: Sums) -> Result<Message, u8>
 }
 
 // QTY: a load, if its one element has three components and the third is a unit; its amount (12).
-pub fn on_qty(
-    s: &[u8],
-    at: usize,
-    y: Syntax,
-    m: Message,
-    f: Shape,
-    marks: &[usize],
-) -> Result<Message, u8>
-    requires fields { Fields y.service s.now at f.size f.repeats marks.now }
-    requires at_value { tag_kind (asked_at y.service s.now at).tag ≡ Qty }
+pub fn on_qty(g: &Segment, m: Message, f: Shape) -> Result<Message, u8>
+    requires fields { Fields g.now.syntax.service g.now.octets.now g.now.at f.size f.repeats g.now.marks.now }
+    requires at_value { tag_kind (asked_at g.now.syntax.service g.now.octets.now g.now.at).tag ≡ Qty }
     requires segments_bound { (m.segments < 65535) × (m.sums.loads ≤ m.segments) × (m.sums.grams ≤ m.segments * 1000000000000) × (m.sums.back ≤ m.segments * 1000000000000) }
     ensures { (u w : ℕ) (h : List ℕ) → Roomy m h →
-        MovedIs (qty_m (summary_in y.service.release s.now m u w h) (asked_at y.service s.now at)) result y.service.release s.now u w h }
+        MovedIs (qty_m (summary_in g.now.syntax.service.release g.now.octets.now m u w h) (asked_at g.now.syntax.service g.now.octets.now g.now.at)) result g.now.syntax.service.release g.now.octets.now u w h }
 {
-    let v = y.service;
+    let v = g.syntax.service;
     let k = m.sums;
     if f.size != 1 {
         return with_sums(m, Group::Body, k);
     }
-    if parts(s, at, y, marks, 1) != 3 {
+    if g.parts(1) != 3 {
         return with_sums(m, Group::Body, k);
     }
-    match unit_in(field(s, at, y, marks, 1, 2), v.release, 9, 6) {
-        Some(u) => match amount_in(field(s, at, y, marks, 1, 1), v.release, u) {
+    match unit_in(g.field(1, 2), v.release, 9, 6) {
+        Some(u) => match amount_in(g.field(1, 1), v.release, u) {
             Some((w, below)) => with_sums(m, Group::Body, with_load(k, w, below)),
             None => Err(12),
         },
@@ -63,20 +55,19 @@ pub fn on_qty(
 }
 
 // CNT: with qualifier 1 a control total, which is well formed (8).
-pub fn on_cnt(s: &[u8], at: usize, y: Syntax, m: Message, marks: &[usize]) -> Result<Message, u8>
-    requires marked { Marked y.service s.now at marks.now }
-    requires at_value { (tag_kind (asked_at y.service s.now at).tag ≡ Cnt) × (control_right (asked_at y.service s.now at) ≡ true) }
+pub fn on_cnt(g: &Segment, m: Message) -> Result<Message, u8>
+    requires at_value { (tag_kind (asked_at g.now.syntax.service g.now.octets.now g.now.at).tag ≡ Cnt) × (control_right (asked_at g.now.syntax.service g.now.octets.now g.now.at) ≡ true) }
     requires segments_bound { m.segments < 65535 }
     ensures { (u w : ℕ) (h : List ℕ) → Roomy m h →
-        MovedIs (to_m (item_next (summary_in y.service.release s.now m u w h) (controlled m.sums (control_in (asked_at y.service s.now at))))) result y.service.release s.now u w h }
+        MovedIs (to_m (item_next (summary_in g.now.syntax.service.release g.now.octets.now m u w h) (controlled m.sums (control_in (asked_at g.now.syntax.service g.now.octets.now g.now.at))))) result g.now.syntax.service.release g.now.octets.now u w h }
 {
-    let v = y.service;
+    let v = g.syntax.service;
     let k = m.sums;
-    if !content_is(field(s, at, y, marks, 1, 0), v.release, b"1") {
+    if !content_is(g.field(1, 0), v.release, b"1") {
         return with_sums(m, Group::Body, k);
     }
-    match unit_in(field(s, at, y, marks, 1, 2), v.release, 12, 9) {
-        Some(u) => match amount_in(field(s, at, y, marks, 1, 1), v.release, u) {
+    match unit_in(g.field(1, 2), v.release, 12, 9) {
+        Some(u) => match amount_in(g.field(1, 1), v.release, u) {
             Some((w, below)) => with_sums(m, Group::Body, with_control(k, w, below)),
             None => with_sums(m, Group::Body, k),
         },

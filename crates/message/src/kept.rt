@@ -84,7 +84,6 @@ pub fn grown_to(m: Message, g: Group) -> Message
     requires { m.segments < 65535 }
     ensures { result ≡ grown m g }
 {
-    let autack = m.autack;
     Message {
         group: g,
         segments: m.segments + 1,

@@ -12,23 +12,22 @@ ghost use Rattle.message.specs.Steps.{to_m, ush_m, ust_m, usy_m, headed, trailed
 use crate::heads::{grow_last, header_named, name_header, push_header};
 use crate::kept::{grown_to, pairs_right};
 use crate::{Group, Message, Pair};
-use elements::fields::{field, field_end, field_start};
+use elements::fields::{field_end, field_start};
 use elements::formed::digits;
+use elements::segment::Segment;
 use grammar::Subset;
-use syntax::Syntax;
 use syntax::content::{content_is, digits_value};
 
 // 0541 is 1 or 2; in AUTACK it is F01, or 3 in the subset of GS1.
-fn scope_right(s: &[u8], at: usize, y: Syntax, marks: &[usize], autack: Option<Subset>) -> bool
-    requires { Marked y.service s.now at marks.now }
-    ensures { result ≡ scope_code autack (text_at y.service s.now at 3 0) }
+fn scope_right(g: &Segment, autack: Option<Subset>) -> bool
+    ensures { result ≡ scope_code autack (text_at g.now.syntax.service g.now.octets.now g.now.at 3 0) }
 {
-    let v = y.service;
-    let x = field(s, at, y, marks, 3, 0);
+    let v = g.syntax.service;
+    let x = g.field(3, 0);
     match autack {
         Some(Subset::F01) => content_is(x, v.release, b"F01"),
         Some(Subset::Gs1) => content_is(x, v.release, b"3"),
-        None => { content_is(x, v.release, b"1") || content_is(x, v.release, b"2") }
+        None => content_is(x, v.release, b"1") || content_is(x, v.release, b"2"),
     }
 }
 
@@ -37,7 +36,6 @@ fn with_header(m: Message) -> Message
     requires { (m.headers < 9) × (m.segments < 65535) }
     ensures { result ≡ headed m }
 {
-    let autack = m.autack;
     Message {
         group: Group::Header(0),
         segments: m.segments + 1,
@@ -47,32 +45,24 @@ fn with_header(m: Message) -> Message
 }
 
 // A USH: 0534 once in a message, then its scope; a header more.
-pub fn on_ush(
-    s: &[u8],
-    at: usize,
-    y: Syntax,
-    m: Message,
-    marks: &[usize],
-    heads: &mut [usize; 36],
-) -> Result<Message, u8>
-    requires marked { Marked y.service s.now at marks.now }
+pub fn on_ush(g: &Segment, m: Message, heads: &mut [usize; 36]) -> Result<Message, u8>
     requires roomy { Roomy m heads.old }
     requires headers_bound { (m.headers < 9) × (m.segments < 65535) × (length heads.old ≡ 36) }
-    ensures by_index { (u w : ℕ) → MovedIs (ush_m (summary_in y.service.release s.now m u w heads.old) (asked_at y.service s.now at)) result y.service.release s.now u w heads.new }
+    ensures by_index { (u w : ℕ) → MovedIs (ush_m (summary_in g.now.syntax.service.release g.now.octets.now m u w heads.old) (asked_at g.now.syntax.service g.now.octets.now g.now.at)) result g.now.syntax.service.release g.now.octets.now u w heads.new }
     ensures heads_len { length heads.new ≡ 36 }
 {
-    let v = y.service;
+    let v = g.syntax.service;
     let n = m.headers as usize;
-    let x = field(s, at, y, marks, 2, 0);
-    if header_named(s, v.release, heads, n, x) {
+    let x = g.field(2, 0);
+    if header_named(g.octets, v.release, heads, n, x) {
         return Err(9);
     }
     let autack = m.autack;
-    if !scope_right(s, at, y, marks, autack) {
+    if !scope_right(g, autack) {
         return Err(11);
     }
-    let b = field_start(marks, 2, 0);
-    let e = field_end(marks, 2, 0);
+    let b = field_start(g.marks, 2, 0);
+    let e = field_end(g.marks, 2, 0);
     push_header(heads, n, b, e);
     Ok(with_header(m))
 }
@@ -94,16 +84,13 @@ fn in_trailer(m: Message) -> Message
     requires { (m.segments < 65535) × (m.pair.own < 65535) }
     ensures { result ≡ own_grown m }
 {
-    let autack = m.autack;
     let p = m.pair;
     Message {
         group: Group::Trailer(true),
         segments: m.segments + 1,
         pair: Pair {
-            right: p.right,
-            claim: p.claim,
-            base: p.base,
             own: p.own + 1,
+            ..p
         },
         ..m
     }
@@ -128,25 +115,23 @@ pub fn on_usr(m: Message, heads: &mut [usize; 36]) -> Result<Message, u8>
 }
 
 // The number that an element's digits give.
-pub fn number_in(s: &[u8], at: usize, y: Syntax, marks: &[usize], p: usize) -> u64
-    requires marked { Marked y.service s.now at marks.now }
-    requires le_p { (1 ≤ p) × (p ≤ 5) × (in_range (digits 1 6) (text_at y.service s.now at p 0) ≡ true) }
-    ensures { (result ≡ value_from 0 (text_at y.service s.now at p 0)) × (result < 1000000) }
+pub fn number_in(g: &Segment, p: usize) -> u64
+    requires le_p { (1 ≤ p) × (p ≤ 5) × (in_range (digits 1 6) (text_at g.now.syntax.service g.now.octets.now g.now.at p 0) ≡ true) }
+    ensures { (result ≡ value_from 0 (text_at g.now.syntax.service g.now.octets.now g.now.at p 0)) × (result < 1000000) }
 {
-    let v = y.service;
-    match digits_value(field(s, at, y, marks, p, 0), v.release) {
+    let v = g.syntax.service;
+    match digits_value(g.field(p, 0), v.release) {
         Some(n) => n,
         None => 0,
     }
 }
 
 // What 0588 says, which has 1 to 6 digits; 0 where it has not.
-fn claimed_in(s: &[u8], at: usize, y: Syntax, marks: &[usize]) -> u64
-    requires { Marked y.service s.now at marks.now }
-    ensures { (result ≡ claimed (text_at y.service s.now at 2 0)) × (result < 1000000) }
+fn claimed_in(g: &Segment) -> u64
+    ensures { (result ≡ claimed (text_at g.now.syntax.service g.now.octets.now g.now.at 2 0)) × (result < 1000000) }
 {
-    if digits(s, at, y, marks, 2, 0, 1, 6) {
-        return number_in(s, at, y, marks, 2);
+    if digits(g, 2, 0, 1, 6) {
+        return number_in(g, 2);
     }
     0
 }
@@ -156,7 +141,6 @@ fn with_trailer(m: Message, claim: u32, base: u32) -> Message
     requires { (m.segments < 65535) × (m.pair.base < 65536) × (m.pair.own < 65536) }
     ensures { result ≡ trailed m claim base }
 {
-    let autack = m.autack;
     let p = m.pair;
     let right = pairs_right(p);
     Message {
@@ -173,20 +157,11 @@ fn with_trailer(m: Message, claim: u32, base: u32) -> Message
 }
 
 // A UST: it names a header not yet named, `i` of them (as many as there are: none), and counts the pair's segments.
-pub fn on_ust(
-    s: &[u8],
-    at: usize,
-    y: Syntax,
-    m: Message,
-    marks: &[usize],
-    heads: &mut [usize; 36],
-    i: usize,
-) -> Result<Message, u8>
-    requires marked { Marked y.service s.now at marks.now }
+pub fn on_ust(g: &Segment, m: Message, heads: &mut [usize; 36], i: usize) -> Result<Message, u8>
     requires roomy { Roomy m heads.old }
     requires segments_bound { (m.segments < 65535) × (length heads.old ≡ 36) }
-    requires sought { Sought y.service s.now at m heads.old i }
-    ensures by_index { (u w : ℕ) → MovedIs (ust_m (summary_in y.service.release s.now m u w heads.old) (asked_at y.service s.now at) (free_at (compared (text_at y.service s.now at 1 0)) (head_refs y.service.release s.now heads.old m.headers) (head_flags heads.old m.headers))) result y.service.release s.now u w heads.new }
+    requires sought { Sought g.now.syntax.service g.now.octets.now g.now.at m heads.old i }
+    ensures by_index { (u w : ℕ) → MovedIs (ust_m (summary_in g.now.syntax.service.release g.now.octets.now m u w heads.old) (asked_at g.now.syntax.service g.now.octets.now g.now.at) (free_at (compared (text_at g.now.syntax.service g.now.octets.now g.now.at 1 0)) (head_refs g.now.syntax.service.release g.now.octets.now heads.old m.headers) (head_flags heads.old m.headers))) result g.now.syntax.service.release g.now.octets.now u w heads.new }
     ensures heads_len { length heads.new ≡ 36 }
 {
     let n = m.headers as usize;
@@ -195,28 +170,20 @@ pub fn on_ust(
     }
     let base = heads[4 * i + 2];
     name_header(heads, n, i);
-    let claim = claimed_in(s, at, y, marks);
+    let claim = claimed_in(g);
     Ok(with_trailer(m, claim as u32, base as u32))
 }
 
 // A USY: it names a USH of its message.
-pub fn on_usy(
-    s: &[u8],
-    at: usize,
-    y: Syntax,
-    m: Message,
-    marks: &[usize],
-    heads: &[usize; 36],
-) -> Result<Message, u8>
-    requires marked { Marked y.service s.now at marks.now }
+pub fn on_usy(g: &Segment, m: Message, heads: &[usize; 36]) -> Result<Message, u8>
     requires roomy { Roomy m heads.now }
     requires segments_bound { m.segments < 65535 }
-    ensures { (u w : ℕ) → MovedIs (usy_m (summary_in y.service.release s.now m u w heads.now) (asked_at y.service s.now at)) result y.service.release s.now u w heads.now }
+    ensures { (u w : ℕ) → MovedIs (usy_m (summary_in g.now.syntax.service.release g.now.octets.now m u w heads.now) (asked_at g.now.syntax.service g.now.octets.now g.now.at)) result g.now.syntax.service.release g.now.octets.now u w heads.now }
 {
-    let v = y.service;
+    let v = g.syntax.service;
     let n = m.headers as usize;
-    let x = field(s, at, y, marks, 1, 0);
-    if header_named(s, v.release, heads, n, x) {
+    let x = g.field(1, 0);
+    if header_named(g.octets, v.release, heads, n, x) {
         return Ok(grown_to(m, Group::Ack(true, true)));
     }
     Err(9)

@@ -1,7 +1,16 @@
 -- The loop that counts the segments that end in a stretch.
+use Rattle.syntax.specs.declared.Refusal.{Refusal}
+use Rattle.syntax.specs.Refusals.{refusal_at}
+use Rattle.syntax.specs.Ordinal.{ordinal_by, ordinal_of}
+use Rattle.syntax.specs.declared.opening.Opening.{Opening}
+use Rattle.syntax.specs.declared.Breach.{Breach}
+use Rattle.syntax.specs.Opening.{opening_of}
+use Rattle.std.proofs.Math.Seq.{slice}
+use Rattle.syntax.specs.Service.{kind, kind_of}
+use Rattle.std.proofs.lemmas.Bool.{eqb-false}
 use mir.Val.{bool_byte}
-use Rattle.std.specs.Prelude.{ℕ, ◌+◌, ◌≤◌, ◌<◌, List, [], ◌∷◌, ◌≡◌, refl, Bool, true, false, cond, eqb, leb, length, get_or, drop}
-use Rattle.std.proofs.Common.{arith, add-one, ap, ◌∙◌, drop_of_length-le, drop-cons}
+use Rattle.std.specs.Prelude.{ℕ, ◌+◌, ◌≤◌, ◌<◌, List, [], ◌∷◌, ◌≡◌, refl, Bool, true, false, cond, eqb, leb, length, get_or, drop, suc, not, Result, Ok, Err}
+use Rattle.std.proofs.Common.{arith, add-one, ap, ◌∙◌, drop_of_length-le, drop-cons, sym, eqb-true, ne_eqb, eq-eqb}
 use Rattle.syntax.specs.Cutting.{ends}
 use Rattle.syntax.specs.declared.Service.{Service}
 use Rattle.refusals.specs.Counting.{ends_here, frees_next, one_if}
@@ -80,3 +89,42 @@ module _ {σ : Service} {x : List ℕ} {i n : ℕ} {f : Bool} (g : Counting σ x
         let m = more in
         let z = g.same in
         rw (d, p, q) (record { inside = omega arith; few = few-more (ends_here σ f (get_or x i 0)) n i g.few; same = omega arith })
+
+-- ---- branch by branch
+
+module _ (σ : Service) {f : Bool} (b : ℕ) where
+  pub ends-freed : f ≡ true → false ≡ ends_here σ f b
+  ends-freed e = rw e
+
+  pub frees-freed : f ≡ true → false ≡ frees_next σ f b
+  frees-freed e = rw e
+
+  module _ (e : f ≡ false) where
+    pub ends-space : b ≡ 32 → false ≡ ends_here σ f b
+    ends-space h = rw (e, h)
+
+    pub frees-space : b ≡ 32 → false ≡ frees_next σ f b
+    frees-space h = rw (e, h)
+
+    module _ (n : b ≡ 32 → ⊥) where
+      pub ends-release : b ≡ σ.release → false ≡ ends_here σ f b
+      ends-release h = let z : eqb b σ.release ≡ true = eq-eqb b σ.release h in rw e (sym (end_is σ b ∙ rw (ne_eqb b 32 n, z)))
+
+      pub ends-else : (b ≡ σ.release → ⊥) → eqb b σ.terminator ≡ ends_here σ f b
+      ends-else h = rw e (sym (end_is σ b ∙ rw (ne_eqb b 32 n, ne_eqb b σ.release h)))
+
+      pub frees-else : eqb b σ.release ≡ frees_next σ f b
+      frees-else = rw e (sym (free-is σ b ∙ rw (ne_eqb b 32 n)))
+
+-- ---- the whole
+
+module _ (s : List ℕ) (p : ℕ) {x : Result Opening Breach} (q : x ≡ opening_of s) where
+  pub ordinal-none : {f : Breach} → x ≡ Err f → 0 ≡ ordinal_of s p
+  ordinal-none e = ap (λ (y : Result Opening Breach). ordinal_by y s p) (sym e ∙ q)
+
+  pub ordinal-some : {o : Opening} {n : ℕ} → x ≡ Ok o → n ≡ length (ends o.service false (slice o.at p s) 0) → n + 1 ≡ ordinal_of s p
+  ordinal-some {o} {n} e h = let z : n + 1 ≡ suc (length (ends o.service false (slice o.at p s) 0)) = omega arith in z ∙ ap (λ (y : Result Opening Breach). ordinal_by y s p) (sym e ∙ q)
+
+-- a refusal that carries it
+pub refusal_is : (s : List ℕ) (n p : ℕ) {k : ℕ} → k ≡ ordinal_of s p → ◌≡◌ {A = Refusal} (record { number = n; place = p; segment = k }) (refusal_at s n p)
+refusal_is s n p h = ap (λ (k : ℕ). record { number = n; place = p; segment = k }) h

@@ -101,7 +101,7 @@ fn put(t: &mut [u8; 256], b: u8, c: u8)
 
 // The class of each octet: data, 0 for what a tag may have and 1 for the others, 2 component, 3 repetition, 4 element, and the three at which a scan stops.
 // Later stores win, so what is tested first in `kind_of` is stored last.
-pub(crate) fn classes(t: &mut [u8; 256], y: Syntax)
+pub fn classes(t: &mut [u8; 256], y: Syntax)
     requires { Blank t.old }
     ensures { Table y t.new }
 {

@@ -15,8 +15,9 @@ ghost use Rattle.elements.specs.Formed.{looked};
 ghost use Rattle.turns.specs.declared.state.Phase.TheVariants.{Start, Idle, Busy, Done};
 ghost use Rattle.elements.specs.declared.Kind.TheVariants.{Unb, Unh, Unt, Unz, Ust};
 
-use elements::fields::{Shape, field, field_end, field_start, fields};
+use elements::fields::{Shape, field_end, field_start, fields};
 use elements::formed::{end_formed, unb_formed, unh_formed};
+use elements::segment::Segment;
 use elements::subset::formed_in;
 use elements::{Kind, kind_of};
 use grammar::Subset;
@@ -160,13 +161,12 @@ fn stretch_in(marks: &[usize], p: usize) -> Stretch
 }
 
 // Whether the second element, a reference, has the content of what stands at `w`.
-fn is_repeated(s: &[u8], at: usize, y: Syntax, marks: &[usize], w: Stretch) -> bool
-    requires { Marked y.service s.now at marks.now }
-    ensures { result ≡ repeated_ref y.service s.now at w }
+fn is_repeated(g: &Segment, w: Stretch) -> bool
+    ensures { result ≡ repeated_ref g.now.syntax.service g.now.octets.now g.now.at w }
 {
-    let v = y.service;
-    let x = field(s, at, y, marks, 2, 0);
-    same_reference(x, v.release, part(s, w.start, w.end), v.release)
+    let v = g.syntax.service;
+    let x = g.field(2, 0);
+    same_reference(x, v.release, part(g.octets, w.start, w.end), v.release)
 }
 
 // After UNB: between messages, none so far.
@@ -223,7 +223,13 @@ fn on_unb(
     requires phase_value { (st.phase ≡ Start) × (st.count ≡ 0) }
     ensures { StepIs (decided_from y.version (state_in y.service.release s.now st heads.now names.now) (asked_at y.service s.now at) at) result y.service.release s.now heads.now names.now slots.now next }
 {
-    if !unb_formed(s, at, y, marks) {
+    let segment = Segment {
+        octets: s,
+        at,
+        syntax: y,
+        marks,
+    };
+    if !unb_formed(&segment) {
         return stopped(8, at);
     }
     Ok(after_unb(st, stretch_in(marks, 5)))
@@ -234,8 +240,14 @@ fn subset_in(s: &[u8], at: usize, t: &Classes, marks: &[usize]) -> Option<Subset
     requires marked { Marked t.now.syntax.service s.now at marks.now }
     ensures { result ≡ subset_of (text_at t.now.syntax.service s.now at 2 0) (text_at t.now.syntax.service s.now at 2 4) }
 {
+    let segment = Segment {
+        octets: s,
+        at,
+        syntax: t.syntax,
+        marks,
+    };
     let v = t.syntax.service;
-    if content_is(field(s, at, t.syntax, marks, 2, 0), v.release, b"AUTACK") {
+    if content_is(segment.field(2, 0), v.release, b"AUTACK") {
         if content_is(component_part(s, at, t, 2, 4), v.release, b"EAN001") {
             return Some(Subset::Gs1);
         }
@@ -261,11 +273,17 @@ fn on_unh(
     requires phase_value { st.phase ≡ Idle }
     ensures { StepIs (decided_from t.now.syntax.version (state_in t.now.syntax.service.release s.now st heads.now names.old) (asked_at t.now.syntax.service s.now at) at) result t.now.syntax.service.release s.now heads.now names.new slots.now next }
 {
+    let segment = Segment {
+        octets: s,
+        at,
+        syntax: t.syntax,
+        marks,
+    };
     let v = t.syntax.service;
-    if !unh_formed(s, at, t.syntax, marks) {
+    if !unh_formed(&segment) {
         return stopped(8, at);
     }
-    let x = field(s, at, t.syntax, marks, 1, 0);
+    let x = segment.field(1, 0);
     let z = bare(x, v.release);
     match offer(v.release, names, slots, st.count as usize, z) {
         None => stopped(9, at),
@@ -293,17 +311,23 @@ fn on_unz(
     requires phase_value { st.phase ≡ Idle }
     ensures { StepIs (decided_from y.version (state_in y.service.release s.now st heads.now names.now) (asked_at y.service s.now at) at) result y.service.release s.now heads.now names.now slots.now next }
 {
+    let segment = Segment {
+        octets: s,
+        at,
+        syntax: y,
+        marks,
+    };
     if st.count == 0 {
         return stopped(7, at);
     }
-    if !end_formed(s, at, y, marks) {
+    if !end_formed(&segment) {
         return stopped(8, at);
     }
     let u = st.unb;
-    if !is_repeated(s, at, y, marks, u) {
+    if !is_repeated(&segment, u) {
         return stopped(9, at);
     }
-    if number_in(s, at, y, marks, 1) != u64::from(st.count) {
+    if number_in(&segment, 1) != u64::from(st.count) {
         return stopped(10, at);
     }
     let m = st.message;
@@ -322,36 +346,27 @@ fn pairs_counted(v: Version, p: Pair) -> bool
 }
 
 // UNT's numbers: 0074, 0588 and CNT.
-fn counts_right(s: &[u8], at: usize, y: Syntax, m: Message, marks: &[usize]) -> bool
-    requires marked { Marked y.service s.now at marks.now }
-    requires at_value { in_range (digits 1 6) (text_at y.service s.now at 1 0) ≡ true }
+fn counts_right(g: &Segment, m: Message) -> bool
+    requires at_value { in_range (digits 1 6) (text_at g.now.syntax.service g.now.octets.now g.now.at 1 0) ≡ true }
     requires segments_bound { (m.segments < 65535) × (m.pair.base < 65536) × (m.pair.own < 65536) }
-    ensures { result ≡ (eqb (number_at (asked_at y.service s.now at) 1) (m.segments + 1) && (pairs_counted y.version m.pair && total_right m.sums)) }
+    ensures { result ≡ (eqb (number_at (asked_at g.now.syntax.service g.now.octets.now g.now.at) 1) (m.segments + 1) && (pairs_counted g.now.syntax.version m.pair && total_right m.sums)) }
 {
     let p = m.pair;
     let u = m.sums;
-    number_in(s, at, y, marks, 1) == u64::from(m.segments + 1)
-        && pairs_counted(y.version, p)
+    number_in(g, 1) == u64::from(m.segments + 1)
+        && pairs_counted(g.syntax.version, p)
         && totals_right(u)
 }
 
 // UNT's references: 0062, and each header with its trailer.
-fn refs_right(
-    s: &[u8],
-    at: usize,
-    y: Syntax,
-    st: State,
-    marks: &[usize],
-    heads: &[usize; 36],
-) -> bool
-    requires marked { Marked y.service s.now at marks.now }
+fn refs_right(g: &Segment, st: State, heads: &[usize; 36]) -> bool
     requires headers_bound { st.message.headers ≤ 9 }
-    ensures { result ≡ (repeated_ref y.service s.now at st.unh
+    ensures { result ≡ (repeated_ref g.now.syntax.service g.now.octets.now g.now.at st.unh
         && all_named (head_flags heads.now st.message.headers)) }
 {
     let w = st.unh;
     let m = st.message;
-    if !is_repeated(s, at, y, marks, w) {
+    if !is_repeated(g, w) {
         return false;
     }
     all_named(heads, m.headers as usize)
@@ -374,17 +389,23 @@ fn on_unt(
     requires phase_value { st.phase ≡ Busy }
     ensures { StepIs (decided_from y.version (state_in y.service.release s.now st heads.now names.now) (asked_at y.service s.now at) at) result y.service.release s.now heads.now names.now slots.new next }
 {
+    let segment = Segment {
+        octets: s,
+        at,
+        syntax: y,
+        marks,
+    };
     let m = st.message;
     if !may_come(Kind::Unt, m) {
         return stopped(7, at);
     }
-    if !end_formed(s, at, y, marks) {
+    if !end_formed(&segment) {
         return stopped(8, at);
     }
-    if !refs_right(s, at, y, st, marks, heads) {
+    if !refs_right(&segment, st, heads) {
         return stopped(9, at);
     }
-    if !counts_right(s, at, y, m, marks) {
+    if !counts_right(&segment, m) {
         return stopped(10, at);
     }
     note(names, slots, st.count as usize, st.slot);
@@ -414,16 +435,61 @@ fn step_in(
 {
     let g = m.group;
     match k {
-        Kind::Ush => on_ush(s, at, y, m, marks, heads),
+        Kind::Ush => on_ush(
+            &Segment {
+                octets: s,
+                at,
+                syntax: y,
+                marks,
+            },
+            m,
+            heads,
+        ),
         Kind::Usa => in_header(m, usa_group(g), heads),
         Kind::Usc => in_header(m, usc_group(g), heads),
         Kind::Usr => on_usr(m, heads),
-        Kind::Ust => on_ust(s, at, y, m, marks, heads, i),
+        Kind::Ust => on_ust(
+            &Segment {
+                octets: s,
+                at,
+                syntax: y,
+                marks,
+            },
+            m,
+            heads,
+            i,
+        ),
         Kind::Usb => on_usb(m),
         Kind::Usx => Ok(grown_to(m, Group::Ack(true, false))),
-        Kind::Usy => on_usy(s, at, y, m, marks, heads),
-        Kind::Qty => on_qty(s, at, y, m, f, marks),
-        Kind::Cnt => on_cnt(s, at, y, m, marks),
+        Kind::Usy => on_usy(
+            &Segment {
+                octets: s,
+                at,
+                syntax: y,
+                marks,
+            },
+            m,
+            heads,
+        ),
+        Kind::Qty => on_qty(
+            &Segment {
+                octets: s,
+                at,
+                syntax: y,
+                marks,
+            },
+            m,
+            f,
+        ),
+        Kind::Cnt => on_cnt(
+            &Segment {
+                octets: s,
+                at,
+                syntax: y,
+                marks,
+            },
+            m,
+        ),
         Kind::Other => on_other(m),
         Kind::Unb => Err(7),
         Kind::Unh => Err(7),

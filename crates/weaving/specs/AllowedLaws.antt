@@ -1,11 +1,12 @@
 -- What may be sealed, as the code tests it.
-use Rattle.std.specs.Prelude.{ℕ, Bool, true, false, cond, not, ◌&&◌, ◌||◌, List, ◌≡◌, refl, leb, ltb, Option, Some, None}
-use Rattle.std.proofs.Common.{arith, ap, ◌∙◌, sym, ne_eqb, eq-eqb, le-leb, ltb-true, ltb-false}
+use Rattle.syntax.specs.Repertoire.{tag_octet}
+use Rattle.std.specs.Prelude.{ℕ, Bool, true, false, cond, not, ◌&&◌, ◌||◌, List, ◌≡◌, refl, leb, ltb, Option, Some, None, ◌≤◌, ◌<◌, eqb, length}
+use Rattle.std.proofs.Common.{arith, ap, ◌∙◌, sym, ne_eqb, eq-eqb, le-leb, ltb-true, ltb-false, lt-ltb, le-ltb}
 use Rattle.std.specs.Option.{is_some}
 use Rattle.std.proofs.lemmas.Bool.{false≢true, lt-leb}
 use Rattle.std.proofs.Math.Option.{Option as Maybe, none, some}
 use Rattle.syntax.specs.Content.{compared}
-use Rattle.syntax.specs.Octets.{same}
+use Rattle.syntax.specs.Octets.{same, within, all_pass}
 use Rattle.syntax.specs.Opening.{earlier}
 use Rattle.syntax.specs.declared.Syntax.{Syntax}
 use Rattle.syntax.specs.declared.Version.{Version}
@@ -110,3 +111,47 @@ module _ {s m : List ℕ} {y : Syntax} {c : Layout} {rows : List ℕ} (h : Holds
 
   pub seal-new : {x : Bool} → b ≡ true → x ≡ is_new h.o r → x ≡ may_seal y.version h.o r f
   seal-new z q = q ∙ sym (seal-as ∙ ap (λ (x : Bool). x && is_new h.o r) z)
+
+-- ---- branch by branch
+
+module _ (r : List ℕ) {n : ℕ} (e : n ≡ length r) where
+  pub ref-empty : n ≡ 0 → false ≡ ref_right r
+  ref-empty z = rw (← e, z)
+
+  pub ref-long : (n ≡ 0 → ⊥) → 14 < n → false ≡ ref_right r
+  ref-long z h = rw (← e, le-leb 1 n (omega arith), lt-leb n 14 h)
+
+  pub ref-by : {x : Bool} → (n ≡ 0 → ⊥) → n ≤ 14 → x ≡ all_pass tag_octet r → x ≡ ref_right r
+  ref-by z h d = d ∙ rw (← e, le-leb 1 n (omega arith), le-leb n 14 h)
+
+pub not-true : {A : Type 0} {x : Bool} → x ≡ false → x ≡ true → A
+not-true e d = absurd (false≢true (sym e ∙ d))
+
+module _ (v : Version) (f : ℕ) where
+  pub filter-two : f ≡ 2 → true ≡ filter_right v f
+  filter-two d = rw (eq-eqb f 2 d)
+
+  module _ {b : Bool} (e : b ≡ earlier v) where
+    pub filter-early : (f ≡ 2 → ⊥) → b ≡ true → false ≡ filter_right v f
+    filter-early d h = rw (ne_eqb f 2 d, ← e, h)
+
+    pub filter-late : (f ≡ 2 → ⊥) → b ≡ false → eqb f 7 ≡ filter_right v f
+    filter-late d h = rw (ne_eqb f 2 d, ← e, h)
+
+pub length_none : (v : Version) (f n : ℕ) → n ≡ 0 → false ≡ within 1 (most_octets v f) n
+length_none v f n e = rw e
+
+pub length-by : (v : Version) (f n : ℕ) {k : ℕ} → (n ≡ 0 → ⊥) → k ≡ most_octets v f → leb n k ≡ within 1 (most_octets v f) n
+length-by v f n z e = rw (← e, le-leb 1 n (omega arith))
+
+module _ {s m : List ℕ} {y : Syntax} {c : Layout} {rows : List ℕ} (h : Holds s m y c rows) (r : List ℕ) (f : ℕ) {a : Bool} (e : a ≡ ref_right r) where
+  pub seal-ref : a ≡ false → false ≡ may_seal y.version h.o r f
+  seal-ref d = rw (← e, d)
+
+  module _ {b : Bool} (d : a ≡ true) (k : b ≡ filter_right y.version f) where
+    pub seal-filter : b ≡ false → false ≡ may_seal y.version h.o r f
+    seal-filter z = rw (← e, d, ← k, z)
+
+    module _ {g : Bool} (z : b ≡ true) (l : g ≡ (not c.autack && ltb c.headers 9)) where
+      pub seal-full : g ≡ false → false ≡ may_seal y.version h.o r f
+      seal-full w = rw (← e, d, ← k, z, ← more_by h.o h.laid.autack h.laid.headers, ← l, w)

@@ -7,9 +7,6 @@ use borrow.Author.Rules.{rules}
 use Rattle.std.proofs.lemmas.Bool.{not_from_false, not_from_true}
 use Rattle.turns.proofs.state.on_unb.Goals as goal
 
-pub unb_formed-requires : goal.unb_formed-requires
-unb_formed-requires c = (c.requires.ready.noted refl).marks
-
 pub returns-then-not-unb_formed : goal.returns-then-not-unb_formed
 returns-then-not-unb_formed c =
     let g = c in

@@ -8,16 +8,13 @@ use borrow.Author.Rules.{rules}
 use Rattle.std.proofs.lemmas.Bool.{not_from_false, not_from_true}
 use Rattle.turns.proofs.state.on_unh.Goals as goal
 
-pub unh_formed-requires : goal.unh_formed-requires
-unh_formed-requires c = (c.requires.ready.noted refl).marks
-
 pub returns-then-not-unh_formed : goal.returns-then-not-unh_formed
 returns-then-not-unh_formed c =
     let g = c in
     unh-bad g.args.t.now.syntax g.args.s.now g.args.st g.args.heads.now g.args.names.now g.args.slots.now g.args.at g.args.next g.args.f g.args.marks.now g.requires.ready g.requires.phase_value (formed-at _ (asked_at g.args.t.now.syntax.service g.args.s.now g.args.at) g.requires.ready.kind Unh refl c.unh_formed.ensures) (not_from_false _ c.if-not-unh_formed.true) c.stopped.ensures
 
 pub field-x-requires : goal.field-x-requires
-field-x-requires c = record { marked = (c.requires.ready.noted refl).marks; le_p = (omega arith, omega arith, omega arith) }
+field-x-requires c = record { le_p = (omega arith, omega arith, omega arith) }
 
 pub offer-requires : goal.offer-requires
 offer-requires c =

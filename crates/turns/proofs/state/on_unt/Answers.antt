@@ -12,16 +12,13 @@ returns-then-not-may_come c =
     let g = c in
     unt-none g.args.y g.args.s.now g.args.st g.args.heads.now g.args.names.now g.args.slots.now g.args.at g.args.next g.args.f g.args.marks.now g.requires.ready g.requires.phase_value c.may_come.ensures (not_from_false _ c.if-not-may_come.true) c.stopped.ensures
 
-pub end_formed-requires : goal.end_formed-requires
-end_formed-requires c = (c.requires.ready.noted refl).marks
-
 pub returns-then-not-end_formed : goal.returns-then-not-end_formed
 returns-then-not-end_formed c =
     let g = c in
     unt-bad g.args.y g.args.s.now g.args.st g.args.heads.now g.args.names.now g.args.slots.now g.args.at g.args.next g.args.f g.args.marks.now g.requires.ready g.requires.phase_value c.may_come.ensures (not_from_true _ c.if-not-may_come.false) (formed-at _ (asked_at g.args.y.service g.args.s.now g.args.at) g.requires.ready.kind Unt refl c.end_formed.ensures) (not_from_false _ c.if-not-end_formed.true) c.stopped-then-not-end_formed.ensures
 
 pub refs_right-requires : goal.refs_right-requires
-refs_right-requires c = record { marked = (c.requires.ready.noted refl).marks; headers_bound = c.requires.ready.held.roomy.headers }
+refs_right-requires c = record { headers_bound = c.requires.ready.held.roomy.headers }
 
 pub returns-then-not-refs_right : goal.returns-then-not-refs_right
 returns-then-not-refs_right c =
@@ -30,7 +27,7 @@ returns-then-not-refs_right c =
 
 pub counts_right-requires : goal.counts_right-requires
 counts_right-requires c =
-    let g = c in record { marked = (g.requires.ready.noted refl).marks; at_value = unt-six g.args.y g.args.s.now g.args.st g.args.heads.now g.args.names.now g.args.slots.now g.args.at g.args.next g.args.f g.args.marks.now g.requires.ready g.requires.phase_value c.may_come.ensures (not_from_true _ c.if-not-may_come.false) (formed-at _ (asked_at g.args.y.service g.args.s.now g.args.at) g.requires.ready.kind Unt refl c.end_formed.ensures) (not_from_true _ c.if-not-end_formed.false); segments_bound = unt-sums g.args.y g.args.s.now g.args.st g.args.heads.now g.args.names.now g.args.slots.now g.args.at g.args.next g.args.f g.args.marks.now g.requires.ready g.requires.phase_value }
+    let g = c in record { at_value = unt-six g.args.y g.args.s.now g.args.st g.args.heads.now g.args.names.now g.args.slots.now g.args.at g.args.next g.args.f g.args.marks.now g.requires.ready g.requires.phase_value c.may_come.ensures (not_from_true _ c.if-not-may_come.false) (formed-at _ (asked_at g.args.y.service g.args.s.now g.args.at) g.requires.ready.kind Unt refl c.end_formed.ensures) (not_from_true _ c.if-not-end_formed.false); segments_bound = unt-sums g.args.y g.args.s.now g.args.st g.args.heads.now g.args.names.now g.args.slots.now g.args.at g.args.next g.args.f g.args.marks.now g.requires.ready g.requires.phase_value }
 
 pub returns-then-not-counts_right : goal.returns-then-not-counts_right
 returns-then-not-counts_right c =

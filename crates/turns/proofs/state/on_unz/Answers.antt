@@ -13,16 +13,10 @@ returns-then-st-eq0 c =
     let g = c in
     unz-none g.args.y g.args.s.now g.args.st g.args.heads.now g.args.names.now g.args.slots.now g.args.at g.args.next g.args.f g.args.marks.now g.requires.ready g.requires.phase_value c.if-st-eq0.true c.stopped.ensures
 
-pub end_formed-requires : goal.end_formed-requires
-end_formed-requires c = (c.requires.ready.noted refl).marks
-
 pub returns-then-not-end_formed : goal.returns-then-not-end_formed
 returns-then-not-end_formed c =
     let g = c in
     unz-bad g.args.y g.args.s.now g.args.st g.args.heads.now g.args.names.now g.args.slots.now g.args.at g.args.next g.args.f g.args.marks.now g.requires.ready g.requires.phase_value c.if-st-eq0.false (formed-at _ (asked_at g.args.y.service g.args.s.now g.args.at) g.requires.ready.kind Unz refl c.end_formed.ensures) (not_from_false _ c.if-not-end_formed.true) c.stopped-then-not-end_formed.ensures
-
-pub is_repeated-requires : goal.is_repeated-requires
-is_repeated-requires c = (c.requires.ready.noted refl).marks
 
 pub returns-then-not-is_repeated : goal.returns-then-not-is_repeated
 returns-then-not-is_repeated c =
@@ -31,7 +25,7 @@ returns-then-not-is_repeated c =
 
 pub number_in-requires : goal.number_in-requires
 number_in-requires c =
-    let g = c in record { marked = (g.requires.ready.noted refl).marks; le_p = (omega arith, omega arith, unz-six g.args.y g.args.s.now g.args.st g.args.heads.now g.args.names.now g.args.slots.now g.args.at g.args.next g.args.f g.args.marks.now g.requires.ready g.requires.phase_value c.if-st-eq0.false (formed-at _ (asked_at g.args.y.service g.args.s.now g.args.at) g.requires.ready.kind Unz refl c.end_formed.ensures) (not_from_true _ c.if-not-end_formed.false)) }
+    let g = c in record { le_p = (omega arith, omega arith, unz-six g.args.y g.args.s.now g.args.st g.args.heads.now g.args.names.now g.args.slots.now g.args.at g.args.next g.args.f g.args.marks.now g.requires.ready g.requires.phase_value c.if-st-eq0.false (formed-at _ (asked_at g.args.y.service g.args.s.now g.args.at) g.requires.ready.kind Unz refl c.end_formed.ensures) (not_from_true _ c.if-not-end_formed.false)) }
 
 pub returns-then-number_in-from : goal.returns-then-number_in-from
 returns-then-number_in-from c =

@@ -9,7 +9,7 @@ use Rattle.turns.proofs.state.step_in.Goals as goal
 
 pub on_ush-requires : goal.on_ush-requires
 on_ush-requires c =
-    let g = c in record { marked = (g.requires.fields (rw c.in-Ush.is)).marks; roomy = g.requires.roomy; headers_bound = (ush-room g.args.m (may-to g.args.m Ush c.in-Ush.is g.requires.m_value.0), g.requires.segments_bound.0, g.requires.segments_bound.1) }
+    let g = c in record { roomy = g.requires.roomy; headers_bound = (ush-room g.args.m (may-to g.args.m Ush c.in-Ush.is g.requires.m_value.0), g.requires.segments_bound.0, g.requires.segments_bound.1) }
 
 pub usa_group-requires : goal.usa_group-requires
 usa_group-requires c =
@@ -23,11 +23,11 @@ usc_group-requires c =
 
 pub on_ust-requires : goal.on_ust-requires
 on_ust-requires c =
-    let g = c in record { marked = (g.requires.fields (rw c.in-Ust.is)).marks; roomy = g.requires.roomy; segments_bound = g.requires.segments_bound; sought = g.requires.sought c.in-Ust.is }
+    let g = c in record { roomy = g.requires.roomy; segments_bound = g.requires.segments_bound; sought = g.requires.sought c.in-Ust.is }
 
 pub on_usy-requires : goal.on_usy-requires
 on_usy-requires c =
-    let g = c in record { marked = (g.requires.fields (rw c.in-Usy.is)).marks; roomy = g.requires.roomy; segments_bound = g.requires.segments_bound.0 }
+    let g = c in record { roomy = g.requires.roomy; segments_bound = g.requires.segments_bound.0 }
 
 pub on_qty-requires : goal.on_qty-requires
 on_qty-requires c =
@@ -35,7 +35,7 @@ on_qty-requires c =
 
 pub on_cnt-requires : goal.on_cnt-requires
 on_cnt-requires c =
-    let g = c in record { marked = (g.requires.fields (rw c.in-Cnt.is)).marks; at_value = (sym g.requires.k_value ∙ c.in-Cnt.is, cnt-right g.args.y.version (asked_at g.args.y.service g.args.s.now g.args.at) g.requires.k_value c.in-Cnt.is g.requires.m_value.1); segments_bound = g.requires.segments_bound.0 }
+    let g = c in record { at_value = (sym g.requires.k_value ∙ c.in-Cnt.is, cnt-right g.args.y.version (asked_at g.args.y.service g.args.s.now g.args.at) g.requires.k_value c.in-Cnt.is g.requires.m_value.1); segments_bound = g.requires.segments_bound.0 }
 
 pub returns-in-Ush : goal.returns-in-Ush
 returns-in-Ush c =

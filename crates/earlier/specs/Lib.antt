@@ -1,0 +1,11 @@
+pub mod Sha
+pub mod Feeding
+pub mod Writing
+pub mod Seven
+pub mod Forms
+pub mod Moves
+pub mod Pieces
+pub mod Hex
+pub mod Six
+pub mod Text
+pub mod Edc

@@ -1,8 +1,0 @@
-use borrow.Author.Rules.{rules}
-use Rattle.elements.proofs.formed.value_formed.Goals as goal
-
-pub returns-then-is_earlier : goal.returns-then-is_earlier
-returns-then-is_earlier c = rw (← c.is_earlier.ensures, c.if-is_earlier.true) c.composite.ensures
-
-pub returns : goal.returns
-returns c = rw (← c.is_earlier.ensures, c.if-is_earlier.false) c.qualified_formed.ensures

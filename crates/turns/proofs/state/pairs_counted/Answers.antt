@@ -1,8 +1,0 @@
-use borrow.Author.Rules.{rules}
-use Rattle.turns.proofs.state.pairs_counted.Goals as goal
-
-pub returns-then-is_earlier : goal.returns-then-is_earlier
-returns-then-is_earlier c = rw (← c.is_earlier.ensures, c.if-is_earlier.true)
-
-pub returns : goal.returns
-returns c = rw (← c.is_earlier.ensures, c.if-is_earlier.false) c.pairs_right.ensures
