@@ -1,5 +1,5 @@
 // A line of commands as it comes in.
-ghost use Rattle.std.specs.Prelude.{◌≡◌, ◌<◌, ◌≤◌, ℕ, List, [], ◌∷◌, ◌++◌, length, Option, IfSome, IsSomeAnd, IsNone, IsTrue, MatchOption, ◌↔◌};
+ghost use Rattle.std.specs.Prelude.{◌≡◌, ◌+◌, ◌<◌, ◌≤◌, ℕ, List, [], ◌∷◌, ◌++◌, length, Option, IfSome, IsSomeAnd, IsNone, IsTrue, MatchOption, ◌↔◌};
 ghost use Rattle.desk.specs.Kept.{kept};
 
 use std::marker::Model;
@@ -31,15 +31,17 @@ impl Line {
         }
     }
 
-    pub fn push(&mut self, octet: u8)
-        ensures kept { IfSome self.old (λ l. length l < 300000 → self.new ≡ Some (l ++ octet ∷ [])) }
-        ensures full { IfSome self.old (λ l. length l ≡ 300000 → self.new ≡ None) }
+    // The octets that come next, as many as were read at once.
+    pub fn push(&mut self, octets: &[u8])
+        ensures kept { IfSome self.old (λ l. length l + length octets.now ≤ 300000 → self.new ≡ Some (l ++ octets.now)) }
+        ensures full { IfSome self.old (λ l. 300000 < length l + length octets.now → self.new ≡ None) }
         ensures long { self.old ≡ None → self.new ≡ None }
     {
         match self.taken {
-            Some(n) if n < 300000 => {
-                self.octets[n] = octet;
-                self.taken = Some(n + 1);
+            Some(n) if octets.len() <= 300000 - n => {
+                let end = n + octets.len();
+                self.octets[n..end].copy_from_slice(octets);
+                self.taken = Some(end);
             }
             _ => self.taken = None,
         }

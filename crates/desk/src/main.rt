@@ -273,13 +273,13 @@ impl Desk {
 
     // Answers each line that ends in `chunk`, and keeps the start of the next. Nothing printed waits for the next read.
     fn feed(&mut self, out: &mut Output<impl Print>, chunk: &[u8]) {
-        for b in chunk {
-            if *b == b'\n' {
-                self.answer_line(out);
-            } else {
-                self.line.push(*b);
-            }
+        let mut rest = chunk;
+        while let Some(end) = rest.iter().position(|b| *b == b'\n') {
+            self.line.push(&rest[..end]);
+            self.answer_line(out);
+            rest = &rest[end + 1..];
         }
+        self.line.push(rest);
         out.flush();
     }
 

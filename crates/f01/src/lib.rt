@@ -111,7 +111,9 @@ pub fn given(s: &[u8], run: Result<Option<Range>, Breach>) -> Result<Range, Refu
     }
 }
 
-// The run of the interchange `s`, if its 0020 is the one that is referred to.
+// The run of the interchange `s`, if its 0020 is the one that is referred to. A function of its own in the machine's code too: in one frame with the search of the
+// AUTACK it would take the stack of both.
+#[inline(never)]
 fn run_of(s: &[u8], autack: &[u8], referred: Option<Referred>) -> Result<Option<Range>, Breach>
     ensures value { given_by s.now result ≡ run_as (answered_by (verdict_of s.now) (λ i. then (referred_in autack.now (Ok referred)) (run_in i))) }
     ensures run_inside { RunInside (given_by s.now result) (length s.now) }

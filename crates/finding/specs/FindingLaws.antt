@@ -11,7 +11,7 @@ use Rattle.syntax.specs.Content.{content, compared}
 use Rattle.syntax.specs.declared.Service.{Service}
 use Rattle.syntax.specs.declared.Syntax.{Syntax}
 use Rattle.grammar.specs.Lists.{Snoc, ◌▷◌}
-use Rattle.grammar.specs.Interchange.{Leaf, Open, Message, message, Reading, start, idle, shown}
+use Rattle.grammar.specs.Interchange.{Leaf, Open, Message, message, Reading, idle, shown}
 use Rattle.grammar.specs.Rules.{ref_o}
 use Rattle.grammar.specs.Places.{wide}
 use Rattle.grammar.specs.Named.{placed, placed_in, placed_at}

@@ -23,6 +23,16 @@ fn is_named(s: &[u8], release: u8, closed: bool, c: Layout, reference: &[u8], ot
     false
 }
 
+// Copied one by one: `*rows = *here` would ask whoever links the library for C for memmove.
+fn keep(rows: &mut [usize; 18], here: &[usize; 18])
+    requires { (length rows.old ≡ 18) × (length here.now ≡ 18) }
+    ensures { rows.new ≡ here.now }
+{
+    for i in 0..18 {
+        rows[i] = here[i];
+    }
+}
+
 // Every section from `from` on; of the message with the 0062 `reference` the layout, and in `rows` where its groups start. None: no message has that 0062.
 fn find_among(
     s: &[u8],
@@ -47,7 +57,7 @@ fn find_among(
     let release = t.syntax.service.release;
     while let Some(section) = next_section(s, at, t, state, marks, heads, names, slots, here)? {
         if is_named(s, release, section.closed, section.layout, reference, other) {
-            *rows = *here;
+            keep(rows, here);
             found = Some(section.layout);
         }
         state = section.state;

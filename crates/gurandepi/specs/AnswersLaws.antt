@@ -1,6 +1,6 @@
 -- What a library call writes is what the exported call gives.
 use Rattle.syntax.specs.declared.Refusal.{Refusal}
-use Rattle.std.specs.Prelude.{ℕ, List, [], ◌∷◌, ◌≡◌, cond, is_some, unwrap_or, Option, Some, None, Result, refl}
+use Rattle.std.specs.Prelude.{ℕ, Bool, List, [], ◌∷◌, ◌≡◌, cond, is_some, unwrap_or, Option, Some, None, Result, refl}
 use Rattle.std.proofs.Common.{◌∙◌, ap, sym}
 use Rattle.writing.specs.Written.{Text, Writes, told_written}
 use Rattle.gurandepi.specs.declared.Written.{Written}
@@ -20,9 +20,12 @@ module _ (st : Sha1) (part : List ℕ) {i : Sha} {f : Option Sha} (e : i ≡ sta
   fed : {g : Option Sha} → f ≡ g → fed_of (state_in st) part ≡ g
   fed h = sym (d ∙ ap (λ (j : Sha). fed_of j part) e) ∙ h
 
+  answered : {b : Bool} → is_some f ≡ b → cond {A = ℕ} (is_some (fed_of (state_in st) part)) 0 15 ∷ 0 ∷ 0 ∷ [] ≡ cond {A = ℕ} b 0 15 ∷ 0 ∷ 0 ∷ []
+  answered h = ap (λ (b : Bool). cond {A = ℕ} b 0 15 ∷ 0 ∷ 0 ∷ []) (ap is_some (fed refl) ∙ h)
+
   feeds : {g : Option Sha} {r : Fed} → f ≡ g → r.number ∷ r.place ∷ r.segment ∷ [] ≡ cond (is_some g) 0 15 ∷ 0 ∷ 0 ∷ [] → state_in r.state ≡ unwrap_or g (state_in st) → Feeds st part r
   feeds {g} h n s = record {
-    answer = n ∙ ap (λ (o : Option Sha). cond {A = ℕ} (is_some o) 0 15 ∷ 0 ∷ 0 ∷ []) (sym (fed h));
+    answer = n ∙ sym (answered (ap is_some h));
     state = s ∙ ap (λ (o : Option Sha). unwrap_or o (state_in st)) (sym (fed h));
   }
 

@@ -1,7 +1,9 @@
 #![tactic(auto)]
 
 // Printing to standard output by way of a buffer, for the programs.
-ghost use Rattle.std.specs.Prelude.{◌≡◌, ℕ, ◌+◌, ◌<◌, ◌≤◌, List, [], ◌∷◌, ◌++◌, length, take, codes, decimal, Some};
+ghost use Rattle.std.specs.Prelude.{◌≡◌, ℕ, ◌+◌, ◌*◌, ◌<◌, ◌≤◌, List, [], ◌∷◌, ◌++◌, length, take, codes, decimal, Some};
+ghost use Rattle.std.specs.Prelude.{false};
+ghost use Rattle.std.specs.Fmt.{digits};
 ghost use Rattle.printing.specs.HexText.{hex_text};
 
 use std::fmt::{self, Write};
@@ -63,9 +65,15 @@ impl<'a, P: Print> Output<'a, P> {
     pub fn put_all(&mut self, octets: &[u8])
         ensures waits { length self.old + length octets.now ≤ 4096 → self.new ≡ self.old ++ octets.now }
     {
-        for b in octets {
-            self.put(*b);
+        if 4096 - self.taken < octets.len() {
+            for b in octets {
+                self.put(*b);
+            }
+            return;
         }
+        let end = self.taken + octets.len();
+        self.octets[self.taken..end].copy_from_slice(octets);
+        self.taken = end;
     }
 }
 
@@ -79,6 +87,24 @@ impl<'a, P: Print> Write for Output<'a, P> {
     }
 }
 
+fn digit(n: u8) -> u8
+    requires { n < 16 }
+    ensures { result ∷ [] ≡ digits 16 false n }
+{
+    if n < 10 { 48 + n } else { 87 + n }
+}
+
+// Two digits of hex for each octet, at the front of `text`.
+fn spell(octets: &[u8], text: &mut [u8; 128])
+    requires { length octets.now ≤ 64 }
+    ensures { take (2 * length octets.now) text.new ≡ hex_text octets.now }
+{
+    for (k, octet) in octets.iter().enumerate() {
+        text[2 * k] = digit(octet / 16);
+        text[2 * k + 1] = digit(octet % 16);
+    }
+}
+
 // Octets in lower-case hex.
 #[derive(Clone, Copy)]
 pub struct Hex<'a>(pub &'a [u8]);
@@ -87,8 +113,17 @@ impl fmt::Display for Hex<'_> {
     ghost output = { λ h. Some (hex_text h.0.now) };
 
     fn fmt<W: fmt::Write>(&self, f: &mut fmt::Formatter<W>) -> fmt::Result {
-        for &octet in self.0 {
-            write!(f, "{:x}{:x}", octet / 16, octet % 16)?;
+        // By 64 octets: a `{:x}` for each digit takes five times as long, and the desk prints whole interchanges so.
+        let mut i: usize = 0;
+        while i < self.0.len() {
+            let size = (self.0.len() - i).min(64);
+            let mut text = [0u8; 128];
+            spell(&self.0[i..i + size], &mut text);
+            let Ok(digits) = str::from_utf8(&text[..2 * size]) else {
+                return Err(fmt::Error);
+            };
+            f.write_str(digits)?;
+            i += size;
         }
         Ok(())
     }

@@ -75,10 +75,21 @@ fn total(h: Chain, s: Chain) -> Chain
     }
 }
 
-// The hash value after one block, from the one before it. `w` is room for the schedule, lent so that it is made once for many blocks.
-pub fn compress(h: Chain, s: &[u8; 64], w: &mut [u32; 80]) -> Chain
+// The hash value after one block, from the one before it.
+fn compressed(h: Chain, s: &[u8; 64], w: &mut [u32; 80]) -> Chain
     ensures { result ≡ block h s.now }
 {
     schedule(s, &mut *w);
     total(h, eighty(w, h))
+}
+
+// The same of octets that the caller has as a slice. `w` is room for the schedule, lent so that it is made once for many blocks.
+pub fn compress(h: Chain, s: &[u8], w: &mut [u32]) -> Chain
+    requires { (length s.now ≡ 64) × (length w.old ≡ 80) }
+    ensures { result ≡ block h s.now }
+{
+    match (s.first_chunk::<64>(), w.first_chunk_mut::<80>()) {
+        (Some(octets), Some(words)) => compressed(h, octets, words),
+        _ => h,
+    }
 }

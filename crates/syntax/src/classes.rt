@@ -5,10 +5,10 @@ ghost use Rattle.syntax.specs.Classes.{class_of, Table};
 use crate::Syntax;
 use crate::repertoire::{OUTSIDE, classes};
 
-// A syntax, and the class of each octet under it.
+// A syntax, and the class of each octet under it. Its fields are public, so that who filled a table by `classes` makes the value of it.
 #[derive(Clone, Copy)]
 pub struct Classes {
-    octets: [u8; 256],
+    pub octets: [u8; 256],
     pub syntax: Syntax,
     pub ghost table: { Table syntax octets },
 }

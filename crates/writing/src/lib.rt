@@ -37,6 +37,16 @@ pub fn store(out: &mut [u8], at: usize, b: u8)
     }
 }
 
+// Copied one by one: `copy_from_slice` would ask whoever links the library for C for memmove, and most texts are short.
+fn copy(to: &mut [u8], from: &[u8])
+    requires { length to.old ≡ length from.now }
+    ensures { to.new ≡ from.now }
+{
+    for i in 0..to.len() {
+        to[i] = from[i];
+    }
+}
+
 // The octets of `v`, as far as there is room.
 pub fn put(out: &mut [u8], at: usize, v: &[u8]) -> usize
     requires { at + length v.now < 18446744073709551616 }
@@ -44,7 +54,7 @@ pub fn put(out: &mut [u8], at: usize, v: &[u8]) -> usize
 {
     if at < out.len() {
         let n = v.len().min(out.len() - at);
-        out[at..at + n].copy_from_slice(&v[..n]);
+        copy(&mut out[at..at + n], &v[..n]);
     }
     at + v.len()
 }

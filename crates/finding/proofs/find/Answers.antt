@@ -1,5 +1,4 @@
 use Rattle.finding.specs.FindingLaws.{found-bare}
-use borrow.Author.Rules.{rules}
 use Rattle.finding.proofs.find.Goals as goal
 
 pub returns-then-s-le2048 : goal.returns-then-s-le2048

@@ -1,12 +1,8 @@
 use Prim.Native.Nat.{◌-◌}
-use mathlib.Core.Path.{sym, ap, ◌∙◌}
-use mathlib.Core.Logic.{⊎_elim}
 use Rattle.syntax.specs.Content.{content, compared}
 use Rattle.std.specs.Prelude.{Ok}
-use borrow.Author.Rules.{rules}
 use lib.ListN.{length}
-use Rattle.walk.specs.SectionLaws.{looping-start, looping-on, between-so, passed, nearer, read_all, stopped}
-use Rattle.finding.specs.FindingLaws.{Sifting, seeks-on, seeks-hit, seeks-start, seeks-eq, whole-read}
+use Rattle.finding.specs.FindingLaws.{Sifting}
 use Rattle.finding.proofs.find_among.Given as goal
 
 abbrev pub invariant-loop-section : goal.invariant-loop-section

@@ -1,7 +1,6 @@
 use native.Mathlib.Omega.{arith}
 use mathlib.Core.Path.{refl}
 use Rattle.walk.specs.RunLaws.{fresh-tables}
-use borrow.Author.Rules.{rules}
 use Rattle.finding.proofs.find_within.Goals as goal
 
 pub find_among-requires : goal.find_among-requires

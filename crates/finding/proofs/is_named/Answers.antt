@@ -1,6 +1,5 @@
 use Rattle.finding.specs.FindingLaws.{named-closed, named-open}
 use Rattle.syntax.specs.Content.{content, compared}
-use borrow.Author.Rules.{rules}
 use Rattle.finding.proofs.is_named.Goals as goal
 
 pub returns-then-closed : goal.returns-then-closed

@@ -6,6 +6,6 @@ use Rattle.writing.proofs.put.Goals.{then-at-out, else-at-out}
 pub returns : goal.returns
 returns c =
     elim c.if-at-out.branch [
-      | then-at-out w ↦ laid-cut w.if-at-out.true w.min-n.ensures w.copy_from_slice.ensures.after (omega arith) w.out-is
+      | then-at-out w ↦ laid-cut w.if-at-out.true w.min-n.ensures w.copy.ensures (omega arith) w.out-is
       | else-at-out w ↦ laid-past w.if-at-out.false w.out-is
     ]
