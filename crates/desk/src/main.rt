@@ -275,7 +275,10 @@ impl Desk {
     fn feed(&mut self, out: &mut Output<impl Print>, chunk: &[u8]) {
         let mut rest = chunk;
         while let Some(end) = rest.iter().position(|b| *b == b'\n') {
-            self.line.push(&rest[..end]);
+            // An empty line has nothing to keep.
+            if 0 < end {
+                self.line.push(&rest[..end]);
+            }
             self.answer_line(out);
             rest = &rest[end + 1..];
         }
